@@ -1,0 +1,9 @@
+pub mod Shows
+pub mod Merges
+pub mod Meets
+pub mod Glue
+pub mod Closes
+pub mod Bindings
+pub mod Names
+pub mod Variables
+pub mod Finite

@@ -1,0 +1,83 @@
+//! The tests of bytes that the constructors share.
+
+ghost use Rattle.std.specs.Prelude.{◌≡◌};
+ghost use Rattle.std.specs.List.{list_all};
+ghost use Rattle.cq_atom.specs.Text.{is_word_byte, begins_with_letter, is_name, is_variable_name, is_relation_name, begins_with_lower, begins_with_upper, is_plain_byte, is_text};
+
+use crate::limits::{MAX_NAME, MAX_TEXT};
+
+fn is_word_byte_at(byte: u8) -> bool
+    ensures { result ≡ is_word_byte byte }
+{
+    byte.is_ascii_alphanumeric() || byte == b'_'
+}
+
+fn are_word_bytes(text: &str) -> bool
+    ensures { result ≡ list_all is_word_byte text.now }
+{
+    text.as_bytes().iter().all(|byte| is_word_byte_at(*byte))
+}
+
+fn begins_with_letter_in(text: &str) -> bool
+    ensures { result ≡ begins_with_letter text.now }
+{
+    match text.as_bytes() {
+        [] => false,
+        [first, ..] => first.is_ascii_alphabetic(),
+    }
+}
+
+pub(crate) fn is_name_text(text: &str) -> bool
+    ensures { result ≡ is_name text.now }
+{
+    begins_with_letter_in(text) && text.len() <= MAX_NAME && are_word_bytes(text)
+}
+
+fn begins_with_lower_in(text: &str) -> bool
+    ensures { result ≡ begins_with_lower text.now }
+{
+    match text.as_bytes() {
+        [] => false,
+        [first, ..] => first.is_ascii_lowercase(),
+    }
+}
+
+fn begins_with_upper_in(text: &str) -> bool
+    ensures { result ≡ begins_with_upper text.now }
+{
+    match text.as_bytes() {
+        [] => false,
+        [first, ..] => first.is_ascii_uppercase(),
+    }
+}
+
+pub(crate) fn is_variable_text(text: &str) -> bool
+    ensures { result ≡ is_variable_name text.now }
+{
+    is_name_text(text) && begins_with_lower_in(text)
+}
+
+/// Whether the bytes are a relation's name: a name that begins with an upper-case letter.
+pub fn is_relation_text(text: &str) -> bool
+    ensures { result ≡ is_relation_name text.now }
+{
+    is_name_text(text) && begins_with_upper_in(text)
+}
+
+fn is_plain_byte_at(byte: u8) -> bool
+    ensures { result ≡ is_plain_byte byte }
+{
+    byte >= 32 && byte != 127
+}
+
+fn are_plain_bytes(text: &str) -> bool
+    ensures { result ≡ list_all is_plain_byte text.now }
+{
+    text.as_bytes().iter().all(|byte| is_plain_byte_at(*byte))
+}
+
+pub(crate) fn is_text_content(text: &str) -> bool
+    ensures { result ≡ is_text text.now }
+{
+    text.len() <= MAX_TEXT && are_plain_bytes(text)
+}
