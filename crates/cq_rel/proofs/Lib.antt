@@ -1,0 +1,9 @@
+pub mod Catalogs
+pub mod Order
+pub mod Filters
+pub mod Rows
+pub mod Places
+pub mod Kept
+pub mod Edits
+pub mod Members
+pub mod Whole

@@ -1,0 +1,3 @@
+-- What only private steps are stated with: how tables are kept.
+pub mod Table
+pub mod Kept

@@ -1,0 +1,134 @@
+//! Tables.
+
+ghost use Rattle.std.specs.Prelude.{◌≡◌, ◌↔◌, ◌⊎◌, [], length, IsTrue, OnOk, OnErr, IfOk, IfSome, IfNone, None, Some};
+ghost use Rattle.std.specs.List.{All};
+ghost use Rattle.std.specs.List.Sorted.{IsStrictlySortedBy};
+ghost use Rattle.std.specs.Option.{option_map, option_copied};
+ghost use Rattle.cq_atom.specs.Answer.{Answers};
+ghost use Rattle.cq_atom.specs.Atom.{RowRecord};
+ghost use Rattle.cq_rel.specs.Tables.{TablesRecord, IsTables, IsRow, IsUnder, arity_in, has_row, rows_in, values_order, insert_fault, delete_fault, answer_of, with_row, without_row};
+
+use crate::catalog::Catalog;
+use crate::fault::RowFault;
+use crate::table::Table;
+use cq_atom::Row;
+use std::alloc::{AllocError, Allocator, Global};
+use std::marker::Model;
+
+/// A set of rows under a catalog: each row is of a declared relation and of its arity.
+#[derive(Drop)]
+pub struct Tables<A: Allocator = Global> {
+    catalog: Catalog<A>,
+    tables: Vec<Table<A>, A>,
+}
+
+impl<A: Allocator> Model for Tables<A> {
+    ghost use Rattle.cq_rel.specs.Tables.{TablesRecord};
+    ghost use Rattle.cq_rel.specs.Steps.Kept.{IsKept, joined};
+
+    ghost Value = { TablesRecord };
+
+    ghost view = { λ t. record { catalog = t.catalog; rows = joined t.tables.items } };
+
+    ghost invariant = { λ t. IsKept t.catalog t.tables.items };
+}
+
+impl<A: Allocator> Tables<A> {
+    /// The catalog.
+    pub fn catalog(&self) -> &Catalog<A>
+        ensures value { result.now ≡ self.now.catalog }
+        ensures valid { IsTables self.now }
+    {
+        &self.catalog
+    }
+
+    /// Whether the tables have the row.
+    pub fn has(&self, row: &Row<A>) -> bool
+        ensures value { result ≡ has_row self.now row.now }
+        ensures member { IsTrue result ↔ IsRow self.now row.now }
+    {
+        match self.catalog.place_of(row.relation()) {
+            None => false,
+            Some(place) => self.tables[place].has(row.values()),
+        }
+    }
+
+    /// How many rows the relation has, where it is declared.
+    pub fn count(&self, relation: &str) -> Option<usize>
+        ensures { result ≡ option_map (λ _. length (rows_in relation.now self.now)) (arity_in self.now.catalog relation.now) }
+    {
+        Some(self.rows_of(relation)?.len())
+    }
+
+    /// The rows of the relation in order of their values, where it is declared.
+    pub fn rows_of(&self, relation: &str) -> Option<&[Row<A>]>
+        ensures value { option_copied result ≡ option_map (λ _. rows_in relation.now self.now) (arity_in self.now.catalog relation.now) }
+        ensures ascending { IfSome result (λ rows. IsStrictlySortedBy (λ r s. values_order r.values s.values) rows.now) }
+        ensures absent { IfNone result (rows_in relation.now self.now ≡ []) }
+        ensures under { IfSome result (λ rows. All (λ r. (r.relation ≡ relation.now) × IsUnder self.now.catalog r) rows.now) }
+    {
+        let place = self.catalog.place_of(relation)?;
+        Some(self.tables[place].rows())
+    }
+
+    /// Inserts the row.
+    ///
+    /// # Errors
+    /// In this order: `UnknownRelation` where the row's relation is not declared; `Arity` where it is
+    /// declared with another arity; `RowPresent` where the tables have the row; `NoMemory` where a
+    /// growth was refused. The row is dropped then, and the tables stay as they were.
+    pub fn insert(&mut self, row: Row<A>) -> Result<(), RowFault>
+        ensures answer { Answers RowFault.NoMemory (insert_fault self.old row) tt result }
+        ensures ok { OnOk result (self.new ≡ with_row row self.old) }
+        ensures member { OnOk result ((r : RowRecord) → IsRow self.new r ↔ ((r ≡ row) ⊎ IsRow self.old r)) }
+        ensures err { OnErr result (self.new ≡ self.old) }
+    {
+        let place = self.catalog.place_for(&row)?;
+        self.tables[place].insert(row)
+    }
+
+    /// Deletes the row. It takes no memory.
+    ///
+    /// # Errors
+    /// In this order: `UnknownRelation` where the row's relation is not declared; `Arity` where it is
+    /// declared with another arity; `RowAbsent` where the tables do not have the row. The tables stay
+    /// as they were then.
+    pub fn delete(&mut self, row: &Row<A>) -> Result<(), RowFault>
+        ensures answer { result ≡ answer_of (delete_fault self.old row.now) }
+        ensures ok { OnOk result (self.new ≡ without_row row.now self.old) }
+        ensures member { OnOk result ((r : RowRecord) → IsRow self.new r ↔ ((¬ (r ≡ row.now)) × IsRow self.old r)) }
+        ensures err { OnErr result (self.new ≡ self.old) }
+    {
+        let place = self.catalog.place_for(row)?;
+        self.tables[place].delete(row.values())
+    }
+}
+
+impl<A: Allocator + Clone> Tables<A> {
+    /// The tables without rows under the catalog, on the catalog's allocator.
+    ///
+    /// # Errors
+    /// `AllocError` where a growth was refused.
+    pub fn begin(catalog: Catalog<A>) -> Result<Tables<A>, AllocError>
+        ensures { IfOk result (λ tables. tables ≡ (let begun : TablesRecord = record { catalog = catalog; rows = [] } in begun)) }
+    {
+        let count = catalog.len();
+        let mut tables = Vec::with_capacity(catalog.allocator().clone()?, count)?;
+        for _ in 0..count {
+            tables.push(Table::new(catalog.allocator().clone()?))?;
+        }
+        Ok(Tables { catalog, tables })
+    }
+
+    /// Equal tables, on the same allocator.
+    ///
+    /// # Errors
+    /// `AllocError` where a growth was refused.
+    pub fn copy(&self) -> Result<Tables<A>, AllocError>
+        ensures { IfOk result (λ tables. tables ≡ self.now) }
+    {
+        let catalog = self.catalog.copy()?;
+        let tables = self.tables.clone()?;
+        Ok(Tables { catalog, tables })
+    }
+}
