@@ -1,0 +1,24 @@
+pub mod Again
+pub mod Binds
+pub mod Blank
+pub mod Bound
+pub mod Derive
+pub mod Fronts
+pub mod Laws
+pub mod Lexemes
+pub mod Loops
+pub mod Machine
+pub mod Numbers
+pub mod Quotes
+pub mod Runs
+pub mod Scan
+pub mod Taken
+pub mod Utf8
+pub mod Walks
+pub mod Words
+mod PrintedEscapes
+mod PrintedItems
+mod PrintedTokens
+mod PrintedBack
+mod PrintedLengths
+mod PrintedBound

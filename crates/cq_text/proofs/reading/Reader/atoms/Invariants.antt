@@ -1,0 +1,13 @@
+use Rattle.std.proofs.Common.{◌-◌, ◌≤◌, vec_len}
+use Rattle.cq_text.specs.Steps.Reading.{atom_at, atoms_at}
+use Rattle.cq_text.proofs.Loops.{SoFar}
+use Rattle.cq_text.proofs.reading.Reader.atoms.Given as goal
+
+abbrev pub invariant-atoms : goal.invariant-atoms
+invariant-atoms g l = record {
+  few : vec_len l.atoms ≤ 8;
+  goes_on : SoFar (atom_at l.close) 8 l.atoms.items (vec_len l.atoms) l.self (atoms_at l.close l.fn.self);
+}
+
+abbrev pub decreases-atoms : goal.decreases-atoms
+decreases-atoms g l = 8 - vec_len l.atoms

@@ -1,0 +1,156 @@
+-- The first fault of a text. (this project's profile)
+use Rattle.std.specs.Prelude.{◌≡◌, ℕ, ◌+◌, ◌<◌, ◌≤◌, List, [], ◌∷◌, ◌++◌, length, fold, codes, Bool, true, false, not, ◌||◌, ◌&&◌, nat_lt, nat_le, Option, Some, None, ◌⊎◌, IsTrue, if◌then◌else◌}
+use Rattle.std.specs.Str.{bytes_eq}
+use Rattle.cq_atom.specs.declared.limits.TheConstants.{MAX_NAME, MAX_ARITY, MAX_ATOMS}
+use Rattle.cq_atom.specs.declared.value.Content.TheVariants.{Number, Text}
+use Rattle.cq_atom.specs.declared.term.TermKind.TheVariants.{Variable}
+use Rattle.cq_atom.specs.Text.{begins_with_lower}
+use Rattle.cq_atom.specs.Value.{ValueContent}
+use Rattle.cq_atom.specs.Atom.{AtomRecord}
+use Rattle.cq_atom.specs.Query.{QueryRecord, is_bound}
+use Rattle.cq_text.specs.declared.limits.TheConstants.{MAX_LINE, MAX_COUNT}
+use Rattle.cq_text.specs.declared.fault.Kind.{Kind}
+use Rattle.cq_text.specs.declared.fault.Kind.TheVariants.{Shape, Limit, Unbound}
+use Rattle.cq_text.specs.declared.command.CommandKind.TheVariants.{Post}
+use Rattle.cq_text.specs.declared.token.Sign.TheVariants.{OpenBrace, CloseBrace, OpenParen, CloseParen, Comma, Arrow}
+use Rattle.cq_text.specs.declared.token.Token.TheVariants.{Mark, Word, Literal, Bad, Finish}
+use Rattle.cq_text.specs.Token.{TokenContent, LexemeContent, flaw}
+use Rattle.cq_text.specs.Lexing.{is_blank, lexemes_of}
+use Rattle.cq_text.specs.Grammar.{CommandContent, count_of, IsSentence, IsQueryText, IsServed, IsServedQuery, FitsGrammar, FitsQueryGrammar}
+
+-- ---- what may still come
+
+-- The tokens are a command that is served, limits apart.
+abbrev pub IsCommandText : List TokenContent → Type 0
+IsCommandText ts = (command : CommandContent) × IsSentence ts command × IsServed command
+
+-- The tokens are a query that is served, limits apart.
+abbrev pub IsLoneQuery : List TokenContent → Type 0
+IsLoneQuery ts = (query : QueryRecord) × IsQueryText ts query × IsServedQuery query
+
+-- Some tokens after these complete a whole, limits apart.
+abbrev pub IsViable : (List TokenContent → Type 0) → List TokenContent → Type 0
+IsViable Whole ts = (more : List TokenContent) × Whole (ts ++ more)
+
+-- ---- limits
+
+-- Where a reader is, as far as limits go: the commas since the last bracket, the atoms closed since the last brace
+-- or arrow, and the most that a number may be as a command's count.
+pub record Place : Type 0 where
+  pub commas : ℕ
+  pub atoms : ℕ
+  pub most : Option ℕ
+
+abbrev pub opening : Place
+opening = record { commas = 0; atoms = 0; most = None }
+
+-- The numbers behind these words are counts with a range.
+abbrev pub most_behind : List ℕ → Option ℕ → Option ℕ
+most_behind w most = if bytes_eq w (codes "relation") then Some MAX_ARITY else (if bytes_eq w (codes "limits") then Some MAX_COUNT else most)
+
+abbrev pub behind_token : Place → TokenContent → Place
+behind_token p (Mark Comma) = record { commas = p.commas + 1; atoms = p.atoms; most = None }
+behind_token p (Mark OpenParen) = record { commas = 0; atoms = p.atoms; most = None }
+behind_token p (Mark CloseParen) = record { commas = 0; atoms = p.atoms + 1; most = None }
+behind_token p (Mark OpenBrace) = opening
+behind_token p (Mark CloseBrace) = opening
+behind_token p (Mark Arrow) = opening
+behind_token p (Word w) = record { commas = p.commas; atoms = p.atoms; most = most_behind w p.most }
+behind_token p (Literal v) = p
+behind_token p (Bad kind) = p
+behind_token p Finish = p
+
+unfoldable pub place_behind : List TokenContent → Place
+place_behind ts = fold behind_token opening ts
+
+-- A count that is 0, negative or above the most.
+abbrev pub is_out_of_range : Option ℕ → ValueContent → Bool
+is_out_of_range None v = false
+is_out_of_range (Some most) (Number n) = not (nat_le 1 (count_of n) && nat_le (count_of n) most)
+is_out_of_range (Some most) (Text t) = false
+
+-- A long identifier, a ninth term, the first token of a ninth atom, a count out of its range.
+abbrev pub is_over : Place → TokenContent → Bool
+is_over p (Word w) = nat_lt MAX_NAME (length w) || nat_le MAX_ARITY p.commas || nat_le MAX_ATOMS p.atoms
+is_over p (Literal v) = nat_le MAX_ARITY p.commas || is_out_of_range p.most v
+is_over p (Mark s) = false
+is_over p (Bad kind) = false
+is_over p Finish = false
+
+abbrev pub IsOver : List TokenContent → TokenContent → Type 0
+IsOver before t = IsTrue (is_over (place_behind before) t)
+
+-- ---- faults of tokens
+
+-- The kind of fault that a token is after those before it: its own flaw, else `Shape` where nothing completes them, else `Limit`.
+abbrev pub IsFault : (List TokenContent → Type 0) → List TokenContent → TokenContent → Option Kind → Kind → Type 0
+IsFault Whole before t (Some flaw) kind = kind ≡ flaw
+IsFault Whole before t None kind =
+    ((kind ≡ Shape) × (IsViable Whole (before ++ (t ∷ [])) → ⊥))
+    ⊎ ((kind ≡ Limit) × IsViable Whole (before ++ (t ∷ [])) × IsOver before t)
+
+-- The first fault of the lexemes after those before, of a text that ends at end.
+abbrev pub FirstTokenFault : (List TokenContent → Type 0) → List TokenContent → List LexemeContent → ℕ → Kind → ℕ → Type 0
+FirstTokenFault Whole before [] end kind offset = (Whole before → ⊥) × (kind ≡ Shape) × (offset ≡ end)
+FirstTokenFault Whole before (l ∷ ls) end kind offset =
+    (IsFault Whole before l.token (flaw l.token) kind × (offset ≡ l.at))
+    ⊎ (IsViable Whole (before ++ (l.token ∷ [])) × (IsOver before l.token → ⊥) × FirstTokenFault Whole (before ++ (l.token ∷ [])) ls end kind offset)
+
+-- ---- unbound variables
+
+-- Behind a query's brace a lower-case identifier is a variable: whether the body lacks it.
+abbrev pub is_unbound : List AtomRecord → TokenContent → Bool
+is_unbound body (Word w) = begins_with_lower w && not (is_bound body (Variable w))
+is_unbound body (Mark s) = false
+is_unbound body (Literal v) = false
+is_unbound body (Bad kind) = false
+is_unbound body Finish = false
+
+-- The offset of the first unbound variable.
+abbrev pub first_unbound_at : List AtomRecord → List LexemeContent → Option ℕ
+first_unbound_at body [] = None
+first_unbound_at body (l ∷ ls) = if is_unbound body l.token then Some l.at else first_unbound_at body ls
+
+abbrev pub is_brace : TokenContent → Bool
+is_brace (Mark OpenBrace) = true
+is_brace (Mark CloseBrace) = false
+is_brace (Mark OpenParen) = false
+is_brace (Mark CloseParen) = false
+is_brace (Mark Comma) = false
+is_brace (Mark Arrow) = false
+is_brace (Word w) = false
+is_brace (Literal v) = false
+is_brace (Bad kind) = false
+is_brace Finish = false
+
+-- The lexemes behind the first opening brace.
+abbrev pub behind_brace : List LexemeContent → List LexemeContent
+behind_brace [] = []
+behind_brace (l ∷ ls) = if is_brace l.token then ls else behind_brace ls
+
+-- The offset is that of the leftmost unbound variable of a query with this body.
+abbrev pub IsUnboundAt : List LexemeContent → QueryRecord → ℕ → Type 0
+IsUnboundAt ls query offset = first_unbound_at query.body (behind_brace ls) ≡ Some offset
+
+-- ---- texts
+
+-- A text of a command fits the grammar and its limits, and has an unbound variable.
+abbrev pub UnboundInCommand : List LexemeContent → ℕ → Type 0
+UnboundInCommand ls offset = (name : List ℕ) × (query : QueryRecord) × FitsGrammar ls (Post name query) × IsServedQuery query × IsUnboundAt ls query offset
+
+abbrev pub UnboundInQuery : List LexemeContent → ℕ → Type 0
+UnboundInQuery ls offset = (query : QueryRecord) × FitsQueryGrammar ls query × IsServedQuery query × IsUnboundAt ls query offset
+
+-- A text that is too long has its fault at the limit. Any other has the first fault of its tokens, or else that of a variable.
+abbrev pub FirstFaultOf : (List TokenContent → Type 0) → (List LexemeContent → ℕ → Type 0) → List ℕ → Kind → ℕ → Type 0
+FirstFaultOf Whole UnboundIn text kind offset =
+    ((MAX_LINE < length text) × (kind ≡ Limit) × (offset ≡ MAX_LINE))
+    ⊎ ((length text ≤ MAX_LINE) × (FirstTokenFault Whole [] (lexemes_of text) (length text) kind offset ⊎ ((kind ≡ Unbound) × UnboundIn (lexemes_of text) offset)))
+
+-- The first fault of a text that is read as a command: a blank text that is not too long has none.
+abbrev pub FirstFault : List ℕ → Kind → ℕ → Type 0
+FirstFault text kind offset = (length text ≤ MAX_LINE → IsTrue (is_blank text) → ⊥) × FirstFaultOf IsCommandText UnboundInCommand text kind offset
+
+-- The first fault of a text that is read as a query.
+abbrev pub FirstQueryFault : List ℕ → Kind → ℕ → Type 0
+FirstQueryFault text kind offset = FirstFaultOf IsLoneQuery UnboundInQuery text kind offset

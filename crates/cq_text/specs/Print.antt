@@ -1,0 +1,77 @@
+-- The printed form of values, terms, atoms, rows and queries. (this project's profile)
+use Rattle.std.specs.Prelude.{ℕ, Bool, ◌≤◌, length, List, [], ◌∷◌, ◌++◌, codes, if◌then◌else◌, ◌||◌, ◌==◌}
+use Rattle.std.specs.Fmt.{signed_decimal}
+use Rattle.std.specs.List.{flat_map, join_by, AllByRecursion}
+use Rattle.cq_atom.specs.declared.limits.TheConstants.{MAX_ARITY}
+use Rattle.cq_atom.specs.declared.value.Content.TheVariants.{Number, Text}
+use Rattle.cq_atom.specs.declared.term.TermKind.TheVariants.{Constant, Variable}
+use Rattle.cq_atom.specs.Value.{ValueContent}
+use Rattle.cq_atom.specs.Atom.{TermContent, AtomRecord, RowRecord}
+use Rattle.cq_atom.specs.Query.{QueryRecord}
+use Rattle.cq_text.specs.declared.limits.TheConstants.{MAX_LINE}
+use Rattle.cq_text.specs.Token.{tokens_of}
+use Rattle.cq_text.specs.Lexing.{lexemes_of}
+use Rattle.cq_text.specs.Grammar.{IsAtomText, IsRowText, IsShort, FewTerms}
+
+-- The byte `"`.
+abbrev pub quote_mark : ℕ
+quote_mark = 34
+
+-- The byte `\`.
+abbrev pub backslash : ℕ
+backslash = 92
+
+-- A quote or a backslash.
+abbrev pub is_escaped : ℕ → Bool
+is_escaped b = (b == quote_mark) || (b == backslash)
+
+-- A backslash goes before a quote and before a backslash.
+abbrev pub escaped_byte : ℕ → List ℕ
+escaped_byte b = if is_escaped b then backslash ∷ b ∷ [] else b ∷ []
+
+-- A text as it stands between quotes.
+abbrev pub escaped : List ℕ → List ℕ
+escaped text = flat_map escaped_byte text
+
+-- A text stands between quotes, with its quotes and backslashes escaped.
+abbrev pub printed_text : List ℕ → List ℕ
+printed_text text = (quote_mark ∷ escaped text) ++ (quote_mark ∷ [])
+
+-- A number is printed in decimal, a text always quoted.
+abbrev pub printed_value : ValueContent → List ℕ
+printed_value (Number n) = signed_decimal n
+printed_value (Text text) = printed_text text
+
+-- A constant is printed as its value, a variable as its name.
+abbrev pub printed_term : TermContent → List ℕ
+printed_term (Constant value) = printed_value value
+printed_term (Variable name) = name
+
+-- `R(a, b)`: the relation's name, and its arguments in brackets, with a comma and a space between two.
+abbrev pub printed_atom : AtomRecord → List ℕ
+printed_atom a = a.relation ++ codes "(" ++ join_by printed_term (codes ", ") a.terms ++ codes ")"
+
+-- `R(1, "a")`: a row in the same form.
+abbrev pub printed_row : RowRecord → List ℕ
+printed_row r = r.relation ++ codes "(" ++ join_by printed_value (codes ", ") r.values ++ codes ")"
+
+-- Atoms with a comma and a space between two.
+abbrev pub printed_atoms : List AtomRecord → List ℕ
+printed_atoms atoms = join_by printed_atom (codes ", ") atoms
+
+-- The atoms behind a space, or nothing where there are none.
+abbrev pub printed_body : List AtomRecord → List ℕ
+printed_body [] = []
+printed_body (a ∷ rest) = codes " " ++ printed_atoms (a ∷ rest)
+
+-- `{posts} heads <- body`
+abbrev pub printed_query : QueryRecord → List ℕ
+printed_query q = codes "{" ++ printed_atoms q.posts ++ codes "} " ++ printed_atoms q.heads ++ codes " <-" ++ printed_body q.body
+
+-- The text is no longer than a line may be, and its tokens are those of the atom, within the limits.
+abbrev pub StandsForAtom : List ℕ → AtomRecord → Type 0
+StandsForAtom text a = (length text ≤ MAX_LINE) × IsAtomText (tokens_of (lexemes_of text)) a × AllByRecursion IsShort (tokens_of (lexemes_of text)) × FewTerms a
+
+-- The text is no longer than a line may be, and its tokens are those of the row, a ground atom, within the limits.
+abbrev pub StandsForRow : List ℕ → RowRecord → Type 0
+StandsForRow text r = (length text ≤ MAX_LINE) × IsRowText (tokens_of (lexemes_of text)) r × AllByRecursion IsShort (tokens_of (lexemes_of text)) × (length r.values ≤ MAX_ARITY)

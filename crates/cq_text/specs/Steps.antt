@@ -1,0 +1,7 @@
+-- What the private steps of the code are stated with; no part of what a reader must believe.
+pub mod Words
+pub mod Lexing
+pub mod Reading
+pub mod Reader
+pub mod Sound
+pub mod Separators

@@ -1,0 +1,35 @@
+-- What the types of terms, atoms, rows and queries keep of each value, found again on the way through it.
+use Rattle.std.specs.Prelude.{◌≡◌, ◌≤◌, length, IsTrue, None}
+use Rattle.std.specs.List.{All}
+use Rattle.cq_atom.specs.declared.term.TermKind.TheVariants.{Constant, Variable}
+use Rattle.cq_atom.specs.declared.limits.TheConstants.{MAX_ARITY}
+use Rattle.cq_atom.specs.Text.{is_variable_name, is_relation_name}
+use Rattle.cq_atom.specs.Value.{IsValue}
+use Rattle.cq_atom.specs.Atom.{TermContent, AtomRecord, RowRecord}
+use Rattle.cq_atom.specs.Query.{QueryRecord, query_fault}
+
+-- A constant that is a value, or a variable with a variable's name.
+abbrev pub IsSoundTerm : TermContent → Type 0
+IsSoundTerm (Constant value) = IsValue value
+IsSoundTerm (Variable name) = IsTrue (is_variable_name name)
+
+-- An atom that has a relation's name and 1 to 8 terms.
+pub record IsSoundAtom (a : AtomRecord) : Type 0 where
+  pub relation : IsTrue (is_relation_name a.relation)
+  pub some : 1 ≤ length a.terms
+  pub few : length a.terms ≤ MAX_ARITY
+  pub terms : All IsSoundTerm a.terms
+
+-- A row that has a relation's name and 1 to 8 values.
+pub record IsSoundRow (r : RowRecord) : Type 0 where
+  pub relation : IsTrue (is_relation_name r.relation)
+  pub some : 1 ≤ length r.values
+  pub few : length r.values ≤ MAX_ARITY
+  pub values : All IsValue r.values
+
+-- Atoms that make a query.
+pub record IsSoundQuery (q : QueryRecord) : Type 0 where
+  pub query : query_fault q.posts q.heads q.body ≡ None
+  pub posts : All IsSoundAtom q.posts
+  pub heads : All IsSoundAtom q.heads
+  pub body : All IsSoundAtom q.body

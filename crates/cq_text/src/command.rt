@@ -1,0 +1,55 @@
+//! Commands.
+
+use cq_atom::{Name, Query, Row};
+use std::alloc::{Allocator, Global};
+
+/// What a line of a script stands for, over what holds names, queries and rows. Contracts see a
+/// command as a `CommandKind` over the bytes of names and the records of queries and rows.
+#[derive(Drop)]
+pub enum CommandKind<N, Q, R> {
+    /// A line of spaces, or a comment.
+    Blank,
+    /// Declares a database relation with that many columns.
+    Relation {
+        /// The relation's name.
+        name: N,
+        /// The number of its columns.
+        arity: usize,
+    },
+    /// Limits the board.
+    Limits {
+        /// The most pending queries.
+        pool: usize,
+        /// The most journal entries.
+        journal: usize,
+    },
+    /// Posts a query under a name.
+    Post {
+        /// The query's name.
+        name: N,
+        /// The query.
+        query: Q,
+    },
+    /// Takes a pending query back.
+    Withdraw {
+        /// The query's name.
+        name: N,
+    },
+    /// Adds a row to a database relation.
+    Insert {
+        /// The row.
+        row: R,
+    },
+    /// Takes a row out of a database relation.
+    Delete {
+        /// The row.
+        row: R,
+    },
+    /// Publishes the edits so far.
+    Publish,
+    /// Shows the published board.
+    Show,
+}
+
+/// A command.
+pub type Command<A = Global> = CommandKind<Name<A>, Query<A>, Row<A>>;

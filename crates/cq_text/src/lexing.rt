@@ -1,0 +1,181 @@
+//! Tokens at the front of bytes.
+
+ghost use Rattle.std.specs.Prelude.{◌≡◌, ◌<◌, ◌≤◌, ◌+◌, ◌^◌, length, IfOk, IfErr, IsTrue, MatchOption};
+ghost use Rattle.std.specs.List.{prefix_len};
+ghost use Rattle.std.specs.Char.{is_ascii_digit};
+ghost use Rattle.cq_atom.specs.Text.{begins_with_letter};
+ghost use Rattle.cq_text.specs.Lexing.{is_space, is_blank, magnitude, is_plain, positive, negative, negative_token, arrow_token, sign_token};
+ghost use Rattle.cq_text.specs.Steps.Lexing.{word_of, positive_of, front_of, number_or_bad};
+
+use crate::fault::{Kind, TextFault};
+use crate::quoting::quoted_token;
+use crate::token::{Sign, TextToken, Token};
+use crate::word::{Identifier, word_len};
+use cq_atom::Value;
+use std::alloc::Allocator;
+
+fn is_space(byte: u8) -> bool
+    ensures { result ≡ is_space byte }
+{
+    byte == b' ' || byte == b'\t' || byte == b'\r'
+}
+
+/// How many bytes at the front may stand between tokens.
+pub(crate) fn spaces_len(bytes: &[u8]) -> usize
+    ensures len { result ≡ prefix_len is_space bytes.now }
+    ensures within { result ≤ length bytes.now }
+{
+    bytes.iter().take_while(|byte| is_space(**byte)).count()
+}
+
+/// Whether a line has no token: it is spaces alone, or a comment.
+pub(crate) fn is_blank(bytes: &[u8]) -> bool
+    ensures { result ≡ is_blank bytes.now }
+{
+    match &bytes[spaces_len(bytes)..] {
+        [] => true,
+        [first, ..] => *first == b'#',
+    }
+}
+
+fn digits_len(bytes: &[u8]) -> usize
+    ensures len { result ≡ prefix_len is_ascii_digit bytes.now }
+    ensures within { result ≤ length bytes.now }
+{
+    bytes
+        .iter()
+        .take_while(|byte| byte.is_ascii_digit())
+        .count()
+}
+
+/// The number that digits stand for, where it fits.
+fn magnitude(digits: &[u8]) -> Option<u64>
+    ensures { MatchOption result (2 ^ 64 ≤ magnitude digits.now) (λ v. v ≡ magnitude digits.now) }
+{
+    let mut value = 0u64;
+    for digit in digits {
+        let digit = u64::from(digit.saturating_sub(b'0'));
+        value = value.checked_mul(10)?.checked_add(digit)?;
+    }
+    Some(value)
+}
+
+/// Whether no zero stands before other digits.
+fn is_plain(digits: &[u8]) -> bool
+    ensures { result ≡ is_plain digits.now }
+{
+    match digits {
+        [] => false,
+        [_] => true,
+        [first, ..] => *first > b'0',
+    }
+}
+
+fn positive(digits: &[u8]) -> Option<i64>
+    ensures { number_or_bad result ≡ positive digits.now }
+{
+    let magnitude = magnitude(digits)?;
+    if !is_plain(digits) {
+        return None;
+    }
+    i64::try_from(magnitude).ok()
+}
+
+fn negative(digits: &[u8]) -> Option<i64>
+    ensures { number_or_bad result ≡ negative digits.now }
+{
+    let magnitude = magnitude(digits)?;
+    if magnitude == 0 || !is_plain(digits) {
+        return None;
+    }
+    0i64.checked_sub_unsigned(magnitude)
+}
+
+fn number_token<'a, A: Allocator>(number: Option<i64>) -> TextToken<'a, A>
+    ensures { result ≡ number_or_bad number }
+{
+    match number {
+        Some(number) => Token::Literal(Value::num(number)),
+        None => Token::Bad(Kind::Number),
+    }
+}
+
+fn word_token<'a, A: Allocator>(bytes: &'a [u8]) -> (TextToken<'a, A>, usize)
+    requires { IsTrue (begins_with_letter bytes.now) }
+    ensures token { word_of bytes.now ≡ (result.0, result.1) }
+    ensures within { (0 < result.1) × (result.1 ≤ length bytes.now) }
+{
+    let len = word_len(&bytes[1..]) + 1;
+    (Token::Word(Identifier::new(&bytes[..len])), len)
+}
+
+fn positive_token<'a, A: Allocator>(bytes: &[u8]) -> (TextToken<'a, A>, usize)
+    requires { 0 < length bytes.now }
+    ensures token { positive_of bytes.now ≡ (result.0, result.1) }
+    ensures within { (0 < result.1) × (result.1 ≤ length bytes.now) }
+{
+    let len = digits_len(&bytes[1..]) + 1;
+    (number_token(positive(&bytes[..len])), len)
+}
+
+/// The number whose digits stand behind a minus.
+fn negative_token<'a, A: Allocator>(bytes: &[u8]) -> (TextToken<'a, A>, usize)
+    ensures token { negative_token bytes.now ≡ (result.0, result.1) }
+    ensures within { (0 < result.1) × (result.1 ≤ length bytes.now + 1) }
+{
+    let len = digits_len(bytes);
+    if len == 0 {
+        return (Token::Bad(Kind::Token), 1);
+    }
+    (number_token(negative(&bytes[..len])), len + 1)
+}
+
+/// The arrow whose rest stands behind `<`.
+fn arrow_token<'a, A: Allocator>(bytes: &[u8]) -> (TextToken<'a, A>, usize)
+    ensures token { arrow_token bytes.now ≡ (result.0, result.1) }
+    ensures within { (0 < result.1) × (result.1 ≤ length bytes.now + 1) }
+{
+    match bytes {
+        [b'-', ..] => (Token::Mark(Sign::Arrow), 2),
+        _ => (Token::Bad(Kind::Token), 1),
+    }
+}
+
+fn sign_token<'a, A: Allocator>(byte: u8) -> TextToken<'a, A>
+    ensures { result ≡ sign_token byte }
+{
+    match byte {
+        b'{' => Token::Mark(Sign::OpenBrace),
+        b'}' => Token::Mark(Sign::CloseBrace),
+        b'(' => Token::Mark(Sign::OpenParen),
+        b')' => Token::Mark(Sign::CloseParen),
+        b',' => Token::Mark(Sign::Comma),
+        _ => Token::Bad(Kind::Token),
+    }
+}
+
+/// The token at the front of bytes, and how many bytes it takes.
+pub(crate) fn front<'a, A: Allocator + Copy>(
+    alloc: A,
+    bytes: &'a [u8],
+) -> Result<(TextToken<'a, A>, usize), TextFault>
+    requires { 0 < length bytes.now }
+    ensures token { IfOk result (λ x. front_of bytes.now ≡ (x.0, x.1)) }
+    ensures within { IfOk result (λ x. (0 < x.1) × (x.1 ≤ length bytes.now)) }
+    ensures memory { IfErr result (λ fault. fault ≡ TextFault.NoMemory) }
+{
+    let first = bytes[0];
+    if first.is_ascii_alphabetic() {
+        Ok(word_token(bytes))
+    } else if first.is_ascii_digit() {
+        Ok(positive_token(bytes))
+    } else if first == b'-' {
+        Ok(negative_token(&bytes[1..]))
+    } else if first == b'<' {
+        Ok(arrow_token(&bytes[1..]))
+    } else if first == b'"' {
+        quoted_token(alloc, &bytes[1..])
+    } else {
+        Ok((sign_token(first), 1))
+    }
+}

@@ -1,0 +1,77 @@
+//! Identifiers.
+
+ghost use Rattle.std.specs.Prelude.{◌≡◌, ◌≤◌, IsTrue, length};
+ghost use Rattle.std.specs.List.{prefix_len};
+ghost use Rattle.cq_atom.specs.Text.{is_word_byte, begins_with_letter, begins_with_upper, begins_with_lower};
+ghost use Rattle.cq_text.specs.Steps.Words.{is_identifier};
+
+use std::marker::Model;
+use std::str;
+
+/// An identifier: a letter, and then letters, digits and `_`.
+#[derive(Drop)]
+pub(crate) struct Identifier<'a> {
+    text: &'a str,
+}
+
+impl<'a> Model for Identifier<'a> {
+    ghost use Rattle.std.specs.Prelude.{List, ℕ, IsTrue};
+    ghost use Rattle.cq_text.specs.Steps.Words.{is_identifier};
+
+    ghost Value = { List ℕ };
+
+    ghost view = { λ w. w.text.now };
+
+    ghost invariant = { λ w. IsTrue (is_identifier w.text.now) };
+}
+
+fn is_word_byte(byte: u8) -> bool
+    ensures { result ≡ is_word_byte byte }
+{
+    byte.is_ascii_alphanumeric() || byte == b'_'
+}
+
+/// How many bytes at the front may stand behind an identifier's letter.
+pub(crate) fn word_len(bytes: &[u8]) -> usize
+    ensures len { result ≡ prefix_len is_word_byte bytes.now }
+    ensures within { result ≤ length bytes.now }
+{
+    bytes.iter().take_while(|byte| is_word_byte(**byte)).count()
+}
+
+impl<'a> Identifier<'a> {
+    pub(crate) fn new(bytes: &'a [u8]) -> Identifier<'a>
+        requires { IsTrue (is_identifier bytes.now) }
+        ensures { result ≡ bytes.now }
+    {
+        match str::from_utf8(bytes) {
+            Ok(text) => Identifier { text },
+            Err(_) => unreachable!(),
+        }
+    }
+
+    pub(crate) fn as_str(&self) -> &'a str
+        ensures value { result.now ≡ self.now }
+        ensures valid { IsTrue (is_identifier self.now) }
+    {
+        self.text
+    }
+
+    pub(crate) fn is_upper(&self) -> bool
+        ensures { result ≡ begins_with_upper self.now }
+    {
+        match self.text.as_bytes() {
+            [] => false,
+            [first, ..] => first.is_ascii_uppercase(),
+        }
+    }
+
+    pub(crate) fn is_lower(&self) -> bool
+        ensures { result ≡ begins_with_lower self.now }
+    {
+        match self.text.as_bytes() {
+            [] => false,
+            [first, ..] => first.is_ascii_lowercase(),
+        }
+    }
+}
