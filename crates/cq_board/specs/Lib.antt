@@ -1,0 +1,4 @@
+pub mod Supply
+pub mod Pool
+pub mod Edges
+pub mod Edits

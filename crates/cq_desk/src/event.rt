@@ -1,0 +1,42 @@
+//! What happens on the floor, and what is answered to it.
+
+/// A step of a session.
+#[derive(Drop)]
+pub enum Event<E> {
+    /// A session enters an edit.
+    Enter {
+        /// The number of the session.
+        author: usize,
+        /// What it asks for.
+        edit: E,
+    },
+    /// All that was entered is published.
+    Publish,
+    /// A session looks at what is published.
+    Look {
+        /// The number of the session.
+        session: usize,
+    },
+}
+
+/// The answer to an event that is not refused.
+#[derive(Clone, Copy, Debug, PartialEq, Eq)]
+pub enum Answer {
+    /// The edit is the entry of this number, counted from 1.
+    Entered(u64),
+    /// So many entries are published.
+    Published(u64),
+    /// What was seen is what so many entries leave.
+    Looked(u64),
+}
+
+/// Why an event is refused, in the order of the tests.
+#[derive(Clone, Copy, Debug, PartialEq, Eq)]
+pub enum StepFault<W> {
+    /// There is no session of that number.
+    NoSession,
+    /// The journal has as many entries as it may hold.
+    JournalFull,
+    /// The pool refuses the edit.
+    Not(W),
+}

@@ -1,0 +1,15 @@
+//! The floor: the order in which edits came, and what of it is published.
+//!
+//! A journal is the list of the accepted edits with their authors. The floor machine (`specs/Floor`)
+//! keeps a journal and a published count and nothing else: the pool that a session sees is the one
+//! that the published front of the journal leaves. The crates above speak of this machine whenever
+//! they say what is answered to an edit, a publish or a look.
+//!
+//! Not here: how a pool is kept from one edit to the next, what is shown of it, and threads.
+#![tactic(auto)]
+
+mod event;
+mod journal;
+
+pub use event::{Answer, Event, StepFault};
+pub use journal::Entry;
