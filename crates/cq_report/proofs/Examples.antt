@@ -1,0 +1,36 @@
+-- A worked example of what is written for a script.
+use Rattle.std.proofs.Common.{◌≡◌, ℕ, pos, List, [], ◌∷◌, refl}
+use Rattle.std.specs.Prelude.{codes}
+use Rattle.std.specs.Fmt.{digits}
+use Rattle.cq_atom.specs.declared.value.Content.TheVariants.{Number, Text}
+use Rattle.cq_atom.specs.declared.term.TermKind.TheVariants.{Constant}
+use Rattle.cq_atom.specs.Atom.{AtomRecord}
+use Rattle.cq_atom.specs.Query.{QueryRecord}
+use Rattle.cq_text.specs.declared.command.CommandKind.TheVariants.{Blank, Post, Publish, Show}
+use Rattle.cq_text.specs.declared.fault.Kind.TheVariants.{Shape}
+use Rattle.cq_board.specs.Supply.{unifies}
+use Rattle.cq_report.specs.Reading.{Reading, Reads, Faulty}
+use Rattle.cq_report.specs.Output.{output}
+
+abbrev seat : List ℕ → AtomRecord
+seat name = record { relation = codes "R"; terms = Constant (Text name) ∷ Constant (Number (pos 122)) ∷ [] }
+
+abbrev waits_for : List ℕ → List ℕ → QueryRecord
+waits_for other own = record { posts = seat other ∷ []; heads = seat own ∷ []; body = [] }
+
+abbrev kramer : Reading
+kramer = Reads (Post (codes "kramer") (waits_for (codes "Jerry") (codes "Kramer")))
+
+abbrev jerry : Reading
+jerry = Reads (Post (codes "jerry") (waits_for (codes "Kramer") (codes "Jerry")))
+
+first_run : output (kramer ∷ jerry ∷ Reads Publish ∷ Reads Show ∷ [])
+    ≡ codes "ok 1\nok 2\npublished 2\nshow 2\nquery kramer\n  text {R(\"Jerry\", 122)} R(\"Kramer\", 122) <-\n  post 0 providers 1\n    jerry head 0\nquery jerry\n  text {R(\"Kramer\", 122)} R(\"Jerry\", 122) <-\n  post 0 providers 1\n    kramer head 0\nend\n"
+unfolding unifies digits
+first_run = refl
+
+-- A look shows what was published last, a name is taken once, and a blank line has no reply.
+first_run_refusals : output (Reads Show ∷ kramer ∷ Reads Blank ∷ Faulty Shape 18 ∷ kramer ∷ Reads Show ∷ Reads Publish ∷ [])
+    ≡ codes "show 0\nend\nok 1\nrefused Shape at 18\nrefused NameTaken\nshow 0\nend\npublished 1\n"
+unfolding unifies digits
+first_run_refusals = refl

@@ -1,0 +1,12 @@
+use Rattle.std.proofs.Common.{rules, ap}
+use Rattle.std.proofs.lemmas.Result.{on_ok_weaker, IfErr-weaker}
+use Rattle.cq_report.proofs.Ending.{Replayed-wrote, BrokeOff-wrote, IfRead-weaker}
+use Rattle.cq_report.proofs.running.run.Goals as goal
+
+pub returns-clause-output : goal.returns-clause-output
+returns-clause-output g c =
+    on_ok_weaker c.replay.result (λ r. Replayed-wrote g.W.Sink.taken g.W.Sink.write_failures _ _ _ _ _ _ c.new-output.ensures.held (ap g.W.Sink.taken c.new-output.ensures.same) (search rules) r) c.replay.ensures.ok
+
+pub returns-clause-whole_lines : goal.returns-clause-whole_lines
+returns-clause-whole_lines g c =
+    IfErr-weaker c.replay.result _ _ (λ fault h. IfRead-weaker fault _ _ (λ turn b. BrokeOff-wrote g.W.Sink.taken g.W.Sink.write_failures _ _ _ _ _ _ c.new-output.ensures.held (ap g.W.Sink.taken c.new-output.ensures.same) (search rules) b) h) c.replay.ensures.read

@@ -1,0 +1,36 @@
+-- What a run leaves behind (this project's profile).
+use Rattle.std.specs.Prelude.{◌≡◌, ℕ, ◌+◌, List, Option, ◌⊎◌}
+use Rattle.std.specs.Io.KnownBytes.{Consumes, Appends}
+use Rattle.cq_report.specs.declared.running.TheConstants.{MAX_READS}
+use Rattle.cq_report.specs.declared.fault.RunFault.{RunFault}
+use Rattle.cq_report.specs.declared.fault.RunFault.TheVariants as faults
+use Rattle.cq_report.specs.Lines.{lines_of, whole_lines}
+use Rattle.cq_report.specs.Reading.{Reading}
+use Rattle.cq_report.specs.Output.{AreReadings, output}
+use Rattle.cq_text.specs.Device.{TakesFront}
+
+-- What is known of a fault of reading, by the turn that it tells.
+abbrev pub IfRead : RunFault → (ℕ → Type 0) → Type 0
+IfRead (faults.Read turn) P = P turn
+IfRead faults.Write P = Unit {0}
+IfRead faults.NoMemory P = Unit {0}
+
+-- The turn is the number of the read that failed; or all the reads that a run may make were made, and the turn is one more.
+abbrev pub FailedAtTurn : (turn reads reads' failures failures' : ℕ) → Type 0
+FailedAtTurn turn reads reads' failures failures' =
+    ((reads' ≡ reads + turn) × (failures' ≡ failures + 1))
+    ⊎ ((turn ≡ MAX_READS + 1) × (reads' ≡ reads + MAX_READS) × (failures' ≡ failures))
+
+-- Bytes were read; their whole lines have readings, and however they are read, their output was written and nothing else.
+pub record WroteWholeLines (left left' taken taken' : Option (List ℕ)) : Type 0 where
+  pub bytes : List ℕ
+  pub read : Consumes left left' bytes
+  pub readings : List Reading
+  pub are : AreReadings (whole_lines bytes) readings
+  pub wrote : (rs : List Reading) → AreReadings (whole_lines bytes) rs → Appends taken taken' (output rs)
+
+-- Bytes were read, and however their lines are read, a front of their output was written.
+pub record WroteFront (left left' taken taken' : Option (List ℕ)) : Type 0 where
+  pub bytes : List ℕ
+  pub read : Consumes left left' bytes
+  pub wrote : (rs : List Reading) → AreReadings (lines_of bytes) rs → TakesFront taken taken' (output rs)

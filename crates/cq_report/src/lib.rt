@@ -1,0 +1,26 @@
+//! The report: bytes of a script in, reply lines and report blocks out.
+//!
+//! The room above uses `run`: what it writes is `specs/Output` of what it reads. `specs/Lines` cuts
+//! a script into lines, `specs/Reading` says what a line is read as, `specs/Machine` what it does and
+//! is answered with, and `specs/Reply` and `specs/Report` how that reads.
+//!
+//! Not here: which texts stand for what, and what a post does to a pool; a program's arguments, its
+//! exit status and its messages.
+#![tactic(auto)]
+
+mod fault;
+mod limits;
+mod line;
+mod output;
+mod reply;
+mod report;
+mod running;
+#[cfg(test)]
+mod scripts;
+mod service;
+#[cfg(test)]
+mod tests;
+
+pub use fault::RunFault;
+pub use limits::{JOURNAL_LIMIT, POOL_LIMIT};
+pub use running::run;

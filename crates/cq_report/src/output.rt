@@ -1,0 +1,83 @@
+//! A buffer before a writer.
+
+ghost use Rattle.std.specs.Prelude.{◌≡◌, ◌<◌, ◌+◌, ◌^◌, ℕ, List, ◌++◌, [], OnOk, OnErr, IfOk, IfErr, MatchResult};
+ghost use Rattle.std.specs.Io.KnownBytes.{Appends};
+ghost use Rattle.cq_report.specs.Written.{Puts, Breaks};
+
+use crate::fault::RunFault;
+use cq_text::{Sink, write_all};
+use std::alloc::Allocator;
+
+/// How many bytes wait at most.
+pub(crate) const ROOM: usize = 8192;
+
+/// A writer, and the bytes that wait before it.
+///
+/// It is given the room for them, so that putting bytes takes no memory. What still waits is lost
+/// when the value is let go: `write_out` and `finish` pass it on.
+#[derive(Drop)]
+pub(crate) struct Output<'w, W: Sink, A: Allocator> {
+    sink: &'w mut W,
+    held: &'w mut Vec<u8, A>,
+}
+
+impl<'w, W: Sink, A: Allocator> Output<'w, W, A> {
+    /// The writer, and nothing that waits. What waits later is put into the room.
+    pub(crate) fn new(sink: &'w mut W, room: &'w mut Vec<u8, A>) -> Output<'w, W, A>
+        requires { room.old.items ≡ [] }
+        ensures writer { result.sink.ghost_name ≡ sink.entry.ghost_name }
+        ensures same { result.sink.now ≡ sink.old }
+        ensures held { result.held.now.items ≡ [] }
+    {
+        Output { sink, held: room }
+    }
+
+    /// Puts bytes behind what was put before. Its only fault is that of writing.
+    pub(crate) fn put(&mut self, bytes: &[u8]) -> Result<(), RunFault>
+        requires { W.write_failures self.old.sink.now < 2 ^ 62 }
+        ensures ok { OnOk result (Puts W.taken W.write_failures self.old self.new bytes.now) }
+        ensures err { IfErr result (λ fault. Breaks W.taken W.write_failures self.old self.new bytes.now fault) }
+        ensures fault { IfErr result (λ fault. fault ≡ RunFault.Write) }
+    {
+        if bytes.len() <= self.held.capacity() - self.held.len() {
+            self.held.extend_from_slice(bytes).unwrap();
+            return Ok(());
+        }
+        self.write_out()?;
+        let Ok(()) = write_all(self.sink, bytes) else {
+            return Err(RunFault::Write);
+        };
+        Ok(())
+    }
+
+    /// Passes on all that waits. Its only fault is that of writing.
+    pub(crate) fn write_out(&mut self) -> Result<(), RunFault>
+        requires { W.write_failures self.old.sink.now < 2 ^ 62 }
+        ensures ok { OnOk result (Puts W.taken W.write_failures self.old self.new []) }
+        ensures held { OnOk result (self.new.held.now.items ≡ []) }
+        ensures err { IfErr result (λ fault. Breaks W.taken W.write_failures self.old self.new [] fault) }
+        ensures fault { IfErr result (λ fault. fault ≡ RunFault.Write) }
+    {
+        let Ok(()) = write_all(self.sink, self.held) else {
+            return Err(RunFault::Write);
+        };
+        self.held.clear();
+        Ok(())
+    }
+
+    /// Passes on all that waits, and then what the writer itself holds back. Its only fault is
+    /// that of writing.
+    pub(crate) fn finish(&mut self) -> Result<(), RunFault>
+        requires { W.write_failures self.old.sink.now < 2 ^ 62 }
+        ensures ok { OnOk result (Puts W.taken W.write_failures self.old self.new []) }
+        ensures held { OnOk result (self.new.held.now.items ≡ []) }
+        ensures err { IfErr result (λ fault. Breaks W.taken W.write_failures self.old self.new [] fault) }
+        ensures fault { IfErr result (λ fault. fault ≡ RunFault.Write) }
+    {
+        self.write_out()?;
+        let Ok(()) = self.sink.flush() else {
+            return Err(RunFault::Write);
+        };
+        Ok(())
+    }
+}

@@ -1,0 +1,169 @@
+//! Runs a script.
+
+ghost use Rattle.std.specs.Prelude.{◌≡◌, ◌<◌, ◌≤◌, ◌+◌, ◌^◌, ℕ, List, ◌++◌, ◌∷◌, [], OnOk, OnErr, IfOk, IfErr, IfSome, MatchResult};
+ghost use Rattle.std.specs.Io.KnownBytes.{Appends};
+ghost use Rattle.cq_report.specs.Lines.{lines_of};
+ghost use Rattle.cq_report.specs.Reading.{Reading};
+ghost use Rattle.cq_report.specs.Output.{AreReadings, output};
+ghost use Rattle.cq_report.specs.Machine.{State};
+ghost use Rattle.cq_report.specs.Written.{Fails, IsOfRead, failures_of};
+ghost use Rattle.cq_report.specs.Run.{IfRead, FailedAtTurn, WroteWholeLines, WroteFront};
+ghost use Rattle.cq_report.specs.Steps.Replay.{Replayed, BrokeOff, Ended};
+ghost use Rattle.cq_report.specs.Steps.Serving.{ServesOn, StopsOn, Finishes, IsSound};
+
+use crate::fault::RunFault;
+use crate::line::Line;
+use crate::output::{Output, ROOM};
+use crate::service::Service;
+use cq_text::{Sink, Source};
+use std::alloc::Allocator;
+
+/// The most reads of one run.
+const MAX_READS: u32 = 1_048_576;
+
+/// The most bytes that one read gives.
+const PIECE: usize = 4096;
+
+/// Serves one byte: LF has the line answered, and any other byte is kept.
+fn serve_byte<W: Sink, A: Allocator + Copy>(
+    service: &mut Service<A>,
+    line: &mut Line<A>,
+    output: &mut Output<'_, W, A>,
+    byte: u8,
+) -> Result<(), RunFault>
+    requires { W.write_failures output.old.sink.now < 2 ^ 62 }
+    ensures ok { OnOk result (ServesOn W.taken W.write_failures output.old output.new service.old service.new line.old line.new (byte ∷ [])) }
+    ensures sound { OnOk result (IsSound W.write_failures output.old output.new) }
+    ensures err { IfErr result (λ fault. (rest : List ℕ) → StopsOn W.taken W.write_failures output.old output.new service.old line.old (byte ∷ rest) fault) }
+    ensures fails { IfErr result (λ fault. Fails W.write_failures output.old output.new fault) }
+{
+    if byte != b'\n' {
+        line.push(byte)?;
+        return Ok(());
+    }
+    service.answer(line.as_bytes(), output)?;
+    line.clear();
+    Ok(())
+}
+
+/// Answers each line that the piece ends, and keeps what begins the next one.
+fn feed<W: Sink, A: Allocator + Copy>(
+    service: &mut Service<A>,
+    line: &mut Line<A>,
+    output: &mut Output<'_, W, A>,
+    piece: &[u8],
+) -> Result<(), RunFault>
+    requires { W.write_failures output.old.sink.now < 2 ^ 62 }
+    ensures ok { OnOk result (ServesOn W.taken W.write_failures output.old output.new service.old service.new line.old line.new piece.now) }
+    ensures sound { OnOk result (IsSound W.write_failures output.old output.new) }
+    ensures err { IfErr result (λ fault. StopsOn W.taken W.write_failures output.old output.new service.old line.old piece.now fault) }
+    ensures fails { IfErr result (λ fault. Fails W.write_failures output.old output.new fault) }
+{
+    for byte in piece {
+        serve_byte(service, line, output, *byte)?;
+    }
+    Ok(())
+}
+
+/// Answers the last line, where no LF ends it, and passes on all that waits.
+fn finish<W: Sink, A: Allocator + Copy>(
+    service: &mut Service<A>,
+    line: &Line<A>,
+    output: &mut Output<'_, W, A>,
+) -> Result<(), RunFault>
+    requires { W.write_failures output.old.sink.now < 2 ^ 62 }
+    ensures ok { OnOk result (Finishes W.taken W.write_failures output.old output.new service.old line.now) }
+    ensures held { OnOk result (output.new.held.now.items ≡ []) }
+    ensures sound { OnOk result (IsSound W.write_failures output.old output.new) }
+    ensures err { IfErr result (λ fault. StopsOn W.taken W.write_failures output.old output.new service.old line.now [] fault) }
+    ensures fails { IfErr result (λ fault. Fails W.write_failures output.old output.new fault) }
+{
+    if line.is_empty() {
+        output.finish()?;
+        return Ok(());
+    }
+    service.answer(line.as_bytes(), output)?;
+    output.finish()?;
+    Ok(())
+}
+
+/// Reads pieces to the end and answers the lines: all whole lines that were read are answered, and
+/// the replies passed on, before the next read.
+fn replay<A: Allocator + Copy, R: Source, W: Sink>(
+    alloc: A,
+    reader: &mut R,
+    output: &mut Output<'_, W, A>,
+) -> Result<(), RunFault>
+    requires reads { R.reads_made reader.old < 2 ^ 62 }
+    requires failures { R.failures_met reader.old < 2 ^ 62 }
+    requires write_failures { W.write_failures output.old.sink.now < 2 ^ 62 }
+    requires held { output.old.held.now.items ≡ [] }
+    ensures ok { OnOk result (Replayed W.taken W.write_failures (R.left reader.old) (R.left reader.new) output.old output.new) }
+    ensures read { IfErr result (λ fault. IfRead fault (λ turn. BrokeOff W.taken W.write_failures (R.left reader.old) (R.left reader.new) output.old output.new)) }
+    ensures turn { IfErr result (λ fault. IfRead fault (λ turn. FailedAtTurn turn (R.reads_made reader.old) (R.reads_made reader.new) (R.failures_met reader.old) (R.failures_met reader.new))) }
+    ensures err { IfErr result (λ fault. Ended W.taken W.write_failures (R.left reader.old) (R.left reader.new) output.old output.new fault) }
+    ensures writer { output.new.sink.ghost_name ≡ output.old.sink.ghost_name }
+    ensures write_failures { MatchResult result (λ _. W.write_failures output.new.sink.now ≡ W.write_failures output.old.sink.now) (λ fault. W.write_failures output.new.sink.now ≡ W.write_failures output.old.sink.now + failures_of fault) }
+    ensures reads { R.reads_made reader.new ≤ R.reads_made reader.old + MAX_READS }
+    ensures read_failures { MatchResult result (λ _. R.failures_met reader.new ≡ R.failures_met reader.old) (λ fault. (IsOfRead fault → ⊥) → R.failures_met reader.new ≡ R.failures_met reader.old) }
+{
+    let mut service = Service::begin(alloc);
+    let mut line = Line::new(alloc);
+    let mut piece = [0u8; PIECE];
+    for i in 0..MAX_READS {
+        let Ok(len) = reader.read(&mut piece) else {
+            return Err(RunFault::Read { turn: i + 1 });
+        };
+        if len == 0 {
+            finish(&mut service, &line, output)?;
+            return Ok(());
+        }
+        feed(&mut service, &mut line, output, &piece[..len])?;
+        output.write_out()?;
+    }
+    Err(RunFault::Read {
+        turn: MAX_READS + 1,
+    })
+}
+
+/// Runs a script: reads it to its end, and writes what its lines answer.
+///
+/// The bytes are cut into lines at LF. Each line has its reply before the next read; a last line
+/// without LF has its reply at the end, and then the writer is flushed once. Reads are of up to
+/// 4,096 bytes, and there are at most 1,048,576 of them.
+///
+/// # Errors
+///
+/// `Read` tells the number, from 1, of the read that failed, and 1,048,577 where no read failed and
+/// none came to the end. `Write` says that the writer failed, and `NoMemory` that a growth was
+/// refused. Lines that a fault cut off have no reply.
+pub fn run<A: Allocator + Copy, R: Source, W: Sink>(
+    alloc: A,
+    reader: &mut R,
+    writer: &mut W,
+) -> Result<(), RunFault>
+    requires reads { R.reads_made reader.old < 2 ^ 62 }
+    requires failures { R.failures_met reader.old < 2 ^ 62 }
+    requires write_failures { W.write_failures writer.old < 2 ^ 62 }
+
+    // Where all went well, the output of the lines was written, however they are read.
+    ensures output { OnOk result (IfSome (R.left reader.old) (λ input. (readings : List Reading) → AreReadings (lines_of input) readings → Appends (W.taken writer.old) (W.taken writer.new) (output readings))) }
+
+    // And they can be read.
+    ensures readings { OnOk result (IfSome (R.left reader.old) (λ input. (readings : List Reading) × AreReadings (lines_of input) readings)) }
+
+    // After a fault of reading the output of the whole lines was written; after any fault no more
+    // than a front of the output of what was read.
+    ensures whole_lines { IfErr result (λ fault. IfRead fault (λ turn. WroteWholeLines (R.left reader.old) (R.left reader.new) (W.taken writer.old) (W.taken writer.new))) }
+    ensures front { IfErr result (λ fault. WroteFront (R.left reader.old) (R.left reader.new) (W.taken writer.old) (W.taken writer.new)) }
+
+    // Whose fault it was.
+    ensures turn { IfErr result (λ fault. IfRead fault (λ turn. FailedAtTurn turn (R.reads_made reader.old) (R.reads_made reader.new) (R.failures_met reader.old) (R.failures_met reader.new))) }
+    ensures reads { R.reads_made reader.new ≤ R.reads_made reader.old + MAX_READS }
+    ensures read_failures { MatchResult result (λ _. R.failures_met reader.new ≡ R.failures_met reader.old) (λ fault. (IsOfRead fault → ⊥) → R.failures_met reader.new ≡ R.failures_met reader.old) }
+    ensures write_failures { MatchResult result (λ _. W.write_failures writer.new ≡ W.write_failures writer.old) (λ fault. W.write_failures writer.new ≡ W.write_failures writer.old + failures_of fault) }
+{
+    let mut room = Vec::with_capacity(alloc, ROOM)?;
+    let mut output = Output::new(writer, &mut room);
+    replay(alloc, reader, &mut output)
+}
