@@ -1,0 +1,143 @@
+//! What the program does with its words.
+
+ghost use Rattle.std.specs.Prelude.{◌≡◌, ◌<◌, ◌^◌};
+ghost use Rattle.cq_cli.specs.Status.{code_of, status_of};
+
+use clap::error::ErrorKind;
+use clap::{Command, Error};
+use cq_report::{RunFault, run};
+use cq_text::{Sink, Source, write_all};
+use std::alloc::{Allocator, Global};
+use std::convert::AsStr;
+
+const ABOUT: &str =
+    "A live coordination board for entangled queries: reads a script on standard input, and writes \
+    replies and reports.";
+
+const LINES: &str = "Lines of a script:
+  post NAME {POSTCONDITIONS} HEADS <-   a query becomes pending
+  publish                               what was entered is published
+  show                                  prints the board of the last publish
+  # ..                                  a comment
+
+Example:
+  post kramer {R(Jerry, 122)} R(Kramer, 122) <-
+
+Exit status: 0 done (refused lines included), 1 a device failed, 2 usage, 3 out of memory.";
+
+/// How the program ends.
+#[derive(Clone, Copy, Debug, PartialEq, Eq)]
+pub(crate) enum Status {
+    /// All was done; refused lines of a script included, and help.
+    Done,
+    /// The source or the sink failed.
+    Failed,
+    /// The words are none that the program knows.
+    Usage,
+    /// A growth was refused for want of memory.
+    NoMemory,
+}
+
+impl Status {
+    /// The exit status.
+    pub(crate) fn code(self) -> u8
+        ensures { result ≡ code_of self }
+    {
+        match self {
+            Status::Done => 0,
+            Status::Failed => 1,
+            Status::Usage => 2,
+            Status::NoMemory => 3,
+        }
+    }
+}
+
+/// How the program ends after a run that ended so.
+fn status_of(fault: RunFault) -> Status
+    ensures { result ≡ status_of fault }
+{
+    match fault {
+        RunFault::Read { turn: _ } | RunFault::Write => Status::Failed,
+        RunFault::NoMemory => Status::NoMemory,
+    }
+}
+
+/// Writes a text, and passes over a sink that fails: there is nobody left to tell.
+fn tell<W: Sink>(sink: &mut W, text: &str)
+    requires { W.write_failures sink.old < 2 ^ 62 }
+{
+    if write_all(sink, text.as_bytes()).is_ok() {
+        let _ = sink.flush();
+    }
+}
+
+/// Tells a fault of the run on the sink of errors.
+fn tell_fault<E: Sink>(alloc: Global, fault: RunFault, errors: &mut E)
+    requires { E.write_failures errors.old < 2 ^ 62 }
+{
+    match format!(in alloc; "board: {fault}\n") {
+        Ok(text) => tell(errors, &text),
+        Err(_) => tell(errors, "board: out of memory\n"),
+    }
+}
+
+/// Tells what is wrong with the words on the sink of errors, or the help that they ask for on the other.
+fn tell_usage<W: Sink, E: Sink>(
+    alloc: Global,
+    error: &Error,
+    sink: &mut W,
+    errors: &mut E,
+) -> Status
+    requires sink { W.write_failures sink.old < 2 ^ 62 }
+    requires errors { E.write_failures errors.old < 2 ^ 62 }
+{
+    let text = format!(in alloc; "{error}");
+    let (Ok(text), false) = (text, error.kind() == ErrorKind::OutOfMemory) else {
+        tell(errors, "board: out of memory\n");
+        return Status::NoMemory;
+    };
+    if error.use_stderr() {
+        tell(errors, &text);
+        return Status::Usage;
+    }
+    tell(sink, &text);
+    Status::Done
+}
+
+/// Whether the words ask for a run: the first is the program's name, and no other is known but those for help.
+fn read_words<S: AsStr>(alloc: Global, words: &[S]) -> Result<(), Error> {
+    let command = Command::new(alloc, "board")
+        .about(ABOUT)
+        .override_usage("board < SCRIPT")
+        .after_help(LINES);
+    command.try_get_matches_from(words)?;
+    Ok(())
+}
+
+/// Does what the words say. Texts of faults go to the sink of errors, each one line; help goes to the other.
+/// The words and the texts use `alloc`, since the reader of words knows no other allocator; the run uses `heap`.
+pub(crate) fn answer<S: AsStr, A: Allocator + Copy, R: Source, W: Sink, E: Sink>(
+    alloc: Global,
+    heap: A,
+    words: &[S],
+    source: &mut R,
+    sink: &mut W,
+    errors: &mut E,
+) -> Status
+    requires reads { R.reads_made source.old < 2 ^ 62 }
+    requires read_failures { R.failures_met source.old < 2 ^ 62 }
+    requires sink { W.write_failures sink.old < 2 ^ 62 }
+    requires errors { E.write_failures errors.old < 2 ^ 62 }
+{
+    if let Err(error) = read_words(alloc, words) {
+        return tell_usage(alloc, &error, sink, errors);
+    }
+    let Err(fault) = run(heap, source, sink) else {
+        return Status::Done;
+    };
+    tell_fault(alloc, fault, errors);
+    status_of(fault)
+}
+
+#[cfg(test)]
+mod tests;
