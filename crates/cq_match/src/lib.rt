@@ -1,12 +1,20 @@
-//! Graphs of pending queries: who supplies whom.
+//! Graphs of pending queries: who supplies whom, and which nodes are matched.
 //!
 //! Nodes are numbers, and an edge leads from a head of its provider to a postcondition of its waiter.
 //! The crates above take from here what is true of any such graph: which edges supply a
-//! postcondition, how many they are, and when they are too many (`specs/Graph`).
+//! postcondition, how many they are, and when they are too many (`specs/Graph`); which sets of nodes
+//! are closed, and which nodes stand in one (`specs/Matched`).
+//!
+//! The public call is [`greatest`]: the matched nodes of a graph, from scratch, which are those of the union of
+//! all closed sets. It numbers nodes by their places in rising order and lets places fall that nothing
+//! standing feeds (`settle`).
 //!
 //! Not here: whose head supplies which postcondition, which is said of atoms, and names.
 #![tactic(auto)]
 
 mod edge;
+mod matched;
+mod settle;
 
 pub use edge::Edge;
+pub use matched::greatest;

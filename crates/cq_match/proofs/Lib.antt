@@ -1,0 +1,11 @@
+pub mod Counting
+pub mod Dropping
+pub mod Graphs
+pub mod Grouped
+pub mod Linked
+pub mod Ranks
+pub mod Settling
+pub mod Slots
+pub mod Standing
+pub mod Tests
+pub mod Union

@@ -1,0 +1,45 @@
+-- Nodes by their places among all nodes in rising order, and their postconditions by slots.
+use Rattle.std.specs.Prelude.{◌≡◌, ℕ, ◌+◌, ◌<◌, ◌≤◌, nat_eq, List, length, slice_index, slice_index_or}
+use Rattle.std.specs.List.{All, list_any}
+use Rattle.std.specs.Set.{is_member}
+use Rattle.cq_match.specs.declared.edge.Edge.{Edge}
+use Rattle.cq_match.specs.declared.settle.Link.{Link}
+use Rattle.cq_match.specs.Matched.{is_supplied}
+use Rattle.cq_match.specs.Steps.Settle.{feeds}
+
+-- The number of the node at a place.
+abbrev pub number_at : List (ℕ × ℕ) → ℕ → ℕ
+number_at nodes place = (slice_index_or nodes place (0, 0)).0
+
+-- How many postconditions the node at a place has.
+abbrev pub posts_at : List (ℕ × ℕ) → ℕ → ℕ
+posts_at nodes place = (slice_index_or nodes place (0, 0)).1
+
+-- Each node has a smaller number than those after it.
+abbrev pub IsRanked : List (ℕ × ℕ) → Type 0
+IsRanked nodes = (i j : ℕ) → i < j → j < length nodes → number_at nodes i < number_at nodes j
+
+-- The slots are the postconditions of all nodes in a row: those of each place from its start on.
+pub record AreSlots (nodes : List (ℕ × ℕ)) (starts owners : List ℕ) : Type 0 where
+  pub starts_len : length starts ≡ length nodes
+  pub owner_low : (slot : ℕ) → slot < length owners → slice_index owners slot < length nodes
+  pub owned_from : (slot : ℕ) → slot < length owners → slice_index starts (slice_index owners slot) ≤ slot
+  pub owned_to : (slot : ℕ) → slot < length owners → slot < slice_index starts (slice_index owners slot) + posts_at nodes (slice_index owners slot)
+  pub slot_low : (place post : ℕ) → place < length nodes → post < posts_at nodes place → slice_index starts place + post < length owners
+  pub slot_owner : (place post : ℕ) → place < length nodes → post < posts_at nodes place → slice_index owners (slice_index starts place + post) ≡ place
+
+-- The link is the edge, by the place of its provider and the slot of its postcondition.
+pub record IsLinkOf (nodes : List (ℕ × ℕ)) (starts : List ℕ) (edge : Edge) (link : Link) : Type 0 where
+  pub waiter : ℕ
+  pub provider_low : link.provider < length nodes
+  pub provider_is : number_at nodes link.provider ≡ edge.provider
+  pub waiter_low : waiter < length nodes
+  pub waiter_is : number_at nodes waiter ≡ edge.waiter
+  pub post_low : edge.post < posts_at nodes waiter
+  pub slot_is : link.slot ≡ slice_index starts waiter + edge.post
+
+-- The links are the edges: a slot is fed from a set of places exactly where the postcondition is supplied from their nodes.
+pub record AreLinksOf (nodes : List (ℕ × ℕ)) (starts : List ℕ) (slots : ℕ) (edges : List Edge) (links : List Link) : Type 0 where
+  pub low : All (λ link. (link.provider < length nodes) × (link.slot < slots)) links
+  pub same : (set : List ℕ) (place post : ℕ) → place < length nodes → post < posts_at nodes place
+      → list_any (feeds (λ provider. is_member nat_eq set (number_at nodes provider)) (slice_index starts place + post)) links ≡ is_supplied edges set (number_at nodes place) post

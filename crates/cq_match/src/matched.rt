@@ -1,0 +1,164 @@
+//! The matched nodes of a graph.
+
+ghost use Rattle.std.specs.Prelude.{◌≡◌, ◌++◌, ℕ, ◌<◌, ◌↔◌, length, replicate, IfOk, OnOk, IsTrue, nat_eq, vec_len};
+ghost use Rattle.std.specs.List.{All, Any, Contains, IsDistinct};
+ghost use Rattle.std.specs.List.Sorted.{IsNonDecreasingBy, IsPermutation, IsStrictlySortedBy};
+ghost use Rattle.std.specs.Ordering.{nat_cmp};
+ghost use Rattle.std.specs.Set.{is_member};
+ghost use Rattle.cq_match.specs.Matched.{is_matched, numbers};
+ghost use Rattle.cq_match.specs.Steps.Places.{number_at, posts_at, IsRanked, AreSlots, IsLinkOf, AreLinksOf};
+ghost use Rattle.cq_match.specs.Steps.Settle.{stands};
+
+use crate::Edge;
+use crate::settle::{Link, settled};
+use std::alloc::{AllocError, Allocator};
+
+/// The nodes in rising order of their numbers.
+fn ranked<A: Allocator>(alloc: A, nodes: &[(usize, u8)]) -> Result<Vec<(usize, u8), A>, AllocError>
+    requires { IsDistinct nat_eq (numbers nodes.now) }
+    ensures permutation { IfOk result (λ ranked. IsPermutation nodes.now ranked.items) }
+    ensures rising { IfOk result (λ ranked. IsRanked ranked.items) }
+{
+    let mut ranked = Vec::from_slice(alloc, nodes)?;
+    ranked.sort_unstable_by_key(|node| node.0);
+    Ok(ranked)
+}
+
+/// The place of the node with that number.
+fn place_of(ranked: &[(usize, u8)], number: usize) -> usize
+    requires rising { IsRanked ranked.now }
+    requires known { Contains (numbers ranked.now) number }
+    ensures low { result < length ranked.now }
+    ensures found { number_at ranked.now result ≡ number }
+{
+    match ranked.binary_search_by_key(&number, |node| node.0) {
+        Ok(place) => place,
+        Err(_) => unreachable!(),
+    }
+}
+
+/// The postconditions of all nodes in a row.
+#[derive(Drop)]
+struct Slots<A: Allocator> {
+    /// For each place, its first slot.
+    starts: Vec<usize, A>,
+    /// For each slot, its place.
+    owners: Vec<usize, A>,
+}
+
+/// Puts that many slots of the place to the end.
+fn add_slots<A: Allocator>(
+    owners: &mut Vec<usize, A>,
+    place: usize,
+    count: u8,
+) -> Result<(), AllocError>
+    ensures { OnOk result (owners.new.items ≡ owners.old.items ++ replicate count place) }
+{
+    for _ in 0..count {
+        owners.push(place)?;
+    }
+    Ok(())
+}
+
+fn slots_of<A: Allocator + Copy>(alloc: A, ranked: &[(usize, u8)]) -> Result<Slots<A>, AllocError>
+    ensures { IfOk result (λ slots. AreSlots ranked.now slots.starts.items slots.owners.items) }
+{
+    let mut starts = Vec::new(alloc);
+    let mut owners = Vec::new(alloc);
+    for (place, node) in ranked.iter().enumerate() {
+        starts.push(owners.len())?;
+        add_slots(&mut owners, place, node.1)?;
+    }
+    Ok(Slots { starts, owners })
+}
+
+/// The edge as a link.
+fn link_of<A: Allocator>(ranked: &[(usize, u8)], slots: &Slots<A>, edge: Edge) -> Link
+    requires rising { IsRanked ranked.now }
+    requires slots { AreSlots ranked.now slots.now.starts.items slots.now.owners.items }
+    requires provider { Contains (numbers ranked.now) edge.provider }
+    requires waiter { Any (λ node. (node.0 ≡ edge.waiter) × (edge.post < node.1)) ranked.now }
+    ensures { IsLinkOf ranked.now slots.now.starts.items edge result }
+{
+    let waiter = place_of(ranked, edge.waiter);
+    Link {
+        provider: place_of(ranked, edge.provider),
+        slot: slots.starts[waiter] + usize::from(edge.post),
+    }
+}
+
+/// The edges as links, by their providers.
+fn links_of<A: Allocator + Copy>(
+    alloc: A,
+    ranked: &[(usize, u8)],
+    slots: &Slots<A>,
+    edges: &[Edge],
+) -> Result<Vec<Link, A>, AllocError>
+    requires rising { IsRanked ranked.now }
+    requires slots { AreSlots ranked.now slots.now.starts.items slots.now.owners.items }
+    requires ends { All (λ edge. Contains (numbers ranked.now) edge.provider × Any (λ node. (node.0 ≡ edge.waiter) × (edge.post < node.1)) ranked.now) edges.now }
+    ensures links { IfOk result (λ links. AreLinksOf ranked.now slots.now.starts.items (length slots.now.owners.items) edges.now links.items) }
+    ensures grouped { IfOk result (λ links. IsNonDecreasingBy (λ link. link.provider) links.items) }
+{
+    let mut links = Vec::new(alloc);
+    for edge in edges {
+        links.push(link_of(ranked, slots, *edge))?;
+    }
+    links.sort_unstable_by_key(|link| link.provider);
+    Ok(links)
+}
+
+/// The numbers of the nodes that stand.
+fn standing_numbers<A: Allocator>(
+    alloc: A,
+    ranked: &[(usize, u8)],
+    standing: &[bool],
+) -> Result<Vec<usize, A>, AllocError>
+    requires rising { IsRanked ranked.now }
+    requires same_len { length standing.now ≡ length ranked.now }
+    ensures found { IfOk result (λ found. (place : ℕ) → place < length ranked.now → is_member nat_eq found.items (number_at ranked.now place) ≡ stands standing.now place) }
+    ensures known { IfOk result (λ found. All (Contains (numbers ranked.now)) found.items) }
+    ensures rising { IfOk result (λ found. IsStrictlySortedBy nat_cmp found.items) }
+{
+    let mut found = Vec::new(alloc);
+    for place in 0..ranked.len() {
+        if standing[place] {
+            found.push(ranked[place].0)?;
+        }
+    }
+    Ok(found)
+}
+
+/// The matched nodes, rising.
+///
+/// A set of nodes is closed if each postcondition of each of its members has an edge from a member. The
+/// matched nodes are all those that stand in some closed set: an edge from a node to itself counts,
+/// and so does a ring. That queries are matched before they are answered is of Gupta et al. (SIGMOD
+/// 2011); this rule for it is this project's.
+///
+/// `nodes` gives each node's number and how many postconditions it has, in any order.
+///
+/// Each edge is looked at once; besides that, nodes and edges are sorted and nodes looked up by halving.
+/// No clause says so.
+///
+/// # Errors
+/// `AllocError` where a growth was refused.
+pub fn greatest<A: Allocator + Copy>(
+    alloc: A,
+    nodes: &[(usize, u8)],
+    edges: &[Edge],
+) -> Result<Vec<usize, A>, AllocError>
+    requires distinct { IsDistinct nat_eq (numbers nodes.now) }
+    requires ends { All (λ edge. Contains (numbers nodes.now) edge.provider × Any (λ node. (node.0 ≡ edge.waiter) × (edge.post < node.1)) nodes.now) edges.now }
+    ensures matched { IfOk result (λ found. (n : ℕ) → Contains found.items n ↔ IsTrue (is_matched nodes.now edges.now n)) }
+    ensures rising { IfOk result (λ found. IsStrictlySortedBy nat_cmp found.items) }
+{
+    let ranked = ranked(alloc, nodes)?;
+    let slots = slots_of(alloc, &ranked)?;
+    let links = links_of(alloc, &ranked, &slots, edges)?;
+    let standing = settled(alloc, ranked.len(), &slots.owners, &links)?;
+    standing_numbers(alloc, &ranked, &standing)
+}
+
+#[cfg(test)]
+mod tests;

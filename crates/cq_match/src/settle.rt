@@ -1,0 +1,120 @@
+//! The greatest set of places that feeds itself.
+//!
+//! All places stand at first. A place falls when one of its slots is fed by no standing place, and each
+//! link from it then counts no longer. Each place falls once, so each link is looked at once.
+
+ghost use Rattle.std.specs.Prelude.{◌≡◌, ◌==◌, ◌+◌, ◌<◌, ◌≤◌, ◌⊎◌, ℕ, Bool, true, length, filter, sum, count_by, slice_index, vec_len, EachIndex, SomeIndex, IfOk, OnOk};
+ghost use Rattle.std.specs.List.{All, Contains};
+ghost use Rattle.std.specs.List.Sorted.{IsNonDecreasingBy};
+ghost use Rattle.cq_match.specs.Steps.Settle.{stands, is_into, FeedsItself};
+
+use std::alloc::{AllocError, Allocator};
+
+/// An edge between places: from the place of its provider to the slot of its postcondition.
+#[derive(Clone, Copy)]
+pub struct Link {
+    /// The place that offers.
+    pub provider: usize,
+    /// The slot of the postcondition that it supplies.
+    pub slot: usize,
+}
+
+/// How many links lead to each slot.
+fn counts_of<A: Allocator>(
+    alloc: A,
+    slots: usize,
+    links: &[Link],
+) -> Result<Vec<usize, A>, AllocError>
+    requires { All (λ link. link.slot < slots) links.now }
+    ensures len { IfOk result (λ counts. vec_len counts ≡ slots) }
+    ensures counted { IfOk result (λ counts. (slot : ℕ) → slot < slots → slice_index counts.items slot ≡ count_by (is_into slot) links.now) }
+{
+    let mut counts = vec![in alloc; 0usize; slots]?;
+    for link in links {
+        counts[link.slot] += 1;
+    }
+    Ok(counts)
+}
+
+/// The owners of the slots that nothing feeds.
+fn unfed<A: Allocator>(
+    alloc: A,
+    owners: &[usize],
+    counts: &[usize],
+) -> Result<Vec<usize, A>, AllocError>
+    requires { length counts.now ≡ length owners.now }
+    ensures each { IfOk result (λ found. (slot : ℕ) → slot < length owners.now → slice_index counts.now slot ≡ 0 → Contains found.items (slice_index owners.now slot)) }
+    ensures only { IfOk result (λ found. All (λ place. SomeIndex owners.now (λ slot. (slice_index counts.now slot ≡ 0) × (slice_index owners.now slot ≡ place))) found.items) }
+{
+    let mut found = Vec::new(alloc);
+    for slot in 0..owners.len() {
+        if counts[slot] == 0 {
+            found.push(owners[slot])?;
+        }
+    }
+    Ok(found)
+}
+
+/// The links from a place, which stand side by side.
+fn links_from(links: &[Link], place: usize) -> &[Link]
+    requires { IsNonDecreasingBy (λ link. link.provider) links.now }
+    ensures { result.now ≡ filter (λ link. link.provider == place) links.now }
+{
+    let below = links.partition_point(|link| link.provider < place);
+    let (_, rest) = links.split_at(below);
+    let count = rest.partition_point(|link| link.provider <= place);
+    let (at, _) = rest.split_at(count);
+    at
+}
+
+/// Counts the links no longer. The owners of slots that lose their last link are put to those that wait
+/// to fall.
+fn drop_links<A: Allocator>(
+    counts: &mut [usize],
+    waiting: &mut Vec<usize, A>,
+    owners: &[usize],
+    links: &[Link],
+) -> Result<(), AllocError>
+    requires same_len { length counts.old ≡ length owners.now }
+    requires low { All (λ link. link.slot < length owners.now) links.now }
+    requires counted { (slot : ℕ) → slot < length owners.now → count_by (is_into slot) links.now ≤ slice_index counts.old slot }
+    ensures lowered { OnOk result ((slot : ℕ) → slice_index counts.new slot + count_by (is_into slot) links.now ≡ slice_index counts.old slot) }
+    ensures each { OnOk result ((slot : ℕ) → slot < length owners.now → slice_index counts.new slot ≡ 0 → (slice_index counts.old slot ≡ 0) ⊎ Contains waiting.new.items (slice_index owners.now slot)) }
+    ensures kept { OnOk result ((place : ℕ) → Contains waiting.old.items place → Contains waiting.new.items place) }
+    ensures only { OnOk result (All (λ place. Contains waiting.old.items place ⊎ SomeIndex owners.now (λ slot. (slice_index counts.new slot ≡ 0) × (slice_index owners.now slot ≡ place))) waiting.new.items) }
+    ensures fewer { OnOk result (sum counts.new + vec_len waiting.new ≤ sum counts.old + vec_len waiting.old) }
+{
+    for link in links {
+        counts[link.slot] -= 1;
+        if counts[link.slot] == 0 {
+            waiting.push(owners[link.slot])?;
+        }
+    }
+    Ok(())
+}
+
+/// Which places stand in the end: the greatest set that feeds itself.
+pub fn settled<A: Allocator + Copy>(
+    alloc: A,
+    places: usize,
+    owners: &[usize],
+    links: &[Link],
+) -> Result<Vec<bool, A>, AllocError>
+    requires owners_low { All (λ place. place < places) owners.now }
+    requires links_low { All (λ link. (link.provider < places) × (link.slot < length owners.now)) links.now }
+    requires grouped { IsNonDecreasingBy (λ link. link.provider) links.now }
+    ensures len { IfOk result (λ standing. vec_len standing ≡ places) }
+    ensures itself { IfOk result (λ standing. FeedsItself owners.now links.now (stands standing.items)) }
+    ensures greatest { IfOk result (λ standing. (set : ℕ → Bool) → FeedsItself owners.now links.now set → (place : ℕ) → place < places → set place ≡ true → stands standing.items place ≡ true) }
+{
+    let mut counts = counts_of(alloc, owners.len(), links)?;
+    let mut waiting = unfed(alloc, owners, &counts)?;
+    let mut standing = vec![in alloc; true; places]?;
+    while let Some(place) = waiting.pop() {
+        if standing[place] {
+            standing[place] = false;
+            drop_links(&mut counts, &mut waiting, owners, links_from(links, place))?;
+        }
+    }
+    Ok(standing)
+}
