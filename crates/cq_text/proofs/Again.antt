@@ -1,26 +1,31 @@
 -- What fits the grammar is read.
-use Rattle.std.proofs.Common.{◌≡◌, ℕ, zero, suc, ◌≤◌, Bool, true, false, cond, List, [], ◌∷◌, ◌++◌, length, None, Result, Ok, refl, sym, ap, subst, ◌∙◌, append_assoc, arith, inl, inr}
+use Rattle.std.proofs.Common.{◌≡◌, ℕ, ℤ, zero, suc, ◌≤◌, Bool, true, false, cond, List, [], ◌∷◌, ◌++◌, length, None, Result, Ok, refl, sym, ap, subst, ◌∙◌, append_assoc, arith, inl, inr}
 use Rattle.std.specs.Prelude.{codes}
 use Rattle.std.specs.List.{AllByRecursion}
-use Rattle.std.proofs.lemmas.Bool.{le-ltb}
+use Rattle.std.proofs.lemmas.Bool.{le-ltb, le-leb}
+use Rattle.std.proofs.lemmas.List.{append-nil}
 use Rattle.std.proofs.lemmas.Bool.Decides.{nat_tests}
 use Rattle.cq_atom.specs.declared.value.Content.TheVariants.{Number, Text}
 use Rattle.cq_atom.specs.declared.term.TermKind.TheVariants.{Constant, Variable}
 use Rattle.cq_atom.specs.Text.{begins_with_upper, begins_with_lower}
-use Rattle.cq_atom.specs.Atom.{TermContent, AtomRecord}
+use Rattle.cq_atom.specs.Value.{ValueContent}
+use Rattle.cq_atom.specs.Atom.{TermContent, AtomRecord, RowRecord}
 use Rattle.cq_atom.specs.Query.{QueryRecord}
 use Rattle.cq_text.specs.declared.fault.Kind.TheVariants.{Shape}
 use Rattle.cq_text.specs.declared.fault.TextFault.{TextFault}
 use Rattle.cq_text.specs.declared.command.CommandKind.TheVariants.{Blank, Relation, Limits, Post, Withdraw, Insert, Delete, Publish, Show}
+use Rattle.cq_text.specs.declared.limits.TheConstants.{MAX_COUNT}
 use Rattle.cq_text.specs.declared.token.Sign.{Sign}
 use Rattle.cq_text.specs.declared.token.Sign.TheVariants.{OpenBrace, CloseBrace, OpenParen, CloseParen, Comma, Arrow}
-use Rattle.cq_text.specs.declared.token.Token.TheVariants.{Mark, Word, Literal}
+use Rattle.cq_text.specs.declared.token.Close.{Close}
+use Rattle.cq_text.specs.declared.token.Close.TheVariants.{By, End}
+use Rattle.cq_text.specs.declared.token.Token.TheVariants.{Mark, Word, Literal, Finish}
 use Rattle.cq_text.specs.Token.{TokenContent, LexemeContent, flaw, tokens_of}
-use Rattle.cq_text.specs.Grammar.{CommandContent, Separated, IsTermText, IsAtomText, AreAtomsIfAny, IsQueryText, FewTerms, FitsQuery, FitsGrammar, IsServed}
-use Rattle.cq_text.specs.Steps.Reading.{Ahead, fault, ◌>>=◌, next_of, next_at, is_sign, is_finish, relation_in, term_in, sign_at, end_at, has_more_at, Item, listed_at, term_at, terms_at, applied_at, atom_at, atoms_at, atoms_if_any_at}
+use Rattle.cq_text.specs.Grammar.{count_of, IsConstant, IsRowText, CommandContent, Separated, IsTermText, IsAtomText, AreAtomsIfAny, IsQueryText, FewTerms, FitsQuery, FitsGrammar}
+use Rattle.cq_text.specs.Steps.Reading.{value_in, value_at, values_at, row_at, count_at, relation_at, limits_at, withdraw_at, insert_at, delete_at, word_alone, Ahead, fault, ◌>>=◌, next_of, next_at, is_sign, is_finish, relation_in, term_in, sign_at, end_at, has_more_at, Item, listed_at, term_at, terms_at, applied_at, atom_at, atoms_at, atoms_if_any_at, is_close, goes_on_at}
 use Rattle.cq_text.proofs.Derive.{is_sign-same}
-use Rattle.cq_text.proofs.Runs.{parts_at, posted, alone, post_parts, alone_parts, command_parts}
-use Rattle.cq_text.proofs.Taken.{AreShort, ahead}
+use Rattle.cq_text.proofs.Runs.{parts_at, posted, whole, post_parts, command_parts}
+use Rattle.cq_text.proofs.Taken.{AreShort, ahead, closing}
 
 pub AreShort-append : (a b : List TokenContent) → AreShort (a ++ b) → AreShort a × AreShort b
 AreShort-append [] b h = (tt, h)
@@ -65,31 +70,69 @@ GivesItem r x more ts = (b : Ahead) × (r ≡ Ok (x, more, b)) × (ahead b ≡ t
 abbrev pub GivesList : {A : Type 0} → Result (List A × Ahead) TextFault → List A → List TokenContent → Type 0
 GivesList r xs ts = (b : Ahead) × (r ≡ Ok (xs, b)) × (ahead b ≡ ts)
 
+-- an item is read again, and the last one where these tokens stand behind it and those are left
+record ReadsUpTo {A : Type 0} (P : List TokenContent → A → Type 0) (Q : A → Type 0) (item : Item A) (done rest : List TokenContent) : Type 0 where
+  pub more : (a : Ahead) (front ts : List TokenContent) (x : A) → ahead a ≡ front ++ (Mark Comma ∷ ts) → P front x → AreShort front → Q x → GivesItem (item true a) x true ts
+  pub last : (a : Ahead) (front : List TokenContent) (x : A) → ahead a ≡ front ++ done → P front x → AreShort front → Q x → GivesItem (item true a) x false rest
+
+listed_up_to : {A : Type 0} (P : List TokenContent → A → Type 0) (Q : A → Type 0) (item : Item A) (n : ℕ) (xs : List A) (inner done rest : List TokenContent) (a : Ahead)
+    → ReadsUpTo P Q item done rest → ahead a ≡ inner ++ done → Separated P inner xs → AreShort inner → length xs ≤ n → AllByRecursion Q xs → GivesList (listed_at item n a) xs rest
+unfolding listed_at
+listed_up_to P Q item n [] inner done rest a one e p h le fits = absurd p
+listed_up_to P Q item zero (x ∷ xs) inner done rest a one e p h le fits = let never : ⊥ = omega arith in absurd never
+listed_up_to P Q item (suc n) (x ∷ []) inner done rest a one e p h le fits =
+    let g = one.last a inner x e p h fits.0 in
+    (g.0, rw g.1 refl, g.2)
+listed_up_to P Q item (suc n) (x ∷ y ∷ xs) inner done rest a one e (f, r, d, p, q) h le fits =
+    let both = AreShort-append f (Mark Comma ∷ r) (subst AreShort d h) in
+    let g = one.more a f (r ++ done) x (e ∙ ap (λ (i : List TokenContent). i ++ done) d ∙ append_assoc f (Mark Comma ∷ r) done) p both.0 fits.0 in
+    let i = listed_up_to P Q item n (y ∷ xs) r done rest g.0 one g.2 q both.1.1 (omega arith) fits.1 in
+    (i.0, rw (g.1, i.1) refl, i.2)
+
 abbrev ReadsItems : {A : Type 0} → (List TokenContent → A → Type 0) → (A → Type 0) → Sign → Item A → Type 0
 ReadsItems {A} P Q close item = (a : Ahead) (front ts : List TokenContent) (x : A) (more : Bool) → ahead a ≡ front ++ (Mark (cond more Comma close) ∷ ts) → P front x → AreShort front → Q x → GivesItem (item true a) x more ts
 
+-- the same where a sign closes
 listed_again : {A : Type 0} (P : List TokenContent → A → Type 0) (Q : A → Type 0) (close : Sign) (item : Item A) (n : ℕ) (xs : List A) (inner rest : List TokenContent) (a : Ahead)
     → ReadsItems P Q close item → ahead a ≡ inner ++ (Mark close ∷ rest) → Separated P inner xs → AreShort inner → length xs ≤ n → AllByRecursion Q xs → GivesList (listed_at item n a) xs rest
-unfolding listed_at
-listed_again P Q close item n [] inner rest a one e p h le fits = absurd p
-listed_again P Q close item zero (x ∷ xs) inner rest a one e p h le fits = let never : ⊥ = omega arith in absurd never
-listed_again P Q close item (suc n) (x ∷ []) inner rest a one e p h le fits =
-    let g = one a inner rest x false e p h fits.0 in
-    (g.0, rw g.1 refl, g.2)
-listed_again P Q close item (suc n) (x ∷ y ∷ xs) inner rest a one e (f, r, d, p, q) h le fits =
-    let both = AreShort-append f (Mark Comma ∷ r) (subst AreShort d h) in
-    let g = one a f (r ++ (Mark close ∷ rest)) x true (e ∙ ap (λ (i : List TokenContent). i ++ (Mark close ∷ rest)) d ∙ append_assoc f (Mark Comma ∷ r) (Mark close ∷ rest)) p both.0 fits.0 in
-    let i = listed_again P Q close item n (y ∷ xs) r rest g.0 one g.2 q both.1.1 (omega arith) fits.1 in
-    (i.0, rw (g.1, i.1) refl, i.2)
+listed_again P Q close item n xs inner rest a one e p h le fits =
+    listed_up_to P Q item n xs inner (Mark close ∷ rest) rest a (record { more = λ b front ts x. one b front ts x true; last = λ b front x. one b front rest x false }) e p h le fits
 
 -- close is no comma
 record IsClose (close : Sign) : Type 0 where
   pub apart : is_sign Comma (Mark close) ≡ false
 
 has_more_again : (close : Sign) (a : Ahead) (more : Bool) (ts : List TokenContent) → IsClose close → ahead a ≡ Mark (cond more Comma close) ∷ ts → (b : Ahead) × (has_more_at close a ≡ Ok (more, b)) × (ahead b ≡ ts)
-unfolding has_more_at
+unfolding goes_on_at
 has_more_again close a true ts k e = let n = next_is a (Mark Comma) ts e refl in (n.rest, rw (n.reads, n.is) refl, n.left)
 has_more_again close a false ts k e = let n = next_is a (Mark close) ts e refl in (n.rest, rw (n.reads, n.is, k.apart, is_sign-same close) refl, n.left)
+
+-- what closes a list is no comma
+abbrev Closable : Close → Type 0
+Closable (By s) = IsClose s
+Closable End = Unit {0}
+
+-- what is left behind what closes
+abbrev left_by : Close → List TokenContent → List TokenContent
+left_by (By s) ts = ts
+left_by End ts = []
+
+goes_on_more : (close : Close) (a : Ahead) (ts : List TokenContent) → ahead a ≡ Mark Comma ∷ ts → (b : Ahead) × (goes_on_at close a ≡ Ok (true, b)) × (ahead b ≡ ts)
+unfolding goes_on_at
+goes_on_more close a ts e = let n = next_is a (Mark Comma) ts e refl in (n.rest, rw (n.reads, n.is) refl, n.left)
+
+next_nothing : (a : Ahead) → ahead a ≡ [] → (l : LexemeContent) × (b : Ahead) × (next_at a ≡ Ok (l, b)) × (l.token ≡ Finish) × (ahead b ≡ [])
+unfolding next_at
+next_nothing a e = over a.lexemes refl e
+  where
+    over : (ls : List LexemeContent) → a.lexemes ≡ ls → tokens_of ls ≡ [] → (l : LexemeContent) × (b : Ahead) × (next_of a.lexemes a.end ≡ Ok (l, b)) × (l.token ≡ Finish) × (ahead b ≡ [])
+    over [] d e = (record { at = a.end; token = Finish }, record { lexemes = []; end = a.end }, rw d refl, refl, refl)
+    over (l ∷ ls) d e = absurd cc
+
+goes_on_last : (close : Close) (a : Ahead) (ts : List TokenContent) → Closable close → ahead a ≡ closing close ts → (b : Ahead) × (goes_on_at close a ≡ Ok (false, b)) × (ahead b ≡ left_by close ts)
+unfolding goes_on_at
+goes_on_last (By close) a ts k e = has_more_again close a false ts k e
+goes_on_last End a ts k e = let n = next_nothing a e in (n.1, rw (n.2, n.3) refl, n.4)
 
 -- ---- terms
 
@@ -133,6 +176,41 @@ terms_again : (xs : List TermContent) (inner rest : List TokenContent) (a : Ahea
 unfolding terms_at
 terms_again xs inner rest a e p h le = listed_again IsTermText AnyTerm CloseParen term_at 8 xs inner rest a term_again e p h le (all_terms xs)
 
+-- ---- ground atoms
+
+-- one token that a constant is
+record OneValue (front : List TokenContent) (v : ValueContent) : Type 0 where
+  pub token : TokenContent
+  pub is : front ≡ token ∷ []
+  pub good : flaw token ≡ None
+  pub gives : (at : ℕ) → value_in token at ≡ Ok v
+
+value_is : (front : List TokenContent) (v : ValueContent) → IsConstant front v → AreShort front → OneValue front v
+value_is front (Number n) e h = record { token = Literal (Number n); is = e; good = refl; gives = λ at. refl }
+value_is front (Text w) (inl e) h = record { token = Literal (Text w); is = e; good = refl; gives = λ at. refl }
+value_is front (Text w) (inr (e, u)) h =
+    let s = subst AreShort e h in
+    record { token = Word w; is = e; good = refl; gives = λ at. rw (u, le-ltb 32 (length w) s.0) refl }
+
+abbrev AnyValue : ValueContent → Type 0
+AnyValue v = Unit {0}
+
+value_again : ReadsItems IsConstant AnyValue CloseParen value_at
+unfolding value_at
+value_again a front ts v more e p h fits =
+    let o = value_is front v p h in
+    let n = next_is a o.token (Mark (cond more Comma CloseParen) ∷ ts) (e ∙ ap (λ (i : List TokenContent). i ++ (Mark (cond more Comma CloseParen) ∷ ts)) o.is) o.good in
+    let m = has_more_again CloseParen n.rest more ts (record { apart = refl }) n.left in
+    (m.0, rw (n.reads, n.is, o.gives n.lexeme.at, m.1) refl, m.2)
+
+all_values : (vs : List ValueContent) → AllByRecursion AnyValue vs
+all_values [] = tt
+all_values (v ∷ vs) = (tt, all_values vs)
+
+values_again : (vs : List ValueContent) (inner rest : List TokenContent) (a : Ahead) → ahead a ≡ inner ++ (Mark CloseParen ∷ rest) → Separated IsConstant inner vs → AreShort inner → length vs ≤ 8 → GivesList (values_at a) vs rest
+unfolding values_at
+values_again vs inner rest a e p h le = listed_again IsConstant AnyValue CloseParen value_at 8 vs inner rest a value_again e p h le (all_values vs)
+
 -- ---- atoms
 
 applied_again : (x : AtomRecord) (inner rest : List TokenContent) (a : Ahead) → ahead a ≡ Mark OpenParen ∷ (inner ++ (Mark CloseParen ∷ rest)) → Separated IsTermText inner x.terms → AreShort inner → FewTerms x → (b : Ahead) × (applied_at x.relation a ≡ Ok (x, b)) × (ahead b ≡ rest)
@@ -145,20 +223,64 @@ applied_again x inner rest a e p h le =
 relation_again : (w : List ℕ) (at : ℕ) → begins_with_upper w ≡ true → length w ≤ 32 → relation_in (Word w) at ≡ Ok w
 relation_again w at u h = rw (u, le-ltb 32 (length w) h) refl
 
-atom_again : (close : Sign) → IsClose close → ReadsItems IsAtomText FewTerms close (atom_at close)
+pub row_again : (a : Ahead) (row : RowRecord) → IsRowText (ahead a) row → AreShort (ahead a) → length row.values ≤ 8 → row_at a ≡ Ok row
+unfolding row_at
+row_again a row (inner, d, u, sep) short few =
+    let s = subst AreShort d short in
+    let ends = AreShort-append inner (Mark CloseParen ∷ []) s.1.1 in
+    let n = next_is a (Word row.relation) (Mark OpenParen ∷ (inner ++ (Mark CloseParen ∷ []))) d refl in
+    let o = sign_is OpenParen n.rest (inner ++ (Mark CloseParen ∷ [])) n.left in
+    let v = values_again row.values inner [] o.0 o.2 sep ends.0 few in
+    let e = end_is v.0 v.2 in
+    rw (n.reads, n.is, relation_again row.relation n.lexeme.at u s.0, o.1, v.1, e.1) refl
+
+-- ---- counts
+
+count_again : (most : ℕ) (a : Ahead) (n : ℤ) (ts : List TokenContent) → ahead a ≡ Literal (Number n) ∷ ts → 1 ≤ count_of n → count_of n ≤ most → (b : Ahead) × (count_at most a ≡ Ok (count_of n, b)) × (ahead b ≡ ts)
+unfolding count_at
+count_again most a n ts e some few =
+    let l = next_is a (Literal (Number n)) ts e refl in
+    (l.rest, rw (l.reads, l.is, le-leb 1 (count_of n) some, le-leb (count_of n) most few) refl, l.left)
+
+relation_again_at : (a : Ahead) (w : List ℕ) (n : ℤ) → ahead a ≡ Word w ∷ Literal (Number n) ∷ [] → begins_with_upper w ≡ true → length w ≤ 32 → 1 ≤ count_of n → count_of n ≤ 8 → relation_at a ≡ Ok (Relation w (count_of n))
+unfolding relation_at
+relation_again_at a w n e u short some few =
+    let l = next_is a (Word w) (Literal (Number n) ∷ []) e refl in
+    let k = count_again 8 l.rest n [] l.left some few in
+    let f = end_is k.0 k.2 in
+    rw (l.reads, l.is, relation_again w l.lexeme.at u short, k.1, f.1) refl
+
+limits_again : (a : Ahead) (m n : ℤ) → ahead a ≡ Literal (Number m) ∷ Literal (Number n) ∷ [] → 1 ≤ count_of m → count_of m ≤ MAX_COUNT → 1 ≤ count_of n → count_of n ≤ MAX_COUNT → limits_at a ≡ Ok (Limits (count_of m) (count_of n))
+unfolding limits_at
+limits_again a m n e some few more fewer =
+    let j = count_again MAX_COUNT a m (Literal (Number n) ∷ []) e some few in
+    let k = count_again MAX_COUNT j.0 n [] j.2 more fewer in
+    let f = end_is k.0 k.2 in
+    rw (j.1, k.1, f.1) refl
+
+-- ---- atoms in lists
+
+-- an atom is read again, whatever stands behind it that shows whether more come
+atom_with : (close : Close) (a : Ahead) (front next : List TokenContent) (x : AtomRecord) (more : Bool) (ts : List TokenContent) → ((c : Ahead) → ahead c ≡ next → (b : Ahead) × (goes_on_at close c ≡ Ok (more, b)) × (ahead b ≡ ts))
+    → ahead a ≡ front ++ next → IsAtomText front x → AreShort front → FewTerms x → GivesItem (atom_at close true a) x more ts
 unfolding atom_at
-atom_again close k a front ts x more e (inner, d, u, sep) h fits =
+atom_with close a front next x more ts shows e (inner, d, u, sep) h fits =
     let s = subst AreShort d h in
     let ends = AreShort-append inner (Mark CloseParen ∷ []) s.1.1 in
-    let next : List TokenContent = Mark (cond more Comma close) ∷ ts in
     let n = next_is a (Word x.relation) (Mark OpenParen ∷ (inner ++ (Mark CloseParen ∷ next))) (e ∙ ap (λ (i : List TokenContent). i ++ next) d ∙ ap (λ (i : List TokenContent). Word x.relation ∷ Mark OpenParen ∷ i) (append_assoc inner (Mark CloseParen ∷ []) next)) refl in
     let y = applied_again x inner next n.rest n.left sep ends.0 fits in
-    let m = has_more_again close y.0 more ts k y.2 in
+    let m = shows y.0 y.2 in
     (m.0, rw (n.reads, n.is, relation_again x.relation n.lexeme.at u s.0, y.1, m.1) refl, m.2)
 
-atoms_again : (close : Sign) (xs : List AtomRecord) (inner rest : List TokenContent) (a : Ahead) → IsClose close → ahead a ≡ inner ++ (Mark close ∷ rest) → Separated IsAtomText inner xs → AreShort inner → length xs ≤ 8 → AllByRecursion FewTerms xs → GivesList (atoms_at close a) xs rest
+atom_again : (close : Close) (ts : List TokenContent) → Closable close → ReadsUpTo IsAtomText FewTerms (atom_at close) (closing close ts) (left_by close ts)
+atom_again close ts k = record {
+  more = λ a front rest x. atom_with close a front (Mark Comma ∷ rest) x true rest (λ c. goes_on_more close c rest);
+  last = λ a front x. atom_with close a front (closing close ts) x false (left_by close ts) (λ c. goes_on_last close c ts k);
+}
+
+atoms_again : (close : Close) (xs : List AtomRecord) (inner rest : List TokenContent) (a : Ahead) → Closable close → ahead a ≡ inner ++ closing close rest → Separated IsAtomText inner xs → AreShort inner → length xs ≤ 8 → AllByRecursion FewTerms xs → GivesList (atoms_at close a) xs (left_by close rest)
 unfolding atoms_at
-atoms_again close xs inner rest a k e p h le fits = listed_again IsAtomText FewTerms close (atom_at close) 8 xs inner rest a (atom_again close k) e p h le fits
+atoms_again close xs inner rest a k e p h le fits = listed_up_to IsAtomText FewTerms (atom_at close) 8 xs inner (closing close rest) (left_by close rest) a (atom_again close rest k) e p h le fits
 
 -- atoms begin with a word
 begins_word : (xs : List AtomRecord) (inner rest : List TokenContent) → Separated IsAtomText inner xs → (w : List ℕ) × (more : List TokenContent) × (inner ++ rest ≡ Word w ∷ more)
@@ -166,70 +288,99 @@ begins_word [] inner rest p = absurd p
 begins_word (x ∷ []) inner rest (i, d, u, sep) = (x.relation, _, ap (λ (l : List TokenContent). l ++ rest) d)
 begins_word (x ∷ y ∷ xs) inner rest (f, r, d, (i, e, u, sep), q) = (x.relation, _, ap (λ (l : List TokenContent). l ++ rest) (d ∙ ap (λ (l : List TokenContent). l ++ (Mark Comma ∷ r)) e))
 
-posts_again : (xs : List AtomRecord) (inner rest : List TokenContent) (a : Ahead) → ahead a ≡ inner ++ (Mark CloseBrace ∷ rest) → AreAtomsIfAny inner xs → AreShort inner → length xs ≤ 8 → AllByRecursion FewTerms xs → GivesList (atoms_if_any_at CloseBrace a) xs rest
+no_close : (close : Close) (t : TokenContent) (w : List ℕ) → t ≡ Word w → is_close close t ≡ false
+no_close (By s) t w e = ap (is_sign s) e
+no_close End t w e = ap is_finish e
+
+closed_at_once : (close : Close) (a : Ahead) (rest : List TokenContent) → ahead a ≡ closing close rest → GivesList (atoms_if_any_at close a) [] (left_by close rest)
 unfolding atoms_if_any_at
-posts_again [] inner rest a e p h le fits =
-    let n = next_is a (Mark CloseBrace) rest (e ∙ ap (λ (i : List TokenContent). i ++ (Mark CloseBrace ∷ rest)) p) refl in
-    (n.rest, rw (n.reads, n.is) refl, n.left)
-posts_again (x ∷ xs) inner rest a e p h le fits =
-    let b = begins_word (x ∷ xs) inner (Mark CloseBrace ∷ rest) p in
+closed_at_once (By s) a rest e = let n = next_is a (Mark s) rest e refl in (n.rest, rw (n.reads, n.is, is_sign-same s) refl, n.left)
+closed_at_once End a rest e = let n = next_nothing a e in (n.1, rw (n.2, n.3) refl, n.4)
+
+atoms_if_any_again : (close : Close) (xs : List AtomRecord) (inner rest : List TokenContent) (a : Ahead) → Closable close → ahead a ≡ inner ++ closing close rest → AreAtomsIfAny inner xs → AreShort inner → length xs ≤ 8 → AllByRecursion FewTerms xs → GivesList (atoms_if_any_at close a) xs (left_by close rest)
+unfolding atoms_if_any_at
+atoms_if_any_again close [] inner rest a k e p h le fits = closed_at_once close a rest (e ∙ ap (λ (i : List TokenContent). i ++ closing close rest) p)
+atoms_if_any_again close (x ∷ xs) inner rest a k e p h le fits =
+    let b = begins_word (x ∷ xs) inner (closing close rest) p in
     let n = next_is a (Word b.0) b.1 (e ∙ b.2) refl in
-    let i = atoms_again CloseBrace (x ∷ xs) inner rest a (record { apart = refl }) e p h le fits in
-    (i.0, rw (n.reads, n.is, i.1) refl, i.2)
+    let i = atoms_again close (x ∷ xs) inner rest a k e p h le fits in
+    (i.0, rw (n.reads, no_close close n.lexeme.token b.0 n.is, i.1) refl, i.2)
 
 -- ---- queries and commands
 
-no_body : (body : List AtomRecord) (ts : List TokenContent) → AreAtomsIfAny ts body → body ≡ [] → ts ≡ []
-no_body [] ts m e = m
-no_body (x ∷ xs) ts m e = absurd cc
-
--- a query without a body that fits the grammar is read as its parts
-pub parts_again : (a : Ahead) (query : QueryRecord) → IsQueryText (ahead a) query → AreShort (ahead a) → FitsQuery query → query.body ≡ [] → (inner : Ahead) × (parts_at a ≡ Ok (query.posts, query.heads, inner))
+-- a query that fits the grammar is read as its parts
+pub parts_again : (a : Ahead) (query : QueryRecord) → IsQueryText (ahead a) query → AreShort (ahead a) → FitsQuery query → (inner : Ahead) × (parts_at a ≡ Ok (query.posts, query.heads, query.body, inner))
 unfolding parts_at
-parts_again a query (ps, hs, body, e, p, h, b) short fits served =
-    let none = no_body query.body body b served in
-    let tokens : ahead a ≡ Mark OpenBrace ∷ (ps ++ (Mark CloseBrace ∷ (hs ++ (Mark Arrow ∷ [])))) = e ∙ ap (λ (l : List TokenContent). Mark OpenBrace ∷ (ps ++ (Mark CloseBrace ∷ (hs ++ (Mark Arrow ∷ l))))) none in
-    let s = subst AreShort tokens short in
-    let sp = AreShort-append ps (Mark CloseBrace ∷ (hs ++ (Mark Arrow ∷ []))) s.1 in
-    let sh = AreShort-append hs (Mark Arrow ∷ []) sp.1.1 in
-    let o = sign_is OpenBrace a (ps ++ (Mark CloseBrace ∷ (hs ++ (Mark Arrow ∷ [])))) tokens in
-    let x = posts_again query.posts ps (hs ++ (Mark Arrow ∷ [])) o.0 o.2 p sp.0 fits.0 fits.3 in
-    let y = atoms_again Arrow query.heads hs [] x.0 (record { apart = refl }) x.2 h sh.0 fits.1 fits.4 in
-    let f = end_is y.0 y.2 in
-    (o.0, rw (o.1, x.1, y.1, f.1) refl)
+parts_again a query (ps, hs, bs, e, p, h, b) short fits =
+    let s = subst AreShort e short in
+    let sp = AreShort-append ps (Mark CloseBrace ∷ (hs ++ (Mark Arrow ∷ bs))) s.1 in
+    let sh = AreShort-append hs (Mark Arrow ∷ bs) sp.1.1 in
+    let o = sign_is OpenBrace a (ps ++ (Mark CloseBrace ∷ (hs ++ (Mark Arrow ∷ bs)))) e in
+    let x = atoms_if_any_again (By CloseBrace) query.posts ps (hs ++ (Mark Arrow ∷ bs)) o.0 (record { apart = refl }) o.2 p sp.0 fits.0 fits.3 in
+    let y = atoms_again (By Arrow) query.heads hs bs x.0 (record { apart = refl }) x.2 h sh.0 fits.1 fits.4 in
+    let z = atoms_if_any_again End query.body bs [] y.0 tt (y.2 ∙ sym (append-nil bs)) b sh.1.1 fits.2 fits.5 in
+    (o.0, rw (o.1, x.1, y.1, z.1) refl)
 
--- the parts that a served command is read as
+-- the parts that a command is read as
 abbrev pub ReadAs : Ahead → CommandContent → Type 0
 ReadAs a Blank = ⊥
-ReadAs a (Relation n c) = ⊥
-ReadAs a (Limits p j) = ⊥
-ReadAs a (Post w query) = (inner : Ahead) × (command_parts a ≡ Ok (posted w (query.posts, query.heads, inner)))
-ReadAs a (Withdraw n) = ⊥
-ReadAs a (Insert row) = ⊥
-ReadAs a (Delete row) = ⊥
-ReadAs a Publish = command_parts a ≡ Ok (alone Publish)
-ReadAs a Show = command_parts a ≡ Ok (alone Show)
+ReadAs a (Relation n c) = command_parts a ≡ Ok (whole (Relation n c))
+ReadAs a (Limits p j) = command_parts a ≡ Ok (whole (Limits p j))
+ReadAs a (Post w query) = (inner : Ahead) × (command_parts a ≡ Ok (posted w (query.posts, query.heads, query.body, inner)))
+ReadAs a (Withdraw n) = command_parts a ≡ Ok (whole (Withdraw n))
+ReadAs a (Insert row) = command_parts a ≡ Ok (whole (Insert row))
+ReadAs a (Delete row) = command_parts a ≡ Ok (whole (Delete row))
+ReadAs a Publish = command_parts a ≡ Ok (whole Publish)
+ReadAs a Show = command_parts a ≡ Ok (whole Show)
 
-pub command_again : (a : Ahead) (c : CommandContent) → FitsGrammar a.lexemes c → IsServed c → ReadAs a c
-unfolding command_parts post_parts alone_parts
-command_again a Blank f served = absurd f.sentence
-command_again a (Relation n c) f served = absurd served
-command_again a (Limits p j) f served = absurd served
-command_again a (Post w query) f served =
+pub command_again : (a : Ahead) (c : CommandContent) → FitsGrammar a.lexemes c → ReadAs a c
+unfolding command_parts post_parts withdraw_at insert_at delete_at word_alone
+command_again a Blank f = absurd f.sentence
+command_again a (Relation w c) f =
+    let n = f.sentence.0 in
+    let is = f.sentence.3 in
+    let s = subst AreShort f.sentence.1 f.short in
+    let l = next_is a (Word (codes "relation")) (Word w ∷ Literal (Number n) ∷ []) f.sentence.1 refl in
+    let r = relation_again_at l.rest w n l.left f.sentence.2 s.1.0 (subst (λ (k : ℕ). 1 ≤ k) is f.fits.0) (subst (λ (k : ℕ). k ≤ 8) is f.fits.1) in
+    rw (l.reads, l.is, r) (ap (λ (k : ℕ). Ok (whole (Relation w k))) (sym is))
+command_again a (Limits p j) f =
+    let m = f.sentence.0 in
+    let n = f.sentence.1 in
+    let one = f.sentence.3 in
+    let two = f.sentence.4 in
+    let l = next_is a (Word (codes "limits")) (Literal (Number m) ∷ Literal (Number n) ∷ []) f.sentence.2 refl in
+    let r = limits_again l.rest m n l.left (subst (λ (k : ℕ). 1 ≤ k) one f.fits.0) (subst (λ (k : ℕ). k ≤ MAX_COUNT) one f.fits.1) (subst (λ (k : ℕ). 1 ≤ k) two f.fits.2) (subst (λ (k : ℕ). k ≤ MAX_COUNT) two f.fits.3) in
+    rw (l.reads, l.is, r) (ap (λ (k : ℕ). Ok (whole (Limits k (count_of n)))) (sym one) ∙ ap (λ (k : ℕ). Ok (whole (Limits p k))) (sym two))
+command_again a (Post w query) f =
     let rest = f.sentence.0 in
     let s = subst AreShort f.sentence.1 f.short in
     let n = next_is a (Word (codes "post")) (Word w ∷ rest) f.sentence.1 refl in
     let m = next_is n.rest (Word w) rest n.left refl in
-    let q = parts_again m.rest query (subst (λ (ts : List TokenContent). IsQueryText ts query) (sym m.left) f.sentence.2) (subst AreShort (sym m.left) s.1.1) f.fits served in
+    let q = parts_again m.rest query (subst (λ (ts : List TokenContent). IsQueryText ts query) (sym m.left) f.sentence.2) (subst AreShort (sym m.left) s.1.1) f.fits in
     (q.0, rw (n.reads, n.is, m.reads, m.is, le-ltb 32 (length w) s.1.0, q.1) refl)
-command_again a (Withdraw n) f served = absurd served
-command_again a (Insert row) f served = absurd served
-command_again a (Delete row) f served = absurd served
-command_again a Publish f served =
+command_again a (Withdraw w) f =
+    let s = subst AreShort f.sentence f.short in
+    let n = next_is a (Word (codes "withdraw")) (Word w ∷ []) f.sentence refl in
+    let m = next_is n.rest (Word w) [] n.left refl in
+    let e = end_is m.rest m.left in
+    rw (n.reads, n.is, m.reads, m.is, le-ltb 32 (length w) s.1.0, e.1) refl
+command_again a (Insert row) f =
+    let rest = f.sentence.0 in
+    let s = subst AreShort f.sentence.1 f.short in
+    let n = next_is a (Word (codes "insert")) rest f.sentence.1 refl in
+    let r = row_again n.rest row (subst (λ (ts : List TokenContent). IsRowText ts row) (sym n.left) f.sentence.2) (subst AreShort (sym n.left) s.1) f.fits in
+    rw (n.reads, n.is, r) refl
+command_again a (Delete row) f =
+    let rest = f.sentence.0 in
+    let s = subst AreShort f.sentence.1 f.short in
+    let n = next_is a (Word (codes "delete")) rest f.sentence.1 refl in
+    let r = row_again n.rest row (subst (λ (ts : List TokenContent). IsRowText ts row) (sym n.left) f.sentence.2) (subst AreShort (sym n.left) s.1) f.fits in
+    rw (n.reads, n.is, r) refl
+command_again a Publish f =
     let n = next_is a (Word (codes "publish")) [] f.sentence refl in
     let e = end_is n.rest n.left in
     rw (n.reads, n.is, e.1) refl
-command_again a Show f served =
+command_again a Show f =
     let n = next_is a (Word (codes "show")) [] f.sentence refl in
     let e = end_is n.rest n.left in
     rw (n.reads, n.is, e.1) refl

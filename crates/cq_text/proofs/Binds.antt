@@ -12,6 +12,10 @@ pub bind_same : {A B : Type 0} (r : Result A TextFault) (f g : A → Result B Te
 bind_same (Ok x) f g h = h x
 bind_same (Err e) f g h = refl
 
+pub bind_ok_same : {A B : Type 0} (r : Result A TextFault) (f g : A → Result B TextFault) → ((x : A) → r ≡ Ok x → f x ≡ g x) → (r >>= f) ≡ (r >>= g)
+bind_ok_same (Ok x) f g h = h x refl
+bind_ok_same (Err e) f g h = refl
+
 pub bind_cond : {A B : Type 0} (b : Bool) (x y : Result A TextFault) (f : A → Result B TextFault) → (cond b x y >>= f) ≡ cond b (x >>= f) (y >>= f)
 bind_cond true x y f = refl
 bind_cond false x y f = refl

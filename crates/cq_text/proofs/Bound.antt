@@ -1,18 +1,15 @@
--- Which queries without a body have an unbound variable, and where it stands.
-use Rattle.std.proofs.Common.{◌≡◌, ℕ, suc, ◌+◌, ◌<◌, ◌≤◌, Bool, true, false, List, [], ◌∷◌, ◌++◌, length, Option, Some, None, Result, Ok, refl, sym, ap, ◌∙◌, arith, inl, inr, ◌⊎◌}
-use Rattle.std.specs.Prelude.{not, nat_lt, ◌||◌}
-use Rattle.std.specs.List.{list_any, AllByRecursion, position_or_len}
-use Rattle.std.proofs.lemmas.Bool.{cases_lt, lt-ltb, le-ltb, le-leb}
-use Rattle.std.proofs.lemmas.Bool.Decides.{nat_tests}
-use Rattle.cq_atom.specs.declared.fault.Bad.{Bad as Refusal}
-use Rattle.cq_atom.specs.declared.fault.Bad.TheVariants as refusals
-use Rattle.cq_atom.specs.declared.fault.Part.{Part}
-use Rattle.cq_atom.specs.declared.fault.Part.TheVariants.{Posts, Heads}
+-- Which queries have an unbound variable, and where it stands.
+use Rattle.std.proofs.Common.{◌≡◌, ℕ, Bool, true, false, List, [], ◌∷◌, ◌++◌, Option, Some, None, Result, Ok, refl, sym, ap, subst, ◌∙◌, append_assoc, arith, inl, inr, ◌⊎◌}
+use Rattle.std.specs.Prelude.{not, ◌||◌}
+use Rattle.std.specs.Str.{bytes_eq}
+use Rattle.std.specs.List.{list_any, AllByRecursion}
+use Rattle.std.proofs.lemmas.Bool.Decides.{nat_tests, Decides-eqb}
+use Rattle.std.proofs.lemmas.Slice.Eq.{slice_eq-Decides}
 use Rattle.cq_atom.specs.declared.value.Content.TheVariants.{Number, Text}
 use Rattle.cq_atom.specs.declared.term.TermKind.TheVariants.{Constant, Variable}
 use Rattle.cq_atom.specs.Text.{begins_with_upper, begins_with_lower}
 use Rattle.cq_atom.specs.Atom.{TermContent, AtomRecord}
-use Rattle.cq_atom.specs.Query.{is_bound, unbound_term, first_unbound, or_else, query_fault}
+use Rattle.cq_atom.specs.Query.{QueryRecord, is_variable, is_bound}
 use Rattle.cq_text.specs.declared.fault.Kind.{Kind}
 use Rattle.cq_text.specs.declared.fault.Kind.TheVariants.{Unbound}
 use Rattle.cq_text.specs.declared.fault.TextFault.{TextFault}
@@ -21,7 +18,8 @@ use Rattle.cq_text.specs.declared.token.Token.TheVariants.{Mark, Word}
 use Rattle.cq_text.specs.Token.{TokenContent, LexemeContent, flaw, tokens_of}
 use Rattle.cq_text.specs.Grammar.{Separated, IsTermText, IsAtomText, AreAtomsIfAny, AreBound, IsRestricted}
 use Rattle.cq_text.specs.Fault.{Place, is_over, behind_token, is_unbound, first_unbound_at}
-use Rattle.cq_text.specs.Steps.Reading.{Ahead, fault, first_variable_of, first_variable_at, query_record, bound_query}
+use Rattle.cq_text.specs.Steps.Binding.{has_unbound, have_unbound}
+use Rattle.cq_text.specs.Steps.Reading.{Ahead, fault, first_unbound_of, first_unbound_from, query_record, bound_query}
 use Rattle.cq_text.proofs.Machine.{Symbol, take_token}
 use Rattle.cq_text.proofs.Scan.{on_token, after_flaw, scan}
 use Rattle.cq_text.proofs.Runs.{QueryParts}
@@ -39,141 +37,115 @@ or_none : (a b : Bool) → (a || b) ≡ false → (a ≡ false) × (b ≡ false)
 or_none true b e = absurd cc
 or_none false b e = (refl, e)
 
--- ---- atoms
-
-abbrev unbound : TermContent → Bool
-unbound t = not (is_bound [] t)
-
-abbrev pub has_variable : AtomRecord → Bool
-has_variable a = list_any unbound a.terms
-
-abbrev pub have_variable : List AtomRecord → Bool
-have_variable atoms = list_any has_variable atoms
-
-less_suc : (m n : ℕ) → nat_lt (1 + m) (suc n) ≡ nat_lt m n
-less_suc m n = elim (cases_lt m n) [
-  | inl lt ↦ let more : 1 + m < suc n = omega arith in rw (lt-ltb (1 + m) (suc n) more, lt-ltb m n lt) refl
-  | inr ge ↦ let more : suc n ≤ 1 + m = omega arith in rw (le-ltb (1 + m) (suc n) more, le-ltb m n ge) refl
-]
-
-position_case : {X : Type 0} (p : X → Bool) (x : X) (xs : List X) (t : Bool) → p x ≡ t → nat_lt (position_or_len p xs) (length xs) ≡ list_any p xs → nat_lt (position_or_len p (x ∷ xs)) (length (x ∷ xs)) ≡ list_any p (x ∷ xs)
-position_case p x xs true e ih = let lt : 0 < suc (length xs) = omega arith in rw e (lt-ltb 0 (suc (length xs)) lt)
-position_case p x xs false e ih = rw e (less_suc (position_or_len p xs) (length xs) ∙ ih)
-
-position_any : {X : Type 0} (p : X → Bool) (xs : List X) → nat_lt (position_or_len p xs) (length xs) ≡ list_any p xs
-position_any p [] = refl
-position_any p (x ∷ xs) = position_case p x xs (p x) refl (position_any p xs)
-
-term_none : (a : AtomRecord) → has_variable a ≡ false → unbound_term [] a ≡ None
-term_none a e = rw (position_any unbound a.terms ∙ e) refl
-
-term_some : (a : AtomRecord) → has_variable a ≡ true → (i : ℕ) × (unbound_term [] a ≡ Some i)
-term_some a e = (position_or_len unbound a.terms, rw (position_any unbound a.terms ∙ e) refl)
-
-first_none : (part : Part) (i : ℕ) (atoms : List AtomRecord) → have_variable atoms ≡ false → first_unbound part [] i atoms ≡ None
-first_none part i [] e = refl
-first_none part i (a ∷ rest) e = let n = or_none (has_variable a) (have_variable rest) e in rw (term_none a n.0, first_unbound) (first_none part (i + 1) rest n.1)
-
-first_some : (part : Part) (i : ℕ) (atoms : List AtomRecord) → have_variable atoms ≡ true → (refusal : Refusal) × (first_unbound part [] i atoms ≡ Some refusal)
-first_some part i [] e = absurd cc
-first_some part i (a ∷ rest) e = by_case (has_variable a) refl e (first_some part (i + 1) rest)
-  where
-    by_case : (b : Bool) → has_variable a ≡ b → (b || have_variable rest) ≡ true → (have_variable rest ≡ true → (refusal : Refusal) × (first_unbound part [] (i + 1) rest ≡ Some refusal)) → (refusal : Refusal) × (first_unbound part [] i (a ∷ rest) ≡ Some refusal)
-    by_case true h k more = let t = term_some a h in (refusals.Unbound part i t.0, rw (t.1, first_unbound) refl)
-    by_case false h k more = let m = more k in (m.0, rw (term_none a h, first_unbound) m.1)
-
-or_else_some : (o p : Option Refusal) (r : Refusal) → (o ≡ Some r) ⊎ (p ≡ Some r) → (refusal : Refusal) × (or_else o p ≡ Some refusal)
-or_else_some None p r (inl e) = absurd cc
-or_else_some None p r (inr e) = (r, e)
-or_else_some (Some s) p r e = (s, refl)
-
--- the lists have a refusal only for a variable
-only_variables : (ps : List AtomRecord) (h : AtomRecord) (hs : List AtomRecord) → length ps ≤ 8 → length (h ∷ hs) ≤ 8 → query_fault ps (h ∷ hs) [] ≡ or_else (first_unbound Posts [] 0 ps) (first_unbound Heads [] 0 (h ∷ hs))
-only_variables ps h hs p q = rw (le-leb (length ps) 8 p, le-leb (length (h ∷ hs)) 8 q) refl
-
-fault_none : (ps : List AtomRecord) (h : AtomRecord) (hs : List AtomRecord) → length ps ≤ 8 → length (h ∷ hs) ≤ 8 → (have_variable ps || have_variable (h ∷ hs)) ≡ false → query_fault ps (h ∷ hs) [] ≡ None
-fault_none ps h hs p q e =
-    let n = or_none (have_variable ps) (have_variable (h ∷ hs)) e in
-    only_variables ps h hs p q ∙ ap (λ (o : Option Refusal). or_else o (first_unbound Heads [] 0 (h ∷ hs))) (first_none Posts 0 ps n.0) ∙ first_none Heads 0 (h ∷ hs) n.1
-
-or_true : (a b : Bool) → (a || b) ≡ true → (a ≡ true) ⊎ (b ≡ true)
-or_true true b e = inl refl
-or_true false b e = inr e
-
-fault_some : (ps : List AtomRecord) (h : AtomRecord) (hs : List AtomRecord) → length ps ≤ 8 → length (h ∷ hs) ≤ 8 → (have_variable ps || have_variable (h ∷ hs)) ≡ true → (refusal : Refusal) × (query_fault ps (h ∷ hs) [] ≡ Some refusal)
-fault_some ps h hs p q e = elim (or_true (have_variable ps) (have_variable (h ∷ hs)) e) [
-  | inl v ↦
-      let f = first_some Posts 0 ps v in
-      let o = or_else_some (first_unbound Posts [] 0 ps) (first_unbound Heads [] 0 (h ∷ hs)) f.0 (inl f.1) in
-      (o.0, only_variables ps h hs p q ∙ o.1)
-  | inr v ↦
-      let f = first_some Heads 0 (h ∷ hs) v in
-      let o = or_else_some (first_unbound Posts [] 0 ps) (first_unbound Heads [] 0 (h ∷ hs)) f.0 (inr f.1) in
-      (o.0, only_variables ps h hs p q ∙ o.1)
-]
-
 -- ---- the range restriction
+
+abbrev lacks : List AtomRecord → TermContent → Bool
+lacks body t = not (is_bound body t)
 
 not_bound : (b : Bool) → not b ≡ false → b ≡ true
 not_bound true e = refl
 not_bound false e = absurd cc
 
-terms_bound : (ts : List TermContent) → list_any unbound ts ≡ false → AllByRecursion (λ t. is_bound [] t ≡ true) ts
-terms_bound [] e = tt
-terms_bound (t ∷ ts) e = let n = or_none (unbound t) (list_any unbound ts) e in (not_bound (is_bound [] t) n.0, terms_bound ts n.1)
+terms_bound : (body : List AtomRecord) (ts : List TermContent) → list_any (lacks body) ts ≡ false → AllByRecursion (λ t. is_bound body t ≡ true) ts
+terms_bound body [] e = tt
+terms_bound body (t ∷ ts) e = let n = or_none (lacks body t) (list_any (lacks body) ts) e in (not_bound (is_bound body t) n.0, terms_bound body ts n.1)
 
-pub are_bound : (atoms : List AtomRecord) → have_variable atoms ≡ false → AreBound [] atoms
-are_bound [] e = tt
-are_bound (a ∷ atoms) e = let n = or_none (has_variable a) (have_variable atoms) e in (terms_bound a.terms n.0, are_bound atoms n.1)
+pub are_bound : (body atoms : List AtomRecord) → have_unbound body atoms ≡ false → AreBound body atoms
+are_bound body [] e = tt
+are_bound body (a ∷ atoms) e = let n = or_none (has_unbound body a) (have_unbound body atoms) e in (terms_bound body a.terms n.0, are_bound body atoms n.1)
 
-terms_none : (ts : List TermContent) → AllByRecursion (λ t. is_bound [] t ≡ true) ts → list_any unbound ts ≡ false
-terms_none [] h = refl
-terms_none (t ∷ ts) h = rw h.0 (terms_none ts h.1)
+terms_none : (body : List AtomRecord) (ts : List TermContent) → AllByRecursion (λ t. is_bound body t ≡ true) ts → list_any (lacks body) ts ≡ false
+terms_none body [] h = refl
+terms_none body (t ∷ ts) h = rw h.0 (terms_none body ts h.1)
 
-pub none_bound : (atoms : List AtomRecord) → AreBound [] atoms → have_variable atoms ≡ false
-none_bound [] h = refl
-none_bound (a ∷ atoms) h = rw (terms_none a.terms h.0) (none_bound atoms h.1)
+pub none_unbound : (body atoms : List AtomRecord) → AreBound body atoms → have_unbound body atoms ≡ false
+none_unbound body [] h = refl
+none_unbound body (a ∷ atoms) h = rw (terms_none body a.terms h.0) (none_unbound body atoms h.1)
+
+-- ---- a body binds its own variables
+
+or_right : (a b : Bool) → b ≡ true → (a || b) ≡ true
+or_right true b e = refl
+or_right false b e = e
+
+same_name : (x : List ℕ) → bytes_eq x x ≡ true
+same_name x = (slice_eq-Decides Decides-eqb x x (bytes_eq x x) refl).1 refl
+
+-- what an atom binds, more atoms before it and behind it bind
+in_terms : (front ts : List TermContent) (x : List ℕ) → list_any (is_variable x) (front ++ (Variable x ∷ ts)) ≡ true
+in_terms [] ts x = rw (same_name x) refl
+in_terms (t ∷ front) ts x = or_right (is_variable x t) (list_any (is_variable x) (front ++ (Variable x ∷ ts))) (in_terms front ts x)
+
+in_atoms : (front atoms : List AtomRecord) (a : AtomRecord) (x : List ℕ) → list_any (is_variable x) a.terms ≡ true → list_any (λ b. list_any (is_variable x) b.terms) (front ++ (a ∷ atoms)) ≡ true
+in_atoms [] atoms a x e = rw e refl
+in_atoms (b ∷ front) atoms a x e = or_right (list_any (is_variable x) b.terms) (list_any (λ b. list_any (is_variable x) b.terms) (front ++ (a ∷ atoms))) (in_atoms front atoms a x e)
+
+own_terms : (before after : List AtomRecord) (a : AtomRecord) (front ts : List TermContent) → a.terms ≡ front ++ ts → AllByRecursion (λ t. is_bound (before ++ (a ∷ after)) t ≡ true) ts
+own_terms before after a front [] e = tt
+own_terms before after a front (Constant v ∷ ts) e = (refl, own_terms before after a (front ++ (Constant v ∷ [])) ts (e ∙ sym (append_assoc front (Constant v ∷ []) ts)))
+own_terms before after a front (Variable x ∷ ts) e = (
+  in_atoms before after a x (ap (list_any (is_variable x)) e ∙ in_terms front ts x),
+  own_terms before after a (front ++ (Variable x ∷ [])) ts (e ∙ sym (append_assoc front (Variable x ∷ []) ts)),
+)
+
+own_atoms : (body before atoms : List AtomRecord) → body ≡ before ++ atoms → AreBound body atoms
+own_atoms body before [] e = tt
+own_atoms body before (a ∷ atoms) e = (
+  subst (λ (b : List AtomRecord). AllByRecursion (λ t. is_bound b t ≡ true) a.terms) (sym e) (own_terms before atoms a [] a.terms refl),
+  own_atoms body (before ++ (a ∷ [])) atoms (e ∙ sym (append_assoc before (a ∷ []) atoms)),
+)
+
+own_bound : (body : List AtomRecord) → have_unbound body body ≡ false
+own_bound body = none_unbound body body (own_atoms body [] body refl)
 
 -- ---- tokens
 
-abbrev any : List TokenContent → Bool
-any ts = list_any (is_unbound []) ts
+abbrev any : List AtomRecord → List TokenContent → Bool
+any body ts = list_any (is_unbound body) ts
 
-any_append : (a b : List TokenContent) → any (a ++ b) ≡ (any a || any b)
-any_append [] b = refl
-any_append (t ∷ a) b = ap (λ (c : Bool). is_unbound [] t || c) (any_append a b) ∙ sym (or_assoc (is_unbound [] t) (any a) (any b))
+any_append : (body : List AtomRecord) (a b : List TokenContent) → any body (a ++ b) ≡ (any body a || any body b)
+any_append body [] b = refl
+any_append body (t ∷ a) b = ap (λ (c : Bool). is_unbound body t || c) (any_append body a b) ∙ sym (or_assoc (is_unbound body t) (any body a) (any body b))
 
 upper_not_lower : (w : List ℕ) → begins_with_upper w ≡ true → begins_with_lower w ≡ false
 upper_not_lower [] e = absurd cc
 upper_not_lower (b ∷ w) e = grind (arith, nat_tests)
 
-upper_bound : (w : List ℕ) → begins_with_upper w ≡ true → is_unbound [] (Word w) ≡ false
-upper_bound w e = rw (upper_not_lower w e) refl
+upper_bound : (body : List AtomRecord) (w : List ℕ) → begins_with_upper w ≡ true → is_unbound body (Word w) ≡ false
+upper_bound body w e = rw (upper_not_lower w e) refl
 
-term_any : (ts : List TokenContent) (x : TermContent) → IsTermText ts x → any ts ≡ unbound x
-term_any ts (Constant (Number n)) e = ap any e
-term_any ts (Constant (Text w)) (inl e) = ap any e
-term_any ts (Constant (Text w)) (inr (e, u)) = ap any e ∙ rw (upper_not_lower w u) refl
-term_any ts (Variable x) (e, u) = ap any e ∙ rw u refl
+term_any : (body : List AtomRecord) (ts : List TokenContent) (x : TermContent) → IsTermText ts x → any body ts ≡ lacks body x
+term_any body ts (Constant (Number n)) e = ap (any body) e
+term_any body ts (Constant (Text w)) (inl e) = ap (any body) e
+term_any body ts (Constant (Text w)) (inr (e, u)) = ap (any body) e ∙ rw (upper_not_lower w u) refl
+term_any body ts (Variable x) (e, u) = ap (any body) e ∙ rw u (or_same (lacks body (Variable x)))
 
-separated_any : {A : Type 0} (P : List TokenContent → A → Type 0) (f : A → Bool) (ts : List TokenContent) (xs : List A) → ((u : List TokenContent) (x : A) → P u x → any u ≡ f x) → Separated P ts xs → any ts ≡ list_any f xs
-separated_any P f ts [] one p = absurd p
-separated_any P f ts (x ∷ []) one p = one ts x p ∙ sym (or_same (f x))
-separated_any P f ts (x ∷ y ∷ xs) one (front, rest, e, p, q) =
-    ap any e ∙ any_append front (Mark Comma ∷ rest) ∙ ap (λ (b : Bool). b || any rest) (one front x p) ∙ ap (λ (b : Bool). f x || b) (separated_any P f rest (y ∷ xs) one q)
+separated_any : {A : Type 0} (body : List AtomRecord) (P : List TokenContent → A → Type 0) (f : A → Bool) (ts : List TokenContent) (xs : List A) → ((u : List TokenContent) (x : A) → P u x → any body u ≡ f x) → Separated P ts xs → any body ts ≡ list_any f xs
+separated_any body P f ts [] one p = absurd p
+separated_any body P f ts (x ∷ []) one p = one ts x p ∙ sym (or_same (f x))
+separated_any body P f ts (x ∷ y ∷ xs) one (front, rest, e, p, q) =
+    ap (any body) e ∙ any_append body front (Mark Comma ∷ rest) ∙ ap (λ (b : Bool). b || any body rest) (one front x p) ∙ ap (λ (b : Bool). f x || b) (separated_any body P f rest (y ∷ xs) one q)
 
-atom_any : (ts : List TokenContent) (x : AtomRecord) → IsAtomText ts x → any ts ≡ has_variable x
-atom_any ts x (inner, e, u, sep) =
-    ap any e ∙ ap (λ (b : Bool). b || any (inner ++ (Mark CloseParen ∷ []))) (upper_bound x.relation u) ∙ any_append inner (Mark CloseParen ∷ []) ∙ or_same (any inner) ∙ separated_any IsTermText unbound inner x.terms term_any sep
+atom_any : (body : List AtomRecord) (ts : List TokenContent) (x : AtomRecord) → IsAtomText ts x → any body ts ≡ has_unbound body x
+atom_any body ts x (inner, e, u, sep) =
+    ap (any body) e ∙ ap (λ (b : Bool). b || any body (inner ++ (Mark CloseParen ∷ []))) (upper_bound body x.relation u) ∙ any_append body inner (Mark CloseParen ∷ []) ∙ or_same (any body inner)
+    ∙ separated_any body IsTermText (lacks body) inner x.terms (term_any body) sep
 
-if_any : (ts : List TokenContent) (xs : List AtomRecord) → AreAtomsIfAny ts xs → any ts ≡ have_variable xs
-if_any ts [] e = ap any e
-if_any ts (x ∷ xs) p = separated_any IsAtomText has_variable ts (x ∷ xs) atom_any p
+if_any : (body : List AtomRecord) (ts : List TokenContent) (xs : List AtomRecord) → AreAtomsIfAny ts xs → any body ts ≡ have_unbound body xs
+if_any body ts [] e = ap (any body) e
+if_any body ts (x ∷ xs) p = separated_any body IsAtomText (has_unbound body) ts (x ∷ xs) (atom_any body) p
 
-query_any : (a : Ahead) (q : QueryParts) → QueryRead a q → any (ahead q.2) ≡ (have_variable q.0 || have_variable q.1)
+abbrev pub some_lack : QueryParts → Bool
+some_lack q = have_unbound q.2 q.0 || have_unbound q.2 q.1
+
+query_any : (a : Ahead) (q : QueryParts) → QueryRead a q → any q.2 (ahead q.3) ≡ some_lack q
 query_any a q r =
-    let heads : any (r.heads ++ (Mark Arrow ∷ [])) ≡ have_variable q.1 = any_append r.heads (Mark Arrow ∷ []) ∙ or_same (any r.heads) ∙ separated_any IsAtomText has_variable r.heads q.1 atom_any r.are_heads in
-    ap any r.parts ∙ any_append r.posts (Mark CloseBrace ∷ (r.heads ++ (Mark Arrow ∷ []))) ∙ ap (λ (b : Bool). b || any (r.heads ++ (Mark Arrow ∷ []))) (if_any r.posts q.0 r.are_posts) ∙ ap (λ (b : Bool). have_variable q.0 || b) heads
+    let body : any q.2 r.body ≡ false = if_any q.2 r.body q.2 r.are_body ∙ own_bound q.2 in
+    let heads : any q.2 (r.heads ++ (Mark Arrow ∷ r.body)) ≡ have_unbound q.2 q.1 =
+    any_append q.2 r.heads (Mark Arrow ∷ r.body) ∙ ap (λ (b : Bool). any q.2 r.heads || b) body ∙ or_same (any q.2 r.heads) ∙ separated_any q.2 IsAtomText (has_unbound q.2) r.heads q.1 (atom_any q.2) r.are_heads
+    in
+    ap (any q.2) r.parts ∙ any_append q.2 r.posts (Mark CloseBrace ∷ (r.heads ++ (Mark Arrow ∷ r.body))) ∙ ap (λ (b : Bool). b || any q.2 (r.heads ++ (Mark Arrow ∷ r.body))) (if_any q.2 r.posts q.0 r.are_posts)
+    ∙ ap (λ (b : Bool). have_unbound q.2 q.0 || b) heads
 
 -- ---- lexemes
 
@@ -197,59 +169,58 @@ scan_good ss p (l ∷ ls) end e =
     let t = token_step (take_token ss l.token) (is_over p l.token) l.at _ f.1 in
     (f.0, scan_good t.0 (behind_token p l.token) ls end t.1)
 
-walk_none : (ls : List LexemeContent) → any (tokens_of ls) ≡ false → first_unbound_at [] ls ≡ None
-walk_none [] e = refl
-walk_none (l ∷ ls) e = let n = or_none (is_unbound [] l.token) (any (tokens_of ls)) e in rw n.0 (walk_none ls n.1)
+walk_none : (body : List AtomRecord) (ls : List LexemeContent) → any body (tokens_of ls) ≡ false → first_unbound_at body ls ≡ None
+walk_none body [] e = refl
+walk_none body (l ∷ ls) e = let n = or_none (is_unbound body l.token) (any body (tokens_of ls)) e in rw n.0 (walk_none body ls n.1)
 
-walk_some : (ls : List LexemeContent) (end : ℕ) → any (tokens_of ls) ≡ true → AreGood ls → (off : ℕ) × (first_unbound_at [] ls ≡ Some off) × (first_variable_of ls end ≡ Ok off)
-walk_some [] end e g = absurd cc
-walk_some (l ∷ ls) end e g = by_case (is_unbound [] l.token) refl e (λ h. walk_some ls end h g.1)
+walk_some : (body : List AtomRecord) (ls : List LexemeContent) (end : ℕ) → any body (tokens_of ls) ≡ true → AreGood ls → (off : ℕ) × (first_unbound_at body ls ≡ Some off) × (first_unbound_of body ls end ≡ Ok off)
+walk_some body [] end e g = absurd cc
+walk_some body (l ∷ ls) end e g = by_case (is_unbound body l.token) refl e (λ h. walk_some body ls end h g.1)
   where
-    by_case : (b : Bool) → is_unbound [] l.token ≡ b → (b || any (tokens_of ls)) ≡ true → (any (tokens_of ls) ≡ true → (off : ℕ) × (first_unbound_at [] ls ≡ Some off) × (first_variable_of ls end ≡ Ok off))
-        → (off : ℕ) × (first_unbound_at [] (l ∷ ls) ≡ Some off) × (first_variable_of (l ∷ ls) end ≡ Ok off)
+    by_case : (b : Bool) → is_unbound body l.token ≡ b → (b || any body (tokens_of ls)) ≡ true → (any body (tokens_of ls) ≡ true → (off : ℕ) × (first_unbound_at body ls ≡ Some off) × (first_unbound_of body ls end ≡ Ok off))
+        → (off : ℕ) × (first_unbound_at body (l ∷ ls) ≡ Some off) × (first_unbound_of body (l ∷ ls) end ≡ Ok off)
     by_case true h k more = (l.at, rw h refl, rw (g.0, h) refl)
     by_case false h k more = let m = more k in (m.0, rw h m.1, rw (g.0, h) m.2)
 
 -- ---- what becomes of the parts of a query
 
+abbrev pub record_of : QueryParts → QueryRecord
+record_of q = query_record q.0 q.1 q.2
+
 pub record AllBound (q : QueryParts) : Type 0 where
-  pub read : bound_query q.0 q.1 q.2 ≡ Ok (query_record q.0 q.1)
-  pub restricted : IsRestricted (query_record q.0 q.1)
-  pub nowhere : first_unbound_at [] q.2.lexemes ≡ None
+  pub read : bound_query q.0 q.1 q.2 q.3 ≡ Ok (record_of q)
+  pub restricted : IsRestricted (record_of q)
+  pub nowhere : first_unbound_at q.2 q.3.lexemes ≡ None
 
 pub record SomeUnbound (q : QueryParts) : Type 0 where
   pub offset : ℕ
-  pub read : bound_query q.0 q.1 q.2 ≡ fault Unbound offset
-  pub not_restricted : IsRestricted (query_record q.0 q.1) → ⊥
-  pub first : first_unbound_at [] q.2.lexemes ≡ Some offset
+  pub read : bound_query q.0 q.1 q.2 q.3 ≡ fault Unbound offset
+  pub not_restricted : IsRestricted (record_of q) → ⊥
+  pub first : first_unbound_at q.2 q.3.lexemes ≡ Some offset
 
-all_bound : (ps : List AtomRecord) (h : AtomRecord) (hs : List AtomRecord) (inner : Ahead) → length ps ≤ 8 → length (h ∷ hs) ≤ 8 → any (ahead inner) ≡ (have_variable ps || have_variable (h ∷ hs)) → (have_variable ps || have_variable (h ∷ hs)) ≡ false → AllBound (ps, h ∷ hs, inner)
-all_bound ps h hs inner p q e b =
-    let n = or_none (have_variable ps) (have_variable (h ∷ hs)) b in
-    record { read = rw (fault_none ps h hs p q b) refl; restricted = (are_bound ps n.0, are_bound (h ∷ hs) n.1); nowhere = walk_none inner.lexemes (e ∙ b) }
+all_bound : (q : QueryParts) → any q.2 (ahead q.3) ≡ some_lack q → some_lack q ≡ false → AllBound q
+all_bound q e b =
+    let n = or_none (have_unbound q.2 q.0) (have_unbound q.2 q.1) b in
+    record { read = rw b refl; restricted = (are_bound q.2 q.0 n.0, are_bound q.2 q.1 n.1); nowhere = walk_none q.2 q.3.lexemes (e ∙ b) }
 
-some_unbound : (ps : List AtomRecord) (h : AtomRecord) (hs : List AtomRecord) (inner : Ahead) → length ps ≤ 8 → length (h ∷ hs) ≤ 8 → AreGood inner.lexemes → any (ahead inner) ≡ (have_variable ps || have_variable (h ∷ hs)) → (have_variable ps || have_variable (h ∷ hs)) ≡ true → SomeUnbound (ps, h ∷ hs, inner)
-unfolding first_variable_at
-some_unbound ps h hs inner p q good e b =
-    let f = fault_some ps h hs p q b in
-    let w = walk_some inner.lexemes inner.end (e ∙ b) good in
-    record {
-      offset = w.0;
-      read = rw (f.1, w.2) refl;
-      not_restricted = λ r. contradiction (none_bound ps r.0) (none_bound (h ∷ hs) r.1) b;
-      first = w.1;
-    }
+unbound_read : (q : QueryParts) (offset : ℕ) → some_lack q ≡ true → first_unbound_of q.2 q.3.lexemes q.3.end ≡ Ok offset → bound_query q.0 q.1 q.2 q.3 ≡ fault Unbound offset
+unfolding first_unbound_from
+unbound_read q offset b w = rw (b, w) refl
+
+contradiction : (q : QueryParts) → some_lack q ≡ true → have_unbound q.2 q.0 ≡ false → have_unbound q.2 q.1 ≡ false → ⊥
+contradiction q b x y = true_false (sym b ∙ rw (x, y) refl)
   where
-    contradiction : have_variable ps ≡ false → have_variable (h ∷ hs) ≡ false → (have_variable ps || have_variable (h ∷ hs)) ≡ true → ⊥
-    contradiction x y z = false_true (ap (λ (c : Bool). c || have_variable (h ∷ hs)) (sym x) ∙ z) y
-      where
-        false_true : (false || have_variable (h ∷ hs)) ≡ true → have_variable (h ∷ hs) ≡ false → ⊥
-        false_true u v = cc
+    true_false : true ≡ false → ⊥
+    true_false h = cc
 
-pub bound_or_not : (a : Ahead) (q : QueryParts) → QueryRead a q → AreGood q.2.lexemes → AllBound q ⊎ SomeUnbound q
-bound_or_not a (ps, [], inner) r good = absurd r.are_heads
-bound_or_not a (ps, h ∷ hs, inner) r good = by_case (have_variable ps || have_variable (h ∷ hs)) refl
+some_unbound : (q : QueryParts) → AreGood q.3.lexemes → any q.2 (ahead q.3) ≡ some_lack q → some_lack q ≡ true → SomeUnbound q
+some_unbound q good e b =
+    let w = walk_some q.2 q.3.lexemes q.3.end (e ∙ b) good in
+    record { offset = w.0; read = unbound_read q w.0 b w.2; not_restricted = λ r. contradiction q b (none_unbound q.2 q.0 r.0) (none_unbound q.2 q.1 r.1); first = w.1 }
+
+pub bound_or_not : (a : Ahead) (q : QueryParts) → QueryRead a q → AreGood q.3.lexemes → AllBound q ⊎ SomeUnbound q
+bound_or_not a q r good = by_case (some_lack q) refl
   where
-    by_case : (b : Bool) → (have_variable ps || have_variable (h ∷ hs)) ≡ b → AllBound (ps, h ∷ hs, inner) ⊎ SomeUnbound (ps, h ∷ hs, inner)
-    by_case true e = inr (some_unbound ps h hs inner r.fits.0 r.fits.1 good (query_any a (ps, h ∷ hs, inner) r) e)
-    by_case false e = inl (all_bound ps h hs inner r.fits.0 r.fits.1 (query_any a (ps, h ∷ hs, inner) r) e)
+    by_case : (b : Bool) → some_lack q ≡ b → AllBound q ⊎ SomeUnbound q
+    by_case true e = inr (some_unbound q good (query_any a q r) e)
+    by_case false e = inl (all_bound q (query_any a q r) e)

@@ -1,24 +1,26 @@
 -- A symbol stands for a token and more exactly where the symbols that it leaves stand for more.
 use Rattle.std.proofs.Common.{◌≡◌, ℕ, zero, suc, Bool, true, false, cond, List, [], ◌∷◌, ◌++◌, Option, Some, None, option_map, refl, sym, ap, subst, ◌∙◌, append_assoc, inl, inr, ◌⊎◌, pos}
-use Rattle.std.specs.Prelude.{codes, ◌||◌}
-use Rattle.std.specs.Str.{bytes_eq}
+use Rattle.std.specs.Prelude.{codes, ◌||◌, ◌&&◌}
 use Rattle.std.proofs.lemmas.Bool.{eqb-true}
-use Rattle.std.proofs.lemmas.Bool.Decides.{Decides-eqb}
 use Rattle.std.proofs.lemmas.List.{append-nil}
-use Rattle.std.proofs.lemmas.Slice.Eq.{slice_eq-Decides}
 use Rattle.cq_atom.specs.declared.value.Content.TheVariants.{Number, Text}
 use Rattle.cq_atom.specs.declared.term.TermKind.TheVariants.{Constant, Variable}
 use Rattle.cq_atom.specs.Text.{begins_with_upper, begins_with_lower}
+use Rattle.cq_atom.specs.Value.{ValueContent}
 use Rattle.cq_atom.specs.Atom.{TermContent, AtomRecord}
 use Rattle.cq_text.specs.declared.command.CommandKind.TheVariants.{Blank, Relation, Limits, Post, Withdraw, Insert, Delete, Publish, Show}
+use Rattle.cq_text.specs.declared.command.CommandWord.{CommandWord}
+use Rattle.cq_text.specs.declared.command.CommandWord.TheVariants as words
 use Rattle.cq_text.specs.declared.token.Sign.{Sign}
 use Rattle.cq_text.specs.declared.token.Sign.TheVariants.{OpenBrace, CloseBrace, OpenParen, CloseParen, Comma, Arrow}
 use Rattle.cq_text.specs.declared.token.Token.TheVariants.{Mark, Word, Literal, Bad, Finish}
-use Rattle.cq_text.specs.Token.{TokenContent}
-use Rattle.cq_text.specs.Grammar.{CommandContent, IsTermText, IsAtomText, AreAtomsIfAny, IsSentence, IsServed}
-use Rattle.cq_text.specs.Fault.{IsCommandText, IsLoneQuery}
-use Rattle.cq_text.specs.Steps.Reading.{code, is_sign}
-use Rattle.cq_text.proofs.Machine.{Symbol, mark, name, term, terms_end, atom, posts_end, heads_end, posts, command, atom_symbols, query_symbols, when, first_of_atom, first_term, first_name, first_in_list, first_command, first, take_token, Closed, Tail, Is, Expects, Expects-append, Expects-split}
+use Rattle.cq_text.specs.Token.{TokenContent, flaw}
+use Rattle.cq_text.specs.Grammar.{CommandContent, IsConstant, IsTermText, IsAtomText, AreAtomsIfAny, IsSentence, count_of, Separated}
+use Rattle.cq_text.specs.Fault.{IsCommandText, IsLoneQuery, IsLoneRow}
+use Rattle.cq_text.specs.Steps.Commands.{command_word, bytes_of}
+use Rattle.cq_text.specs.Steps.Reading.{code, is_sign, is_finish}
+use Rattle.cq_text.proofs.Commands.{command_word-is}
+use Rattle.cq_text.proofs.Machine.{upper, number, value, values_end, row_symbols, after_command, first_upper, first_number, first_value, Symbol, mark, name, term, terms_end, atom, posts_end, heads_end, posts, command, atom_symbols, query_symbols, when, first_of_atom, first_term, first_name, first_in_list, first_command, first, take_token, Closed, Tail, Is, Expects, Expects-append, Expects-split, body_end, body, is_nullable, Rest, Holds, OnlyLast, Ordered, is_last}
 
 -- ---- tests
 
@@ -53,9 +55,6 @@ is_sign-true s (Literal v) e = absurd cc
 is_sign-true s (Bad kind) e = absurd cc
 is_sign-true s Finish e = absurd cc
 
-pub bytes_eq-true : (w n : List ℕ) → bytes_eq w n ≡ true → w ≡ n
-bytes_eq-true w n e = (slice_eq-Decides Decides-eqb w n (bytes_eq w n) refl).0 e
-
 pub or_right : (a b : Bool) → b ≡ true → (a || b) ≡ true
 or_right true b e = refl
 or_right false b e = e
@@ -83,6 +82,18 @@ Closed-join P close front rest x p (inr (i, e, (inner, [], d, q))) = absurd q
 Closed-join P close front rest x p (inr (i, e, (inner, y ∷ ys, d, q))) =
     (front ++ (Mark Comma ∷ inner), x ∷ y ∷ ys, ap (λ (r : List TokenContent). front ++ r) (e ∙ ap (λ (r : List TokenContent). Mark Comma ∷ r) d) ∙ sym (append_assoc front (Mark Comma ∷ inner) (Mark close ∷ [])), (front, inner, refl, p, q))
 
+-- ---- lists up to the end
+
+Rest-split : {A : Type 0} (P : List TokenContent → A → Type 0) (ts : List TokenContent) (xs : List A) → Separated P ts xs → (front : List TokenContent) × (rest : List TokenContent) × (x : A) × (ts ≡ front ++ rest) × P front x × Rest P rest
+Rest-split P ts [] p = absurd p
+Rest-split P ts (x ∷ []) p = (ts, [], x, sym (append-nil ts), p, inl refl)
+Rest-split P ts (x ∷ y ∷ xs) (f, r, d, p, q) = (f, Mark Comma ∷ r, x, d, p, inr (r, y ∷ xs, refl, q))
+
+Rest-join : {A : Type 0} (P : List TokenContent → A → Type 0) (front rest : List TokenContent) (x : A) → P front x → Rest P rest → (xs : List A) × Separated P (front ++ rest) (x ∷ xs)
+Rest-join P front rest x p (inl e) = ([], subst (λ (w : List TokenContent). P w x) (sym (ap (λ (r : List TokenContent). front ++ r) e ∙ append-nil front)) p)
+Rest-join P front rest x p (inr (inner, [], e, q)) = absurd q
+Rest-join P front rest x p (inr (inner, y ∷ ys, e, q)) = (y ∷ ys, (front, inner, ap (λ (r : List TokenContent). front ++ r) e, p, q))
+
 pub Expects-one : (x : Symbol) (ts : List TokenContent) → Is x ts → Expects (x ∷ []) ts
 Expects-one x ts i = (ts, [], sym (append-nil ts), i, refl)
 
@@ -100,6 +111,11 @@ Is-from_two x y ts (a, b, e, i, j) = (a, b, e, i, Is-from_one y b j)
 
 abbrev pub Leaves : Symbol → TokenContent → List TokenContent → Type 0
 Leaves x t ts = (r : List Symbol) × (first x t ≡ Some r) × Expects r ts
+
+Leaves-value : (t : TokenContent) (ts : List TokenContent) (v : ValueContent) → IsConstant (t ∷ ts) v → Leaves value t ts
+Leaves-value t ts (Number n) e = let d : t ≡ Literal (Number n) = cc in ([], ap first_value d, cc)
+Leaves-value t ts (Text w) (inl e) = let d : t ≡ Literal (Text w) = cc in ([], ap first_value d, cc)
+Leaves-value t ts (Text w) (inr (e, u)) = let d : t ≡ Word w = cc in ([], ap first_value d ∙ ap (λ (b : Bool). when b []) u, cc)
 
 Leaves-term : (t : TokenContent) (ts : List TokenContent) (x : TermContent) → IsTermText (t ∷ ts) x → Leaves term t ts
 Leaves-term t ts (Constant (Number n)) e = let d : t ≡ Literal (Number n) = cc in ([], ap first_term d, cc)
@@ -167,95 +183,132 @@ Leaves-posts t ts inner (x ∷ xs) e m =
     heads : (front rest : List TokenContent) (w : List ℕ) (m : List TokenContent) → t ∷ ts ≡ front ++ rest → front ≡ Word w ∷ m → t ≡ Word w
     heads front rest w m e d = let k : t ∷ ts ≡ Word w ∷ (m ++ rest) = e ∙ ap (λ (f : List TokenContent). f ++ rest) d in cc
 
-nothing_left : (a b : List AtomRecord) (ts : List TokenContent) → AreAtomsIfAny ts a → a ≡ [] → ts ≡ []
-nothing_left [] b ts m e = m
-nothing_left (x ∷ xs) b ts m e = absurd cc
+Leaves-body_end : (t : TokenContent) (ts : List TokenContent) → Rest IsAtomText (t ∷ ts) → Leaves body_end t ts
+Leaves-body_end t ts (inl e) = absurd cc
+Leaves-body_end t ts (inr (inner, xs, e, p)) =
+    let d : t ≡ Mark Comma = cc in
+    let same : ts ≡ inner = cc in
+    let s = Rest-split IsAtomText inner xs p in
+    (atom ∷ body_end ∷ [], ap (first body_end) d, subst (λ (w : List TokenContent). Expects (atom ∷ body_end ∷ []) w) (sym (same ∙ s.3)) (Expects-two atom body_end s.0 s.1 (s.2, s.4) s.5))
 
--- a query without a body, as its symbols
+Leaves-body : (t : TokenContent) (ts : List TokenContent) (xs : List AtomRecord) → AreAtomsIfAny (t ∷ ts) xs → Leaves body t ts
+Leaves-body t ts [] e = absurd cc
+Leaves-body t ts (x ∷ xs) m =
+    let s = Rest-split IsAtomText (t ∷ ts) (x ∷ xs) m in
+    after_atom t ts (body_end ∷ []) s.0 s.1 s.2 s.3 s.4 (Expects-one body_end s.1 s.5)
+
+-- a query, as its symbols
 pub query_expected : (ts : List TokenContent) → IsLoneQuery ts → Expects query_symbols ts
-query_expected ts (query, (ps, hs, body, e, p, h, b), served) =
-    let none : body ≡ [] = nothing_left query.body [] body b served in
-    let s = Closed-split IsAtomText Arrow (hs ++ (Mark Arrow ∷ [])) (hs, query.heads, refl, h) in (
+query_expected ts (query, (ps, hs, bs, e, p, h, b)) =
+    let s = Closed-split IsAtomText Arrow (hs ++ (Mark Arrow ∷ [])) (hs, query.heads, refl, h) in
+    let heads : hs ++ (Mark Arrow ∷ bs) ≡ s.0 ++ (s.1 ++ bs) = sym (append_assoc hs (Mark Arrow ∷ []) bs) ∙ ap (λ (l : List TokenContent). l ++ bs) s.3 ∙ append_assoc s.0 s.1 bs in (
       Mark OpenBrace ∷ [],
-      ps ++ (Mark CloseBrace ∷ (hs ++ (Mark Arrow ∷ []))),
-      e ∙ ap (λ (l : List TokenContent). Mark OpenBrace ∷ (ps ++ (Mark CloseBrace ∷ (hs ++ (Mark Arrow ∷ l))))) none,
+      ps ++ (Mark CloseBrace ∷ (hs ++ (Mark Arrow ∷ bs))),
+      e,
       refl,
       (
         ps ++ (Mark CloseBrace ∷ []),
-        hs ++ (Mark Arrow ∷ []),
-        sym (append_assoc ps (Mark CloseBrace ∷ []) (hs ++ (Mark Arrow ∷ []))),
+        hs ++ (Mark Arrow ∷ bs),
+        sym (append_assoc ps (Mark CloseBrace ∷ []) (hs ++ (Mark Arrow ∷ bs))),
         (ps, query.posts, refl, p),
-        subst (λ (w : List TokenContent). Expects (atom ∷ heads_end ∷ []) w) (sym s.3) (Expects-two atom heads_end s.0 s.1 (s.2, s.4) s.5),
+        (s.0, s.1 ++ bs, heads, (s.2, s.4), (s.1, bs, refl, s.5, Expects-one body bs (query.body, b))),
       ),
     )
 
-Leaves-command : (t : TokenContent) (ts : List TokenContent) (c : CommandContent) → IsSentence (t ∷ ts) c → IsServed c → Leaves command t ts
-Leaves-command t ts Blank s served = absurd s
-Leaves-command t ts (Relation n a) s served = absurd served
-Leaves-command t ts (Limits p j) s served = absurd served
-Leaves-command t ts (Post n query) (rest, e, q) served =
-    let d : t ≡ Word (codes "post") = cc in
-    let same : ts ≡ Word n ∷ rest = cc in
-    (name ∷ query_symbols, ap first_command d, (Word n ∷ [], rest, same, (n, refl), query_expected rest (query, q, served)))
-Leaves-command t ts (Withdraw n) s served = absurd served
-Leaves-command t ts (Insert row) s served = absurd served
-Leaves-command t ts (Delete row) s served = absurd served
-Leaves-command t ts Publish e served =
-    let d : t ≡ Word (codes "publish") = cc in
-    let same : ts ≡ [] = cc in
-    ([], ap first_command d, same)
-Leaves-command t ts Show e served =
-    let d : t ≡ Word (codes "show") = cc in
-    let same : ts ≡ [] = cc in
-    ([], ap first_command d, same)
+-- a ground atom, as its symbols
+pub row_expected : (ts : List TokenContent) → IsLoneRow ts → Expects row_symbols ts
+row_expected ts (row, (inner, e, u, sep)) =
+    let s = Closed-split IsConstant CloseParen (inner ++ (Mark CloseParen ∷ [])) (inner, row.values, refl, sep) in (
+      Word row.relation ∷ [],
+      Mark OpenParen ∷ (inner ++ (Mark CloseParen ∷ [])),
+      e,
+      (row.relation, refl, u),
+      (Mark OpenParen ∷ [], inner ++ (Mark CloseParen ∷ []), refl, refl, (s.0, s.1, s.3, (s.2, s.4), Expects-one values_end s.1 s.5)),
+    )
+
+-- the symbols behind a command word
+behind_word : (k : CommandWord) (t : TokenContent) (ts rest : List TokenContent) → t ∷ ts ≡ Word (bytes_of k) ∷ rest → Some (after_command k) ≡ first_command (Word (bytes_of k)) → Expects (after_command k) rest → Leaves command t ts
+behind_word k t ts rest e is q =
+    let d : t ≡ Word (bytes_of k) = cc in
+    let same : ts ≡ rest = cc in
+    (after_command k, ap first_command d ∙ sym is, subst (λ (l : List TokenContent). Expects (after_command k) l) (sym same) q)
+
+Leaves-command : (t : TokenContent) (ts : List TokenContent) (c : CommandContent) → IsSentence (t ∷ ts) c → Leaves command t ts
+Leaves-command t ts Blank s = absurd s
+Leaves-command t ts (Relation n a) (m, e, u, k) =
+    behind_word words.Relation t ts (Word n ∷ Literal (Number m) ∷ []) e refl (Expects-two upper number (Word n ∷ []) (Literal (Number m) ∷ []) (n, refl, u) (m, refl))
+Leaves-command t ts (Limits p j) (m, n, e, k, i) =
+    behind_word words.Limits t ts (Literal (Number m) ∷ Literal (Number n) ∷ []) e refl (Expects-two number number (Literal (Number m) ∷ []) (Literal (Number n) ∷ []) (m, refl) (n, refl))
+Leaves-command t ts (Post n query) (rest, e, q) =
+    behind_word words.Post t ts (Word n ∷ rest) e refl (Word n ∷ [], rest, refl, (n, refl), query_expected rest (query, q))
+Leaves-command t ts (Withdraw n) e = behind_word words.Withdraw t ts (Word n ∷ []) e refl (Expects-one name (Word n ∷ []) (n, refl))
+Leaves-command t ts (Insert row) (rest, e, r) = behind_word words.Insert t ts rest e refl (row_expected rest (row, r))
+Leaves-command t ts (Delete row) (rest, e, r) = behind_word words.Delete t ts rest e refl (row_expected rest (row, r))
+Leaves-command t ts Publish e = behind_word words.Publish t ts [] e refl refl
+Leaves-command t ts Show e = behind_word words.Show t ts [] e refl refl
 
 pub Leaves-from_is : (x : Symbol) (t : TokenContent) (ts : List TokenContent) → Is x (t ∷ ts) → Leaves x t ts
 Leaves-from_is (mark s) t ts e = let d : t ≡ Mark s = cc in ([], ap (first (mark s)) d ∙ ap (λ (b : Bool). when b []) (is_sign-same s), cc)
 Leaves-from_is name t ts (w, e) = let d : t ≡ Word w = cc in ([], ap first_name d, cc)
+Leaves-from_is upper t ts (w, e, u) = let d : t ≡ Word w = cc in ([], ap first_upper d ∙ ap (λ (b : Bool). when b []) u, cc)
+Leaves-from_is number t ts (n, e) = let d : t ≡ Literal (Number n) = cc in ([], ap first_number d, cc)
+Leaves-from_is value t ts (v, c) = Leaves-value t ts v c
+Leaves-from_is values_end t ts h = Leaves-in_list IsConstant value values_end CloseParen t ts (λ front x p. (x, p)) (λ rest p. p) refl h
 Leaves-from_is term t ts (x, c) = Leaves-term t ts x c
 Leaves-from_is terms_end t ts h = Leaves-in_list IsTermText term terms_end CloseParen t ts (λ front x p. (x, p)) (λ rest p. p) refl h
 Leaves-from_is atom t ts (x, g) = Leaves-atom t ts x g
 Leaves-from_is posts_end t ts h = Leaves-in_list IsAtomText atom posts_end CloseBrace t ts (λ front x p. (x, p)) (λ rest p. p) refl h
 Leaves-from_is heads_end t ts h = Leaves-in_list IsAtomText atom heads_end Arrow t ts (λ front x p. (x, p)) (λ rest p. p) refl h
+Leaves-from_is body_end t ts h = Leaves-body_end t ts h
+Leaves-from_is body t ts (xs, m) = Leaves-body t ts xs m
 Leaves-from_is posts t ts (inner, xs, e, m) = Leaves-posts t ts inner xs e m
-Leaves-from_is command t ts (c, s, served) = Leaves-command t ts c s served
+Leaves-from_is command t ts (c, s) = Leaves-command t ts c s
 
--- no symbol stands for nothing
+-- which symbols stand for nothing
 no_end : (inner : List TokenContent) (s : TokenContent) → [] ≡ inner ++ (s ∷ []) → ⊥
 no_end [] s e = cc
 no_end (t ∷ ts) s e = cc
 
+no_value : (v : ValueContent) → IsConstant [] v → ⊥
+no_value (Number n) e = cc
+no_value (Text w) (inl e) = cc
+no_value (Text w) (inr (e, u)) = cc
+
 no_term : (x : TermContent) → IsTermText [] x → ⊥
-no_term (Constant (Number n)) e = cc
-no_term (Constant (Text w)) (inl e) = cc
-no_term (Constant (Text w)) (inr (e, u)) = cc
+no_term (Constant v) c = no_value v c
 no_term (Variable x) (e, u) = cc
 
 no_tail : {A : Type 0} (P : List TokenContent → A → Type 0) (close : Sign) → Tail P close [] → ⊥
 no_tail P close (inl e) = cc
 no_tail P close (inr (i, e, c)) = cc
 
-no_command : (c : CommandContent) → IsSentence [] c → IsServed c → ⊥
-no_command Blank s served = s
-no_command (Relation n a) s served = served
-no_command (Limits p j) s served = served
-no_command (Post n query) (rest, e, q) served = cc
-no_command (Withdraw n) s served = served
-no_command (Insert row) s served = served
-no_command (Delete row) s served = served
-no_command Publish e served = cc
-no_command Show e served = cc
+no_command : (c : CommandContent) → IsSentence [] c → ⊥
+no_command Blank s = s
+no_command (Relation n a) (m, e, u, k) = cc
+no_command (Limits p j) (m, n, e, k, i) = cc
+no_command (Post n query) (rest, e, q) = cc
+no_command (Withdraw n) e = cc
+no_command (Insert row) (rest, e, r) = cc
+no_command (Delete row) (rest, e, r) = cc
+no_command Publish e = cc
+no_command Show e = cc
 
-pub Is-nothing : (x : Symbol) → Is x [] → ⊥
+pub Is-nothing : (x : Symbol) → Is x [] → Holds (is_nullable x)
 Is-nothing (mark s) e = cc
 Is-nothing name (w, e) = cc
+Is-nothing upper (w, e, u) = cc
+Is-nothing number (n, e) = cc
+Is-nothing value (v, c) = no_value v c
+Is-nothing values_end h = no_tail IsConstant CloseParen h
 Is-nothing term (x, c) = no_term x c
 Is-nothing terms_end h = no_tail IsTermText CloseParen h
 Is-nothing atom (x, (inner, e, u, sep)) = cc
 Is-nothing posts_end h = no_tail IsAtomText CloseBrace h
 Is-nothing heads_end h = no_tail IsAtomText Arrow h
+Is-nothing body_end h = tt
+Is-nothing body h = tt
 Is-nothing posts (inner, xs, e, m) = no_end inner (Mark CloseBrace) e
-Is-nothing command (c, s, served) = no_command c s served
+Is-nothing command (c, s) = no_command c s
 
 -- ---- from the symbols to the text
 
@@ -287,6 +340,29 @@ Is-more-name (Literal v) ts r e q = absurd cc
 Is-more-name (Mark s) ts r e q = absurd cc
 Is-more-name (Bad kind) ts r e q = absurd cc
 Is-more-name Finish ts r e q = absurd cc
+
+Is-more-upper : (t : TokenContent) (ts : List TokenContent) (r : List Symbol) → first_upper t ≡ Some r → Expects r ts → Is upper (t ∷ ts)
+Is-more-upper (Word w) ts r e q = let h = when_some (begins_with_upper w) [] r e in (w, ap (λ (l : List TokenContent). Word w ∷ l) (at_same [] r ts h.1 q), h.0)
+Is-more-upper (Literal v) ts r e q = absurd cc
+Is-more-upper (Mark s) ts r e q = absurd cc
+Is-more-upper (Bad kind) ts r e q = absurd cc
+Is-more-upper Finish ts r e q = absurd cc
+
+Is-more-number : (t : TokenContent) (ts : List TokenContent) (r : List Symbol) → first_number t ≡ Some r → Expects r ts → Is number (t ∷ ts)
+Is-more-number (Literal (Number n)) ts r e q = (n, ap (λ (l : List TokenContent). Literal (Number n) ∷ l) (at_same [] r ts (cc) q))
+Is-more-number (Literal (Text w)) ts r e q = absurd cc
+Is-more-number (Word w) ts r e q = absurd cc
+Is-more-number (Mark s) ts r e q = absurd cc
+Is-more-number (Bad kind) ts r e q = absurd cc
+Is-more-number Finish ts r e q = absurd cc
+
+Is-more-value : (t : TokenContent) (ts : List TokenContent) (r : List Symbol) → first_value t ≡ Some r → Expects r ts → Is value (t ∷ ts)
+Is-more-value (Word w) ts r e q = let h = when_some (begins_with_upper w) [] r e in (Text w, inr (ap (λ (l : List TokenContent). Word w ∷ l) (at_same [] r ts h.1 q), h.0))
+Is-more-value (Literal (Number n)) ts r e q = (Number n, ap (λ (l : List TokenContent). Literal (Number n) ∷ l) (at_same [] r ts (cc) q))
+Is-more-value (Literal (Text w)) ts r e q = (Text w, inl (ap (λ (l : List TokenContent). Literal (Text w) ∷ l) (at_same [] r ts (cc) q)))
+Is-more-value (Mark s) ts r e q = absurd cc
+Is-more-value (Bad kind) ts r e q = absurd cc
+Is-more-value Finish ts r e q = absurd cc
 
 Is-more-in_list : {A : Type 0} (P : List TokenContent → A → Type 0) (item again : Symbol) (close : Sign) (t : TokenContent) (ts : List TokenContent) (r : List Symbol)
     → ((front : List TokenContent) → Is item front → (x : A) × P front x) → ((rest : List TokenContent) → Is again rest → Tail P close rest)
@@ -340,30 +416,76 @@ Is-more-posts t ts r e q =
           any_from_closed (t ∷ ts) (subst (λ (w : List TokenContent). Closed IsAtomText CloseBrace (t ∷ w)) (sym s.2) (Closed-join IsAtomText CloseBrace (t ∷ s.0) s.1 x.0 x.1 (Is-from_one posts_end s.1 s.4)))
     ]
 
+Is-more-body_end : (t : TokenContent) (ts : List TokenContent) (r : List Symbol) → first body_end t ≡ Some r → Expects r ts → Rest IsAtomText (t ∷ ts)
+Is-more-body_end t ts r e q =
+    let h = when_some (is_sign Comma t) (atom ∷ body_end ∷ []) r e in
+    let two = Is-from_two atom body_end ts (at_same (atom ∷ body_end ∷ []) r ts h.1 q) in
+    let c = Rest-join IsAtomText two.0 two.1 two.3.0 two.3.1 two.4 in
+    inr (ts, two.3.0 ∷ c.0, ap (λ (u : TokenContent). u ∷ ts) (is_sign-true Comma t h.0), subst (λ (w : List TokenContent). Separated IsAtomText w (two.3.0 ∷ c.0)) (sym two.2) c.1)
+
+Is-more-body : (t : TokenContent) (ts : List TokenContent) (r : List Symbol) → first body t ≡ Some r → Expects r ts → Is body (t ∷ ts)
+Is-more-body t ts r e q =
+    let m = map_some (λ s. s ++ (body_end ∷ [])) (first_of_atom t) r e in
+    let s = Expects-split m.0 (body_end ∷ []) ts (at_same (m.0 ++ (body_end ∷ [])) r ts m.2 q) in
+    let x = Is-more-atom t s.0 m.0 m.1 s.3 in
+    let c = Rest-join IsAtomText (t ∷ s.0) s.1 x.0 x.1 (Is-from_one body_end s.1 s.4) in
+    (x.0 ∷ c.0, subst (λ (w : List TokenContent). Separated IsAtomText (t ∷ w) (x.0 ∷ c.0)) (sym s.2) c.1)
+
 pub query_from_expected : (ts : List TokenContent) → Expects query_symbols ts → IsLoneQuery ts
-query_from_expected ts (f2, r2, e2, i2, (f3, r3, e3, (inner, xs, i3, m), more)) =
-    let two = Is-from_two atom heads_end r3 more in
-    let c = Closed-join IsAtomText Arrow two.0 two.1 two.3.0 two.3.1 two.4 in
-    let rest : r3 ≡ c.0 ++ (Mark Arrow ∷ []) = two.2 ∙ c.2 in
-    let back : r2 ≡ inner ++ (Mark CloseBrace ∷ (c.0 ++ (Mark Arrow ∷ []))) = e3 ∙ ap (λ (l : List TokenContent). l ++ r3) i3 ∙ append_assoc inner (Mark CloseBrace ∷ []) r3 ∙ ap (λ (l : List TokenContent). inner ++ (Mark CloseBrace ∷ l)) rest in
-    (record { posts = xs; heads = c.1; body = [] }, (inner, c.0, [], e2 ∙ ap (λ (l : List TokenContent). l ++ r2) i2 ∙ ap (λ (l : List TokenContent). Mark OpenBrace ∷ l) back, m, c.3, refl), refl)
+query_from_expected ts (f2, r2, e2, i2, (f3, r3, e3, (inner, xs, i3, m), (f4, r4, e4, i4, (f5, r5, e5, i5, more)))) =
+    let c = Closed-join IsAtomText Arrow f4 f5 i4.0 i4.1 i5 in
+    let b = Is-from_one body r5 more in
+    let rest : r3 ≡ c.0 ++ (Mark Arrow ∷ r5) = e4 ∙ ap (λ (l : List TokenContent). f4 ++ l) e5 ∙ sym (append_assoc f4 f5 r5) ∙ ap (λ (l : List TokenContent). l ++ r5) c.2 ∙ append_assoc c.0 (Mark Arrow ∷ []) r5 in
+    let back : r2 ≡ inner ++ (Mark CloseBrace ∷ (c.0 ++ (Mark Arrow ∷ r5))) = e3 ∙ ap (λ (l : List TokenContent). l ++ r3) i3 ∙ append_assoc inner (Mark CloseBrace ∷ []) r3 ∙ ap (λ (l : List TokenContent). inner ++ (Mark CloseBrace ∷ l)) rest in
+    (record { posts = xs; heads = c.1; body = b.0 }, (inner, c.0, r5, e2 ∙ ap (λ (l : List TokenContent). l ++ r2) i2 ∙ ap (λ (l : List TokenContent). Mark OpenBrace ∷ l) back, m, c.3, b.1))
 
 Is-more-post : (ts : List TokenContent) → Expects (name ∷ query_symbols) ts → IsCommandText (Word (codes "post") ∷ ts)
 Is-more-post ts (f, r, e, (w, i), more) =
     let q = query_from_expected r more in
-    (Post w q.0, (r, ap (λ (l : List TokenContent). Word (codes "post") ∷ l) (e ∙ ap (λ (l : List TokenContent). l ++ r) i), q.1), q.2)
+    (Post w q.0, (r, ap (λ (l : List TokenContent). Word (codes "post") ∷ l) (e ∙ ap (λ (l : List TokenContent). l ++ r) i), q.1))
+
+pub row_from_expected : (ts : List TokenContent) → Expects row_symbols ts → IsLoneRow ts
+row_from_expected ts (f, r, e, (w, i, u), (f2, r2, e2, i2, more)) =
+    let two = Is-from_two value values_end r2 more in
+    let c = Closed-join IsConstant CloseParen two.0 two.1 two.3.0 two.3.1 two.4 in
+    let inside : r ≡ Mark OpenParen ∷ (c.0 ++ (Mark CloseParen ∷ [])) = e2 ∙ ap (λ (l : List TokenContent). l ++ r2) i2 ∙ ap (λ (l : List TokenContent). Mark OpenParen ∷ l) (two.2 ∙ c.2) in
+    (record { relation = w; values = c.1 }, (c.0, e ∙ ap (λ (l : List TokenContent). l ++ r) i ∙ ap (λ (l : List TokenContent). Word w ∷ l) inside, u, c.3))
+
+Is-more-relation : (ts : List TokenContent) → Expects (upper ∷ number ∷ []) ts → IsCommandText (Word (codes "relation") ∷ ts)
+Is-more-relation ts q =
+    let two = Is-from_two upper number ts q in
+    let w = two.3.0 in
+    let n = two.4.0 in
+    let tokens : ts ≡ Word w ∷ Literal (Number n) ∷ [] = two.2 ∙ ap (λ (l : List TokenContent). l ++ two.1) two.3.1 ∙ ap (λ (l : List TokenContent). Word w ∷ l) two.4.1 in
+    (Relation w (count_of n), (n, ap (λ (l : List TokenContent). Word (codes "relation") ∷ l) tokens, two.3.2, refl))
+
+Is-more-limits : (ts : List TokenContent) → Expects (number ∷ number ∷ []) ts → IsCommandText (Word (codes "limits") ∷ ts)
+Is-more-limits ts q =
+    let two = Is-from_two number number ts q in
+    let m = two.3.0 in
+    let n = two.4.0 in
+    let tokens : ts ≡ Literal (Number m) ∷ Literal (Number n) ∷ [] = two.2 ∙ ap (λ (l : List TokenContent). l ++ two.1) two.3.1 ∙ ap (λ (l : List TokenContent). Literal (Number m) ∷ l) two.4.1 in
+    (Limits (count_of m) (count_of n), (m, n, ap (λ (l : List TokenContent). Word (codes "limits") ∷ l) tokens, refl, refl))
+
+-- a command word, and what its symbols stand for
+command_from_expected : (k : CommandWord) (ts : List TokenContent) → Expects (after_command k) ts → IsCommandText (Word (bytes_of k) ∷ ts)
+command_from_expected words.Relation ts q = Is-more-relation ts q
+command_from_expected words.Limits ts q = Is-more-limits ts q
+command_from_expected words.Post ts q = Is-more-post ts q
+command_from_expected words.Withdraw ts q = let i = Is-from_one name ts q in (Withdraw i.0, ap (λ (l : List TokenContent). Word (codes "withdraw") ∷ l) i.1)
+command_from_expected words.Insert ts q = let r = row_from_expected ts q in (Insert r.0, (ts, refl, r.1))
+command_from_expected words.Delete ts q = let r = row_from_expected ts q in (Delete r.0, (ts, refl, r.1))
+command_from_expected words.Publish ts q = (Publish, ap (λ (l : List TokenContent). Word (codes "publish") ∷ l) q)
+command_from_expected words.Show ts q = (Show, ap (λ (l : List TokenContent). Word (codes "show") ∷ l) q)
+
+map_word : (o : Option CommandWord) (r : List Symbol) → option_map after_command o ≡ Some r → (k : CommandWord) × (o ≡ Some k) × (after_command k ≡ r)
+map_word None r e = absurd cc
+map_word (Some k) r e = (k, refl, cc)
 
 Is-more-command : (t : TokenContent) (ts : List TokenContent) (r : List Symbol) → first_command t ≡ Some r → Expects r ts → Is command (t ∷ ts)
 Is-more-command (Word w) ts r e q =
-    elim (cases_cond_some (bytes_eq w (codes "post")) (name ∷ query_symbols) r _ e) [
-      | inl (b, same) ↦ subst (λ (v : List ℕ). IsCommandText (Word v ∷ ts)) (sym (bytes_eq-true w (codes "post") b)) (Is-more-post ts (at_same (name ∷ query_symbols) r ts same q))
-      | inr d ↦ elim (cases_cond_some (bytes_eq w (codes "publish")) [] r _ d) [
-        | inl (b, same) ↦ (Publish, ap (λ (v : List ℕ). Word v ∷ ts) (bytes_eq-true w (codes "publish") b) ∙ ap (λ (l : List TokenContent). Word (codes "publish") ∷ l) (at_same [] r ts same q), tt)
-        | inr k ↦
-            let h = when_some (bytes_eq w (codes "show")) [] r k in
-            (Show, ap (λ (v : List ℕ). Word v ∷ ts) (bytes_eq-true w (codes "show") h.0) ∙ ap (λ (l : List TokenContent). Word (codes "show") ∷ l) (at_same [] r ts h.1 q), tt)
-      ]
-    ]
+    let m = map_word (command_word w) r e in
+    subst (λ (v : List ℕ). IsCommandText (Word v ∷ ts)) (sym (command_word-is w m.0 m.1)) (command_from_expected m.0 ts (at_same (after_command m.0) r ts m.2 q))
 Is-more-command (Literal v) ts r e q = absurd cc
 Is-more-command (Mark s) ts r e q = absurd cc
 Is-more-command (Bad kind) ts r e q = absurd cc
@@ -376,29 +498,81 @@ Is-more (mark s) t ts r e q =
     let n : ts ≡ [] = at_same [] r ts h.1 q in
     ap (λ (v : TokenContent). v ∷ ts) u ∙ ap (λ (l : List TokenContent). Mark s ∷ l) n
 Is-more name t ts r e q = Is-more-name t ts r e q
+Is-more upper t ts r e q = Is-more-upper t ts r e q
+Is-more number t ts r e q = Is-more-number t ts r e q
+Is-more value t ts r e q = Is-more-value t ts r e q
+Is-more values_end t ts r e q = Is-more-in_list IsConstant value values_end CloseParen t ts r (λ f i. i) (λ f i. i) e q
 Is-more term t ts r e q = Is-more-term t ts r e q
 Is-more terms_end t ts r e q = Is-more-in_list IsTermText term terms_end CloseParen t ts r (λ f i. i) (λ f i. i) e q
 Is-more atom t ts r e q = Is-more-atom t ts r e q
 Is-more posts_end t ts r e q = Is-more-in_list IsAtomText atom posts_end CloseBrace t ts r (λ f i. i) (λ f i. i) e q
 Is-more heads_end t ts r e q = Is-more-in_list IsAtomText atom heads_end Arrow t ts r (λ f i. i) (λ f i. i) e q
+Is-more body_end t ts r e q = Is-more-body_end t ts r e q
+Is-more body t ts r e q = Is-more-body t ts r e q
 Is-more posts t ts r e q = Is-more-posts t ts r e q
 Is-more command t ts r e q = Is-more-command t ts r e q
 
 -- ---- the same for several symbols
 
-pub take_token-from_expects : (ss : List Symbol) (t : TokenContent) (ts : List TokenContent) → Expects ss (t ∷ ts) → (r : List Symbol) × (take_token ss t ≡ Some r) × Expects r ts
-take_token-from_expects [] t ts e = absurd cc
-take_token-from_expects (x ∷ ss) t ts ([], rest, e, i, q) = absurd (Is-nothing x i)
-take_token-from_expects (x ∷ ss) t ts (u ∷ front, rest, e, i, q) =
+-- a token that a symbol begins with is taken
+take_first : (x : Symbol) (ss : List Symbol) (t : TokenContent) (r : List Symbol) → first x t ≡ Some r → take_token (x ∷ ss) t ≡ Some (r ++ ss)
+take_first x ss t r e = by_end (is_nullable x && is_finish t) refl
+  where
+    no_finish : (y : Symbol) (u : TokenContent) → (is_nullable y && is_finish u) ≡ true → first y u ≡ Some r → ⊥
+    no_finish body_end Finish h k = cc
+    no_finish body_end (Mark s) h k = cc
+    no_finish body_end (Word w) h k = cc
+    no_finish body_end (Literal v) h k = cc
+    no_finish body_end (Bad kind) h k = cc
+    no_finish body Finish h k = cc
+    no_finish body (Mark s) h k = cc
+    no_finish body (Word w) h k = cc
+    no_finish body (Literal v) h k = cc
+    no_finish body (Bad kind) h k = cc
+    no_finish y u h k = cc
+
+    by_end : (b : Bool) → (is_nullable x && is_finish t) ≡ b → cond b (Some ss) (option_map (λ w. w ++ ss) (first x t)) ≡ Some (r ++ ss)
+    by_end true h = absurd (no_finish x t h e)
+    by_end false h = ap (option_map (λ w. w ++ ss)) e
+
+-- nothing is expected behind a symbol that stands for nothing
+pub nothing_after : (x : Symbol) (ss : List Symbol) → Holds (is_nullable x) → OnlyLast (is_last x) ss → ss ≡ []
+nothing_after body_end ss h o = o
+nothing_after body ss h o = o
+nothing_after x ss h o = absurd h
+
+pub take_token-from_expects : (ss : List Symbol) (t : TokenContent) (ts : List TokenContent) → Ordered ss → Expects ss (t ∷ ts) → (r : List Symbol) × (take_token ss t ≡ Some r) × Expects r ts
+take_token-from_expects [] t ts o e = absurd cc
+take_token-from_expects (x ∷ ss) t ts o ([], rest, e, i, q) = absurd (nothing (subst (λ (s : List Symbol). Expects s rest) (nothing_after x ss (Is-nothing x i) o.0) q))
+  where
+    nothing : rest ≡ [] → ⊥
+    nothing h = cc
+take_token-from_expects (x ∷ ss) t ts o (u ∷ front, rest, e, i, q) =
     let same : t ≡ u = cc in
     let tail : front ++ rest ≡ ts = cc in
     let l = Leaves-from_is x u front i in
-    (l.0 ++ ss, ap (λ (v : TokenContent). option_map (λ r. r ++ ss) (first x v)) same ∙ ap (option_map (λ r. r ++ ss)) l.1, subst (λ (w : List TokenContent). Expects (l.0 ++ ss) w) tail (Expects-append l.0 ss front rest l.2 q))
+    (l.0 ++ ss, ap (take_token (x ∷ ss)) same ∙ take_first x ss u l.0 l.1, subst (λ (w : List TokenContent). Expects (l.0 ++ ss) w) tail (Expects-append l.0 ss front rest l.2 q))
 
-pub expects_from_take_token : (ss : List Symbol) (t : TokenContent) (ts : List TokenContent) (r : List Symbol) → take_token ss t ≡ Some r → Expects r ts → Expects ss (t ∷ ts)
-expects_from_take_token [] t ts r e q = absurd cc
-expects_from_take_token (x ∷ ss) t ts r e q =
-    let m = map_some (λ s. s ++ ss) (first x t) r e in
+-- what is taken, but for the end
+taken_first : (x : Symbol) (ss : List Symbol) (t : TokenContent) (r : List Symbol) → flaw t ≡ None → take_token (x ∷ ss) t ≡ Some r → option_map (λ w. w ++ ss) (first x t) ≡ Some r
+taken_first x ss t r f e = by_end (is_nullable x) (is_finish t) (no_end_of t f) e
+  where
+    no_end_of : (u : TokenContent) → flaw u ≡ None → is_finish u ≡ false
+    no_end_of (Mark s) h = refl
+    no_end_of (Word w) h = refl
+    no_end_of (Literal v) h = refl
+    no_end_of (Bad kind) h = absurd cc
+    no_end_of Finish h = absurd cc
+
+    by_end : (b c : Bool) → c ≡ false → cond (b && c) (Some ss) (option_map (λ w. w ++ ss) (first x t)) ≡ Some r → option_map (λ w. w ++ ss) (first x t) ≡ Some r
+    by_end true true h k = absurd cc
+    by_end true false h k = k
+    by_end false c h k = k
+
+pub expects_from_take_token : (ss : List Symbol) (t : TokenContent) (ts : List TokenContent) (r : List Symbol) → flaw t ≡ None → take_token ss t ≡ Some r → Expects r ts → Expects ss (t ∷ ts)
+expects_from_take_token [] t ts r f e q = absurd cc
+expects_from_take_token (x ∷ ss) t ts r f e q =
+    let m = map_some (λ s. s ++ ss) (first x t) r (taken_first x ss t r f e) in
     let s = Expects-split m.0 ss ts (at_same (m.0 ++ ss) r ts m.2 q) in
     (t ∷ s.0, s.1, ap (λ (l : List TokenContent). t ∷ l) s.2, Is-more x t s.0 m.0 m.1 s.3, s.4)
 
@@ -413,13 +587,19 @@ an_atom_is = (record { relation = 65 ∷ []; terms = Constant (Number (pos 0)) �
 pub shortest : (x : Symbol) → (ts : List TokenContent) × Is x ts
 shortest (mark s) = (Mark s ∷ [], refl)
 shortest name = (Word [] ∷ [], ([], refl))
+shortest upper = (Word (65 ∷ []) ∷ [], (65 ∷ [], refl, refl))
+shortest number = (Literal (Number (pos 0)) ∷ [], (pos 0, refl))
+shortest value = (Literal (Number (pos 0)) ∷ [], (Number (pos 0), refl))
+shortest values_end = (Mark CloseParen ∷ [], inl refl)
 shortest term = (Literal (Number (pos 0)) ∷ [], (Constant (Number (pos 0)), refl))
 shortest terms_end = (Mark CloseParen ∷ [], inl refl)
 shortest atom = (an_atom, an_atom_is)
 shortest posts_end = (Mark CloseBrace ∷ [], inl refl)
 shortest heads_end = (Mark Arrow ∷ [], inl refl)
+shortest body_end = ([], inl refl)
+shortest body = ([], ([], refl))
 shortest posts = (Mark CloseBrace ∷ [], ([], [], refl, refl))
-shortest command = (Word (codes "show") ∷ [], (Show, refl, tt))
+shortest command = (Word (codes "show") ∷ [], (Show, refl))
 
 pub completion : (ss : List Symbol) → (ts : List TokenContent) × Expects ss ts
 completion [] = ([], refl)

@@ -1,8 +1,8 @@
 -- Reading gives a command or a query exactly where a text stands for it, and a fault exactly where it is the first.
-use Rattle.std.proofs.Common.{◌≡◌, ℕ, ◌+◌, ◌-◌, ◌≤◌, Bool, true, false, cond, List, [], ◌∷◌, length, Option, Some, None, Result, Ok, Err, refl, sym, ap, subst, ◌∙◌, arith, inl, inr, ◌⊎◌}
-use Rattle.std.specs.Prelude.{IfOk, ◌==◌}
-use Rattle.std.proofs.lemmas.Bool.{eqb-true}
-use Rattle.cq_atom.specs.Atom.{AtomRecord}
+use Rattle.std.proofs.Common.{◌≡◌, ℕ, ◌+◌, ◌-◌, ◌<◌, ◌≤◌, Bool, true, false, cond, List, [], ◌∷◌, length, Option, Some, None, Result, Ok, Err, refl, sym, ap, subst, ◌∙◌, arith, inl, inr, ◌⊎◌}
+use Rattle.std.specs.Prelude.{IfOk, ◌==◌, ◌↔◌}
+use Rattle.std.proofs.lemmas.Bool.{eqb-true, cases_lt}
+use Rattle.cq_atom.specs.Atom.{RowRecord}
 use Rattle.cq_atom.specs.Query.{QueryRecord}
 use Rattle.cq_text.specs.declared.limits.TheConstants.{MAX_LINE}
 use Rattle.cq_text.specs.declared.fault.Kind.{Kind}
@@ -13,18 +13,18 @@ use Rattle.cq_text.specs.declared.command.CommandKind.TheVariants.{Blank, Relati
 use Rattle.cq_text.specs.declared.token.Token.TheVariants.{Word}
 use Rattle.cq_text.specs.Token.{TokenContent, LexemeContent, tokens_of}
 use Rattle.cq_text.specs.Lexing.{is_space, is_blank, front, lexemes, lexemes_of}
-use Rattle.cq_text.specs.Grammar.{CommandContent, IsSentence, FitsGrammar, FitsQueryGrammar, StandsFor, StandsForQuery, IsRestricted, IsRestrictedCommand, IsServed, IsServedQuery}
-use Rattle.cq_text.specs.Fault.{IsCommandText, IsLoneQuery, opening, place_behind, FirstTokenFault, first_unbound_at, behind_brace, UnboundInCommand, UnboundInQuery, FirstFault, FirstQueryFault}
+use Rattle.cq_text.specs.Grammar.{FitsRowGrammar, StandsForRow, CommandContent, IsSentence, FitsGrammar, FitsQueryGrammar, StandsFor, StandsForQuery, IsRestricted, IsRestrictedCommand}
+use Rattle.cq_text.specs.Fault.{IsLoneRow, UnboundInRow, FirstRowFault, IsCommandText, IsLoneQuery, opening, place_behind, FirstTokenFault, first_unbound_at, behind_brace, UnboundInCommand, UnboundInQuery, FirstFault, FirstQueryFault}
 use Rattle.cq_text.specs.Views.{OrNoMemory, IfFault}
-use Rattle.cq_text.specs.Steps.Reading.{Ahead, Gives, fault, ◌>>=◌, ahead_of_text, query_record, bound_query, query_at, command_at}
+use Rattle.cq_text.specs.Steps.Reading.{row_at, Ahead, Gives, fault, ◌>>=◌, ahead_of_text, bound_query, query_at, command_at}
 use Rattle.cq_text.proofs.Binds.{bind_ok, ok_is, never_ok}
-use Rattle.cq_text.proofs.Machine.{command, query_symbols}
-use Rattle.cq_text.proofs.Derive.{query_expected, query_from_expected, Is-from_one, Expects-one}
+use Rattle.cq_text.proofs.Machine.{command, row_symbols, query_symbols}
+use Rattle.cq_text.proofs.Derive.{row_expected, row_from_expected, query_expected, query_from_expected, Is-from_one, Expects-one}
 use Rattle.cq_text.proofs.Scan.{Checked, Leave, first_from_scan, scan_from_first}
-use Rattle.cq_text.proofs.Runs.{QueryParts, parts_at, query_by_parts, run_query, Parts, posted, alone, command_of_parts, command_parts, command_by_parts, run_command}
-use Rattle.cq_text.proofs.Taken.{QueryRead, parts_ok, query_fits, PostRead, PartsRead, command_parts_ok, post_fits}
-use Rattle.cq_text.proofs.Again.{parts_again, command_again}
-use Rattle.cq_text.proofs.Bound.{AreGood, scan_good, AllBound, SomeUnbound, bound_or_not}
+use Rattle.cq_text.proofs.Runs.{QueryParts, parts_at, query_by_parts, run_query, Parts, posted, whole, command_of_parts, command_parts, command_by_parts, run_command, run_row}
+use Rattle.cq_text.proofs.Taken.{QueryRead, parts_ok, query_fits, PostRead, PartsRead, command_parts_ok, post_fits, row_ok}
+use Rattle.cq_text.proofs.Again.{parts_again, command_again, row_again}
+use Rattle.cq_text.proofs.Bound.{AreGood, scan_good, AllBound, SomeUnbound, bound_or_not, record_of}
 
 -- ---- results
 
@@ -44,44 +44,37 @@ Faulty kind offset = fault kind offset
 fault_is : {A : Type 0} (k j : Kind) (m n : ℕ) → Faulty {A = A} k m ≡ fault j n → (j ≡ k) × (n ≡ m)
 fault_is k j m n e = (cc, cc)
 
-record_is : (q : QueryRecord) → q.body ≡ [] → query_record q.posts q.heads ≡ q
-record_is q e = ap (λ (b : List AtomRecord). record { posts = q.posts; heads = q.heads; body = b }) (sym e)
-
 -- ---- commands
 
 leave_command : Leave IsCommandText [] (command ∷ [])
-leave_command = record { from = λ more q. Is-from_one command more q; to = λ more s. Expects-one command more s }
+leave_command = record { from = λ more q. Is-from_one command more q; to = λ more s. Expects-one command more s; ordered = (refl, tt) }
 
-good_command : (a : Ahead) (p : Parts) → command_parts a ≡ Ok p → AreGood a.lexemes
+pub good_command : (a : Ahead) (p : Parts) → command_parts a ≡ Ok p → AreGood a.lexemes
 good_command a p e = scan_good (command ∷ []) opening a.lexemes a.end (run_command a ∙ passed (command_parts a) p e)
 
-behind_post : (ls : List LexemeContent) (w : List ℕ) (q : QueryParts) (r : PostRead ls w q) → ls ≡ r.word ∷ r.name ∷ r.query.brace ∷ q.2.lexemes
+behind_post : (ls : List LexemeContent) (w : List ℕ) (q : QueryParts) (r : PostRead ls w q) → ls ≡ r.word ∷ r.name ∷ r.query.brace ∷ q.3.lexemes
 behind_post ls w q r = r.split ∙ ap (λ (l : List LexemeContent). r.word ∷ r.name ∷ l) r.query.behind
 
-brace_of_post : (ls : List LexemeContent) (w : List ℕ) (q : QueryParts) → PostRead ls w q → behind_brace ls ≡ q.2.lexemes
+brace_of_post : (ls : List LexemeContent) (w : List ℕ) (q : QueryParts) → PostRead ls w q → behind_brace ls ≡ q.3.lexemes
 brace_of_post ls w q r = ap behind_brace (behind_post ls w q r) ∙ rw (r.is_word, r.is_name, r.query.is_brace) refl
 
-good_behind : (ls : List LexemeContent) (w : List ℕ) (q : QueryParts) → PostRead ls w q → AreGood ls → AreGood q.2.lexemes
+good_behind : (ls : List LexemeContent) (w : List ℕ) (q : QueryParts) → PostRead ls w q → AreGood ls → AreGood q.3.lexemes
 good_behind ls w q r g = (subst AreGood (behind_post ls w q r) g).1.1.1
 
-post_verdict : (ls : List LexemeContent) (w : List ℕ) (q : QueryParts) → PostRead ls w q → AreGood ls → AllBound q ⊎ SomeUnbound q
+pub post_verdict : (ls : List LexemeContent) (w : List ℕ) (q : QueryParts) → PostRead ls w q → AreGood ls → AllBound q ⊎ SomeUnbound q
 post_verdict ls w q r g = bound_or_not r.rest q r.query (good_behind ls w q r g)
 
 abbrev FoundCommand : Ahead → CommandContent → Type 0
-FoundCommand a c = FitsGrammar a.lexemes c × IsRestrictedCommand c × IsServed c
-
-alone_restricted : (c : CommandContent) → (c ≡ Publish) ⊎ (c ≡ Show) → IsRestrictedCommand c
-alone_restricted c (inl e) = subst IsRestrictedCommand (sym e) tt
-alone_restricted c (inr e) = subst IsRestrictedCommand (sym e) tt
+FoundCommand a c = FitsGrammar a.lexemes c × IsRestrictedCommand c
 
 found_parts : (a : Ahead) (p : Parts) (c : CommandContent) → PartsRead a.lexemes p → AreGood a.lexemes → command_of_parts p ≡ Ok c → FoundCommand a c
 found_parts a (posted w q) c r g e = elim (post_verdict a.lexemes w q r g) [
   | inl b ↦
-      let made : ◌≡◌ {A = Result CommandContent TextFault} (Ok (Post w (query_record q.0 q.1))) (Ok c) = sym (ap (λ (s : Result QueryRecord TextFault). s >>= λ query. Ok (Post w query)) b.read) ∙ e in
-      subst (λ (d : CommandContent). FoundCommand a d) (ok_is (Post w (query_record q.0 q.1)) c made) (post_fits a.lexemes w q r, b.restricted, refl)
+      let made : ◌≡◌ {A = Result CommandContent TextFault} (Ok (Post w (record_of q))) (Ok c) = sym (ap (λ (s : Result QueryRecord TextFault). s >>= λ query. Ok (Post w query)) b.read) ∙ e in
+      subst (λ (d : CommandContent). FoundCommand a d) (ok_is (Post w (record_of q)) c made) (post_fits a.lexemes w q r, b.restricted)
   | inr s ↦ absurd (never_ok kinds.Unbound s.offset c (sym (ap (λ (s : Result QueryRecord TextFault). s >>= λ query. Ok (Post w query)) s.read) ∙ e))
 ]
-found_parts a (alone d) c r g e = subst (λ (d : CommandContent). FoundCommand a d) (ok_is d c e) (r.fits, alone_restricted d r.only_alone, r.served)
+found_parts a (whole d) c r g e = subst (λ (d : CommandContent). FoundCommand a d) (ok_is d c e) (r.fits, r.restricted)
 
 pub command_found : (a : Ahead) (c : CommandContent) → command_at a ≡ Ok c → FoundCommand a c
 command_found a c e =
@@ -91,34 +84,34 @@ command_found a c e =
 by_parts : (a : Ahead) (p : Parts) → command_parts a ≡ Ok p → command_at a ≡ command_of_parts p
 by_parts a p e = command_by_parts a ∙ ap (λ (r : Result Parts TextFault). r >>= command_of_parts) e
 
-pub command_only : (a : Ahead) (c : CommandContent) → FitsGrammar a.lexemes c → IsRestrictedCommand c → IsServed c → command_at a ≡ Ok c
-command_only a Blank f restricted served = absurd f.sentence
-command_only a (Relation n k) f restricted served = absurd served
-command_only a (Limits m n) f restricted served = absurd served
-command_only a (Post w query) f restricted served =
-    let r = command_again a (Post w query) f served in
-    let q : QueryParts = (query.posts, query.heads, r.0) in
+pub command_only : (a : Ahead) (c : CommandContent) → FitsGrammar a.lexemes c → IsRestrictedCommand c → command_at a ≡ Ok c
+command_only a Blank f restricted = absurd f.sentence
+command_only a (Relation n k) f restricted = by_parts a (whole (Relation n k)) (command_again a (Relation n k) f)
+command_only a (Limits m n) f restricted = by_parts a (whole (Limits m n)) (command_again a (Limits m n) f)
+command_only a (Post w query) f restricted =
+    let r = command_again a (Post w query) f in
+    let q : QueryParts = (query.posts, query.heads, query.body, r.0) in
     elim (post_verdict a.lexemes w q (command_parts_ok a (posted w q) r.1) (good_command a (posted w q) r.1)) [
-      | inl b ↦ by_parts a (posted w q) r.1 ∙ ap (λ (s : Result QueryRecord TextFault). s >>= λ query. Ok (Post w query)) b.read ∙ ap (λ (x : QueryRecord). Ok (Post w x)) (record_is query served)
-      | inr s ↦ absurd (s.not_restricted (subst IsRestricted (sym (record_is query served)) restricted))
+      | inl b ↦ by_parts a (posted w q) r.1 ∙ ap (λ (s : Result QueryRecord TextFault). s >>= λ query. Ok (Post w query)) b.read
+      | inr s ↦ absurd (s.not_restricted restricted)
     ]
-command_only a (Withdraw n) f restricted served = absurd served
-command_only a (Insert row) f restricted served = absurd served
-command_only a (Delete row) f restricted served = absurd served
-command_only a Publish f restricted served = by_parts a (alone Publish) (command_again a Publish f served)
-command_only a Show f restricted served = by_parts a (alone Show) (command_again a Show f served)
+command_only a (Withdraw n) f restricted = by_parts a (whole (Withdraw n)) (command_again a (Withdraw n) f)
+command_only a (Insert row) f restricted = by_parts a (whole (Insert row)) (command_again a (Insert row) f)
+command_only a (Delete row) f restricted = by_parts a (whole (Delete row)) (command_again a (Delete row) f)
+command_only a Publish f restricted = by_parts a (whole Publish) (command_again a Publish f)
+command_only a Show f restricted = by_parts a (whole Show) (command_again a Show f)
 
 abbrev CommandFault : Ahead → Kind → ℕ → Type 0
 CommandFault a kind offset = FirstTokenFault IsCommandText [] a.lexemes a.end kind offset ⊎ ((kind ≡ kinds.Unbound) × UnboundInCommand a.lexemes offset)
 
 fault_of_parts : (a : Ahead) (p : Parts) (kind : Kind) (offset : ℕ) → PartsRead a.lexemes p → AreGood a.lexemes → command_of_parts p ≡ fault kind offset → CommandFault a kind offset
 fault_of_parts a (posted w q) kind offset r g e = elim (post_verdict a.lexemes w q r g) [
-  | inl b ↦ absurd (never_ok kind offset (Post w (query_record q.0 q.1)) (sym e ∙ ap (λ (s : Result QueryRecord TextFault). s >>= λ query. Ok (Post w query)) b.read))
+  | inl b ↦ absurd (never_ok kind offset (Post w (record_of q)) (sym e ∙ ap (λ (s : Result QueryRecord TextFault). s >>= λ query. Ok (Post w query)) b.read))
   | inr s ↦
       let same = fault_is kinds.Unbound kind s.offset offset (sym (ap (λ (s : Result QueryRecord TextFault). s >>= λ query. Ok (Post w query)) s.read) ∙ e) in
-      inr (same.0, (w, query_record q.0 q.1, post_fits a.lexemes w q r, refl, ap (first_unbound_at []) (brace_of_post a.lexemes w q r) ∙ s.first ∙ ap (λ (n : ℕ). Some n) (sym same.1)))
+      inr (same.0, (w, record_of q, post_fits a.lexemes w q r, ap (first_unbound_at q.2) (brace_of_post a.lexemes w q r) ∙ s.first ∙ ap (λ (n : ℕ). Some n) (sym same.1)))
 ]
-fault_of_parts a (alone c) kind offset r g e = absurd (never_ok kind offset c (sym e))
+fault_of_parts a (whole c) kind offset r g e = absurd (never_ok kind offset c (sym e))
 
 pub command_fault : (a : Ahead) (kind : Kind) (offset : ℕ) → command_at a ≡ fault kind offset → CommandFault a kind offset
 unfolding place_behind
@@ -141,11 +134,11 @@ unfolding place_behind
 command_only_fault a kind offset (inl h) =
     let e = only_fault (command_parts a) kind offset (sym (run_command a) ∙ scan_from_first IsCommandText [] (command ∷ []) a.lexemes a.end kind offset leave_command h) in
     command_by_parts a ∙ ap (λ (r : Result Parts TextFault). r >>= command_of_parts) e
-command_only_fault a kind offset (inr (k, (w, query, f, served, at))) =
-    let r = command_again a (Post w query) f served in
-    let q : QueryParts = (query.posts, query.heads, r.0) in
+command_only_fault a kind offset (inr (k, (w, query, f, at))) =
+    let r = command_again a (Post w query) f in
+    let q : QueryParts = (query.posts, query.heads, query.body, r.0) in
     let read = command_parts_ok a (posted w q) r.1 in
-    let here : first_unbound_at [] q.2.lexemes ≡ Some offset = ap (first_unbound_at []) (sym (brace_of_post a.lexemes w q read)) ∙ ap (λ (b : List AtomRecord). first_unbound_at b (behind_brace a.lexemes)) (sym served) ∙ at in
+    let here : first_unbound_at query.body q.3.lexemes ≡ Some offset = ap (first_unbound_at query.body) (sym (brace_of_post a.lexemes w q read)) ∙ at in
     elim (post_verdict a.lexemes w q read (good_command a (posted w q) r.1)) [
       | inl b ↦ absurd (some_none offset (sym here ∙ b.nowhere))
       | inr s ↦
@@ -156,40 +149,40 @@ command_only_fault a kind offset (inr (k, (w, query, f, served, at))) =
 -- ---- queries
 
 leave_query : Leave IsLoneQuery [] query_symbols
-leave_query = record { from = λ more q. query_from_expected more q; to = λ more s. query_expected more s }
+leave_query = record { from = λ more q. query_from_expected more q; to = λ more s. query_expected more s; ordered = (tt, (tt, (tt, (tt, (refl, tt))))) }
 
 good_query : (a : Ahead) (q : QueryParts) → parts_at a ≡ Ok q → AreGood a.lexemes
 good_query a q e = scan_good query_symbols opening a.lexemes a.end (run_query opening a ∙ passed (parts_at a) q e)
 
-query_verdict : (a : Ahead) (q : QueryParts) → parts_at a ≡ Ok q → AllBound q ⊎ SomeUnbound q
+pub query_verdict : (a : Ahead) (q : QueryParts) → parts_at a ≡ Ok q → AllBound q ⊎ SomeUnbound q
 query_verdict a q e =
     let r = parts_ok a q e in
     bound_or_not a q r (subst AreGood r.behind (good_query a q e)).1
 
-brace_of_query : (a : Ahead) (q : QueryParts) → QueryRead a q → behind_brace a.lexemes ≡ q.2.lexemes
+brace_of_query : (a : Ahead) (q : QueryParts) → QueryRead a q → behind_brace a.lexemes ≡ q.3.lexemes
 brace_of_query a q r = ap behind_brace r.behind ∙ rw r.is_brace refl
 
 abbrev FoundQuery : Ahead → QueryRecord → Type 0
-FoundQuery a query = FitsQueryGrammar a.lexemes query × IsRestricted query × IsServedQuery query
+FoundQuery a query = FitsQueryGrammar a.lexemes query × IsRestricted query
 
 pub query_found : (a : Ahead) (query : QueryRecord) → query_at a ≡ Ok query → FoundQuery a query
 query_found a query e =
-    let p = bind_ok (parts_at a) (λ q. bound_query q.0 q.1 q.2) query (sym (query_by_parts a) ∙ e) in
+    let p = bind_ok (parts_at a) (λ q. bound_query q.0 q.1 q.2 q.3) query (sym (query_by_parts a) ∙ e) in
     elim (query_verdict a p.0 p.1) [
-      | inl b ↦ subst (λ (x : QueryRecord). FoundQuery a x) (ok_is (query_record p.0.0 p.0.1) query (sym b.read ∙ p.2)) (query_fits a p.0 (parts_ok a p.0 p.1), b.restricted, refl)
+      | inl b ↦ subst (λ (x : QueryRecord). FoundQuery a x) (ok_is (record_of p.0) query (sym b.read ∙ p.2)) (query_fits a p.0 (parts_ok a p.0 p.1), b.restricted)
       | inr s ↦ absurd (never_ok kinds.Unbound s.offset query (sym s.read ∙ p.2))
     ]
 
-query_parts : (a : Ahead) (q : QueryParts) → parts_at a ≡ Ok q → query_at a ≡ bound_query q.0 q.1 q.2
-query_parts a q e = query_by_parts a ∙ ap (λ (r : Result QueryParts TextFault). r >>= λ x. bound_query x.0 x.1 x.2) e
+query_parts : (a : Ahead) (q : QueryParts) → parts_at a ≡ Ok q → query_at a ≡ bound_query q.0 q.1 q.2 q.3
+query_parts a q e = query_by_parts a ∙ ap (λ (r : Result QueryParts TextFault). r >>= λ x. bound_query x.0 x.1 x.2 x.3) e
 
-pub query_only : (a : Ahead) (query : QueryRecord) → FitsQueryGrammar a.lexemes query → IsRestricted query → IsServedQuery query → query_at a ≡ Ok query
-query_only a query f restricted served =
-    let r = parts_again a query f.sentence f.short f.fits served in
-    let q : QueryParts = (query.posts, query.heads, r.0) in
+pub query_only : (a : Ahead) (query : QueryRecord) → FitsQueryGrammar a.lexemes query → IsRestricted query → query_at a ≡ Ok query
+query_only a query f restricted =
+    let r = parts_again a query f.sentence f.short f.fits in
+    let q : QueryParts = (query.posts, query.heads, query.body, r.0) in
     elim (query_verdict a q r.1) [
-      | inl b ↦ query_parts a q r.1 ∙ b.read ∙ ap (λ (x : QueryRecord). Ok x) (record_is query served)
-      | inr s ↦ absurd (s.not_restricted (subst IsRestricted (sym (record_is query served)) restricted))
+      | inl b ↦ query_parts a q r.1 ∙ b.read
+      | inr s ↦ absurd (s.not_restricted restricted)
     ]
 
 abbrev QueryFault : Ahead → Kind → ℕ → Type 0
@@ -199,13 +192,13 @@ pub query_fault : (a : Ahead) (kind : Kind) (offset : ℕ) → query_at a ≡ fa
 unfolding place_behind
 query_fault a kind offset e = by_case (parts_at a) refl (sym (query_by_parts a) ∙ e)
   where
-    by_case : (r : Result QueryParts TextFault) → parts_at a ≡ r → (r >>= λ q. bound_query q.0 q.1 q.2) ≡ fault kind offset → QueryFault a kind offset
+    by_case : (r : Result QueryParts TextFault) → parts_at a ≡ r → (r >>= λ q. bound_query q.0 q.1 q.2 q.3) ≡ fault kind offset → QueryFault a kind offset
     by_case (Ok q) d h = elim (query_verdict a q d) [
-      | inl b ↦ absurd (never_ok kind offset (query_record q.0 q.1) (sym h ∙ b.read))
+      | inl b ↦ absurd (never_ok kind offset (record_of q) (sym h ∙ b.read))
       | inr s ↦
           let same = fault_is kinds.Unbound kind s.offset offset (sym s.read ∙ h) in
           let r = parts_ok a q d in
-          inr (same.0, (query_record q.0 q.1, query_fits a q r, refl, ap (first_unbound_at []) (brace_of_query a q r) ∙ s.first ∙ ap (λ (n : ℕ). Some n) (sym same.1)))
+          inr (same.0, (record_of q, query_fits a q r, ap (first_unbound_at q.2) (brace_of_query a q r) ∙ s.first ∙ ap (λ (n : ℕ). Some n) (sym same.1)))
     ]
     by_case (Err f) d h =
         let same : f ≡ At kind offset = cc in
@@ -215,16 +208,37 @@ pub query_only_fault : (a : Ahead) (kind : Kind) (offset : ℕ) → QueryFault a
 unfolding place_behind
 query_only_fault a kind offset (inl h) =
     let e = only_fault (parts_at a) kind offset (sym (run_query opening a) ∙ scan_from_first IsLoneQuery [] query_symbols a.lexemes a.end kind offset leave_query h) in
-    query_by_parts a ∙ ap (λ (r : Result QueryParts TextFault). r >>= λ q. bound_query q.0 q.1 q.2) e
-query_only_fault a kind offset (inr (k, (query, f, served, at))) =
-    let r = parts_again a query f.sentence f.short f.fits served in
-    let q : QueryParts = (query.posts, query.heads, r.0) in
-    let here : first_unbound_at [] q.2.lexemes ≡ Some offset = ap (first_unbound_at []) (sym (brace_of_query a q (parts_ok a q r.1))) ∙ ap (λ (b : List AtomRecord). first_unbound_at b (behind_brace a.lexemes)) (sym served) ∙ at in
+    query_by_parts a ∙ ap (λ (r : Result QueryParts TextFault). r >>= λ q. bound_query q.0 q.1 q.2 q.3) e
+query_only_fault a kind offset (inr (k, (query, f, at))) =
+    let r = parts_again a query f.sentence f.short f.fits in
+    let q : QueryParts = (query.posts, query.heads, query.body, r.0) in
+    let here : first_unbound_at query.body q.3.lexemes ≡ Some offset = ap (first_unbound_at query.body) (sym (brace_of_query a q (parts_ok a q r.1))) ∙ at in
     elim (query_verdict a q r.1) [
       | inl b ↦ absurd (some_none offset (sym here ∙ b.nowhere))
       | inr s ↦
           query_parts a q r.1 ∙ s.read ∙ ap (λ (n : ℕ). fault kinds.Unbound n) (some_same s.offset offset (sym s.first ∙ here)) ∙ ap (λ (j : Kind). fault j offset) (sym k)
     ]
+
+-- ---- ground atoms
+
+leave_row : Leave IsLoneRow [] row_symbols
+leave_row = record { from = λ more q. row_from_expected more q; to = λ more s. row_expected more s; ordered = (tt, (tt, (tt, (tt, tt)))) }
+
+pub row_only : (a : Ahead) (row : RowRecord) → FitsRowGrammar a.lexemes row → row_at a ≡ Ok row
+row_only a row f = row_again a row f.sentence f.short f.fits
+
+abbrev RowFault : Ahead → Kind → ℕ → Type 0
+RowFault a kind offset = FirstTokenFault IsLoneRow [] a.lexemes a.end kind offset ⊎ ((kind ≡ kinds.Unbound) × UnboundInRow a.lexemes offset)
+
+pub row_fault : (a : Ahead) (kind : Kind) (offset : ℕ) → row_at a ≡ fault kind offset → RowFault a kind offset
+unfolding place_behind
+row_fault a kind offset e =
+    inl (first_from_scan IsLoneRow [] row_symbols a.lexemes a.end kind offset leave_row (run_row a ∙ ap (λ (r : Result RowRecord TextFault). r >>= λ x. Ok tt) e))
+
+pub row_only_fault : (a : Ahead) (kind : Kind) (offset : ℕ) → RowFault a kind offset → row_at a ≡ fault kind offset
+unfolding place_behind
+row_only_fault a kind offset (inl h) = only_fault (row_at a) kind offset (sym (run_row a) ∙ scan_from_first IsLoneRow [] row_symbols a.lexemes a.end kind offset leave_row h)
+row_only_fault a kind offset (inr (k, none)) = absurd none
 
 -- ---- blank texts
 
@@ -245,20 +259,20 @@ no_token at (b ∷ bs) e w more h = by_case (is_space b) refl e h (no_token (at 
     by_case true s k j ih = ih k w more j
     by_case false s k j ih = hash k j
 
-begins_word : (ts : List TokenContent) (c : CommandContent) → IsSentence ts c → IsServed c → (w : List ℕ) × (more : List TokenContent) × (ts ≡ Word w ∷ more)
-begins_word ts Blank s served = absurd s
-begins_word ts (Relation n a) s served = absurd served
-begins_word ts (Limits p j) s served = absurd served
-begins_word ts (Post n query) (rest, e, q) served = (_, _, e)
-begins_word ts (Withdraw n) s served = absurd served
-begins_word ts (Insert row) s served = absurd served
-begins_word ts (Delete row) s served = absurd served
-begins_word ts Publish e served = (_, _, e)
-begins_word ts Show e served = (_, _, e)
+begins_word : (ts : List TokenContent) (c : CommandContent) → IsSentence ts c → (w : List ℕ) × (more : List TokenContent) × (ts ≡ Word w ∷ more)
+begins_word ts Blank s = absurd s
+begins_word ts (Relation n a) (m, e, u, k) = (_, _, e)
+begins_word ts (Limits p j) (m, n, e, k, i) = (_, _, e)
+begins_word ts (Post n query) (rest, e, q) = (_, _, e)
+begins_word ts (Withdraw n) e = (_, _, e)
+begins_word ts (Insert row) (rest, e, r) = (_, _, e)
+begins_word ts (Delete row) (rest, e, r) = (_, _, e)
+begins_word ts Publish e = (_, _, e)
+begins_word ts Show e = (_, _, e)
 
-pub blank_alone : (text : List ℕ) (c : CommandContent) → is_blank text ≡ true → StandsFor text c → IsServed c → c ≡ Blank
-blank_alone text c e (short, inl (is, blank)) served = is
-blank_alone text c e (short, inr (f, restricted)) served = let b = begins_word (tokens_of (lexemes_of text)) c f.sentence served in absurd (no_token 0 text e b.0 b.1 b.2)
+pub blank_alone : (text : List ℕ) (c : CommandContent) → is_blank text ≡ true → StandsFor text c → c ≡ Blank
+blank_alone text c e (short, inl (is, blank)) = is
+blank_alone text c e (short, inr (f, restricted)) = let b = begins_word (tokens_of (lexemes_of text)) c f.sentence in absurd (no_token 0 text e b.0 b.1 b.2)
 
 -- ---- what a function returned, by the laws
 
@@ -275,13 +289,13 @@ as_fault (Err (At k o)) kind offset e = inl (sym e)
 abbrev ReadText : Result CommandContent TextFault → List ℕ → Type 0
 ReadText r text = Gives (λ x. x) r (command_at (ahead_of_text text))
 
-pub found_in : (r : Result CommandContent TextFault) (text : List ℕ) → ReadText r text → length text ≤ MAX_LINE → IfOk r (λ c. StandsFor text c × IsServed c)
-found_in (Ok c) text g le = let f = command_found (ahead_of_text text) c g in ((le, inr (f.0, f.1)), f.2)
+pub found_in : (r : Result CommandContent TextFault) (text : List ℕ) → ReadText r text → length text ≤ MAX_LINE → IfOk r (λ c. StandsFor text c)
+found_in (Ok c) text g le = let f = command_found (ahead_of_text text) c g in (le, inr f)
 found_in (Err e) text g le = tt
 
-pub only_in : (r : Result CommandContent TextFault) (text : List ℕ) (c : CommandContent) → ReadText r text → (is_blank text ≡ true → ⊥) → StandsFor text c → IsServed c → OrNoMemory r (Ok c)
-only_in r text c g not_blank (le, inl (is, blank)) served = absurd (not_blank blank)
-only_in r text c g not_blank (le, inr (f, restricted)) served = as_given r c (subst (λ (s : Result CommandContent TextFault). Gives (λ x. x) r s) (command_only (ahead_of_text text) c f restricted served) g)
+pub only_in : (r : Result CommandContent TextFault) (text : List ℕ) (c : CommandContent) → ReadText r text → (is_blank text ≡ true → ⊥) → StandsFor text c → OrNoMemory r (Ok c)
+only_in r text c g not_blank (le, inl (is, blank)) = absurd (not_blank blank)
+only_in r text c g not_blank (le, inr (f, restricted)) = as_given r c (subst (λ (s : Result CommandContent TextFault). Gives (λ x. x) r s) (command_only (ahead_of_text text) c f restricted) g)
 
 pub fault_in : (r : Result CommandContent TextFault) (text : List ℕ) → ReadText r text → (is_blank text ≡ true → ⊥) → length text ≤ MAX_LINE → IfFault r (λ kind offset. FirstFault text kind offset)
 fault_in (Ok c) text g not_blank le = tt
@@ -295,12 +309,12 @@ only_fault_in r text kind offset g le (b, inr (short, h)) = as_fault r kind offs
 abbrev ReadQuery : Result QueryRecord TextFault → List ℕ → Type 0
 ReadQuery r text = Gives (λ x. x) r (query_at (ahead_of_text text))
 
-pub query_found_in : (r : Result QueryRecord TextFault) (text : List ℕ) → ReadQuery r text → length text ≤ MAX_LINE → IfOk r (λ query. StandsForQuery text query × IsServedQuery query)
-query_found_in (Ok query) text g le = let f = query_found (ahead_of_text text) query g in ((le, f.0, f.1), f.2)
+pub query_found_in : (r : Result QueryRecord TextFault) (text : List ℕ) → ReadQuery r text → length text ≤ MAX_LINE → IfOk r (λ query. StandsForQuery text query)
+query_found_in (Ok query) text g le = let f = query_found (ahead_of_text text) query g in (le, f.0, f.1)
 query_found_in (Err e) text g le = tt
 
-pub query_only_in : (r : Result QueryRecord TextFault) (text : List ℕ) (query : QueryRecord) → ReadQuery r text → StandsForQuery text query → IsServedQuery query → OrNoMemory r (Ok query)
-query_only_in r text query g (le, f, restricted) served = as_given r query (subst (λ (s : Result QueryRecord TextFault). Gives (λ x. x) r s) (query_only (ahead_of_text text) query f restricted served) g)
+pub query_only_in : (r : Result QueryRecord TextFault) (text : List ℕ) (query : QueryRecord) → ReadQuery r text → StandsForQuery text query → OrNoMemory r (Ok query)
+query_only_in r text query g (le, f, restricted) = as_given r query (subst (λ (s : Result QueryRecord TextFault). Gives (λ x. x) r s) (query_only (ahead_of_text text) query f restricted) g)
 
 pub query_fault_in : (r : Result QueryRecord TextFault) (text : List ℕ) → ReadQuery r text → length text ≤ MAX_LINE → IfFault r (λ kind offset. FirstQueryFault text kind offset)
 query_fault_in (Ok query) text g le = tt
@@ -311,11 +325,37 @@ pub query_only_fault_in : (r : Result QueryRecord TextFault) (text : List ℕ) (
 query_only_fault_in r text kind offset g le (inl (long, k, o)) = let never : ⊥ = omega arith in absurd never
 query_only_fault_in r text kind offset g le (inr (short, h)) = as_fault r kind offset (subst (λ (s : Result QueryRecord TextFault). Gives (λ x. x) r s) (query_only_fault (ahead_of_text text) kind offset h) g)
 
+abbrev ReadRow : Result RowRecord TextFault → List ℕ → Type 0
+ReadRow r text = Gives (λ x. x) r (row_at (ahead_of_text text))
+
+pub row_found_in : (r : Result RowRecord TextFault) (text : List ℕ) → ReadRow r text → length text ≤ MAX_LINE → IfOk r (λ row. StandsForRow text row)
+row_found_in (Ok row) text g le = (le, row_ok (ahead_of_text text) row g)
+row_found_in (Err e) text g le = tt
+
+pub row_only_in : (r : Result RowRecord TextFault) (text : List ℕ) (row : RowRecord) → ReadRow r text → StandsForRow text row → OrNoMemory r (Ok row)
+row_only_in r text row g (le, f) = as_given r row (subst (λ (s : Result RowRecord TextFault). Gives (λ x. x) r s) (row_only (ahead_of_text text) row f) g)
+
+pub row_fault_in : (r : Result RowRecord TextFault) (text : List ℕ) → ReadRow r text → length text ≤ MAX_LINE → IfFault r (λ kind offset. FirstRowFault text kind offset)
+row_fault_in (Ok row) text g le = tt
+row_fault_in (Err NoMemory) text g le = tt
+row_fault_in (Err (At kind offset)) text g le = inr (le, row_fault (ahead_of_text text) kind offset g)
+
+pub row_only_fault_in : (r : Result RowRecord TextFault) (text : List ℕ) (kind : Kind) (offset : ℕ) → ReadRow r text → length text ≤ MAX_LINE → FirstRowFault text kind offset → OrNoMemory r (fault kind offset)
+row_only_fault_in r text kind offset g le (inl (long, k, o)) = let never : ⊥ = omega arith in absurd never
+row_only_fault_in r text kind offset g le (inr (short, h)) = as_fault r kind offset (subst (λ (s : Result RowRecord TextFault). Gives (λ x. x) r s) (row_only_fault (ahead_of_text text) kind offset h) g)
+
+-- a text that is not too long
+pub short_enough : (text : List ℕ) (b : Bool) → (b ≡ true) ↔ (MAX_LINE < length text) → b ≡ false → length text ≤ MAX_LINE
+short_enough text b e f = elim (cases_lt MAX_LINE (length text)) [ inl long ↦ absurd (false_true (sym f ∙ e.1 long)) | inr short ↦ short ]
+  where
+    false_true : false ≡ true → ⊥
+    false_true k = cc
+
 pub is_not_blank : (b : Bool) (text : List ℕ) → b ≡ is_blank text → b ≡ false → is_blank text ≡ true → ⊥
 is_not_blank b text e f h = false_true (sym f ∙ e ∙ h)
   where
     false_true : false ≡ true → ⊥
     false_true k = cc
 
-pub blank_read : (text : List ℕ) (c : CommandContent) → is_blank text ≡ true → StandsFor text c → IsServed c → OrNoMemory {X = CommandContent} (Ok Blank) (Ok c)
-blank_read text c e s served = inl (ap (λ (d : CommandContent). Ok d) (sym (blank_alone text c e s served)))
+pub blank_read : (text : List ℕ) (c : CommandContent) → is_blank text ≡ true → StandsFor text c → OrNoMemory {X = CommandContent} (Ok Blank) (Ok c)
+blank_read text c e s = inl (ap (λ (d : CommandContent). Ok d) (sym (blank_alone text c e s)))

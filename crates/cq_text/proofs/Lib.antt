@@ -2,6 +2,7 @@ pub mod Again
 pub mod Binds
 pub mod Blank
 pub mod Bound
+pub mod Commands
 pub mod Derive
 pub mod Fronts
 pub mod Laws
@@ -9,7 +10,9 @@ pub mod Lexemes
 pub mod Loops
 pub mod Machine
 pub mod Numbers
+pub mod OneReading
 pub mod Quotes
+pub mod Refusals
 pub mod Runs
 pub mod Scan
 pub mod Taken

@@ -1,13 +1,18 @@
 -- Reading a list, as a loop does.
-use Rattle.std.proofs.Common.{◌≡◌, ℕ, suc, ◌-◌, ◌+◌, ◌≤◌, ◌<◌, Bool, true, false, cond, nat_lt, List, [], ◌∷◌, ◌++◌, Result, Ok, Err, refl, sym, ap, ◌∙◌, append_assoc, arith, inl, inr}
+use Rattle.std.proofs.Common.{◌≡◌, ℕ, suc, ◌-◌, ◌+◌, ◌≤◌, ◌<◌, Bool, true, false, cond, nat_lt, List, [], ◌∷◌, ◌++◌, Result, Ok, Err, refl, sym, ap, ◌∙◌, append_assoc, arith, inl, inr, zero, Option, Some, None}
 use Rattle.std.proofs.lemmas.Bool.{cases_lt, lt-ltb, le-ltb, le-leb}
-use Rattle.cq_atom.specs.Atom.{is_arity}
-use Rattle.cq_text.specs.declared.fault.Kind.TheVariants.{Limit}
+use Rattle.cq_atom.specs.Atom.{is_arity, AtomRecord}
+use Rattle.cq_text.specs.declared.fault.Kind.TheVariants.{Limit, Shape}
+use Rattle.cq_text.specs.declared.fault.Kind.{Kind}
 use Rattle.cq_text.specs.declared.fault.TextFault.{TextFault}
 use Rattle.cq_text.specs.declared.fault.TextFault.TheVariants.{At, NoMemory}
-use Rattle.cq_text.specs.declared.token.Sign.{Sign}
-use Rattle.cq_text.specs.Steps.Reading.{Ahead, Fails, Item, ◌>>=◌, next_at, term_in, relation_in, listed_at, term_at, atom_at}
-use Rattle.cq_text.proofs.Binds.{bind_never, bind_ok, never_ok}
+use Rattle.cq_text.specs.Steps.Reading.{Ahead, Fails, Item, ◌>>=◌, next_at, term_in, value_in, relation_in, listed_at, term_at, value_at, atom_at, unless_flawed, next_of, is_sign, is_finish, goes_on_at, applied_at, atoms_at, atoms_if_any_at}
+use Rattle.cq_text.proofs.Binds.{bind_never, bind_ok, never_ok, ok_is, guard_ok, chosen}
+use Rattle.cq_text.specs.declared.token.Close.{Close}
+use Rattle.cq_text.specs.declared.token.Close.TheVariants.{End}
+use Rattle.cq_text.specs.declared.token.Sign.TheVariants.{Comma}
+use Rattle.cq_text.specs.declared.token.Token.TheVariants.{Mark, Word, Literal, Bad, Finish}
+use Rattle.cq_text.specs.Token.{TokenContent, LexemeContent, flaw}
 
 -- no item is read where there is no room for it
 abbrev pub NeedsRoom : {A : Type 0} → Item A → Type 0
@@ -20,7 +25,14 @@ term_needs a r h =
     let q = bind_ok (term_in p.0.0.token p.0.0.at) _ r p.2 in
     never_ok Limit p.0.0.at r q.2
 
-pub atom_needs : (close : Sign) → NeedsRoom (atom_at close)
+pub value_needs : NeedsRoom value_at
+unfolding value_at
+value_needs a r h =
+    let p = bind_ok (next_at a) _ r h in
+    let q = bind_ok (value_in p.0.0.token p.0.0.at) _ r p.2 in
+    never_ok Limit p.0.0.at r q.2
+
+pub atom_needs : (close : Close) → NeedsRoom (atom_at close)
 unfolding atom_at
 atom_needs close a r h =
     let p = bind_ok (next_at a) _ r h in
@@ -81,3 +93,80 @@ with_nothing (Err e) = refl
 
 pub begins : {A : Type 0} (item : Item A) (most : ℕ) (front : List A) (k : ℕ) (a : Ahead) → front ≡ [] → k ≡ 0 → SoFar item most front k a (listed_at item most a)
 begins item most front k a e f = rw (e, f) (let h : most - 0 ≡ most = omega arith in rw h (with_nothing (listed_at item most a)))
+
+-- ---- reading up to the end
+
+-- nothing is behind the end
+finish_last : (a : Ahead) (l : LexemeContent) (b : Ahead) → next_at a ≡ Ok (l, b) → is_finish l.token ≡ true → b.lexemes ≡ []
+unfolding next_at
+finish_last a l b e f = over a.lexemes e
+  where
+    pair_is : (m : LexemeContent) (c : Ahead) → ◌≡◌ {A = Result (LexemeContent × Ahead) TextFault} (Ok (m, c)) (Ok (l, b)) → (m ≡ l) × (c ≡ b)
+    pair_is m c h = let p = ok_is (m, c) (l, b) h in (ap (λ (q : LexemeContent × Ahead). q.0) p, ap (λ (q : LexemeContent × Ahead). q.1) p)
+
+    flawed : (t : TokenContent) → is_finish t ≡ true → flaw t ≡ None → ⊥
+    flawed Finish h g = cc
+    flawed (Mark s) h g = cc
+    flawed (Word w) h g = cc
+    flawed (Literal v) h g = cc
+    flawed (Bad k) h g = cc
+
+    token_step : (m : LexemeContent) (c : Ahead) (g : Option Kind) → flaw m.token ≡ g → unless_flawed {A = LexemeContent × Ahead} g m.at (m, c) ≡ Ok (l, b) → b.lexemes ≡ []
+    token_step m c None g h = absurd (flawed m.token (ap (λ (k : LexemeContent). is_finish k.token) (pair_is m c h).0 ∙ f) g)
+    token_step m c (Some kind) g h = absurd (never_ok kind m.at (l, b) h)
+
+    over : (ls : List LexemeContent) → next_of ls a.end ≡ Ok (l, b) → b.lexemes ≡ []
+    over [] h = ap (λ (c : Ahead). c.lexemes) (sym (pair_is (record { at = a.end; token = Finish }) (record { lexemes = []; end = a.end }) h).1)
+    over (m ∷ ms) h = token_step m (record { lexemes = ms; end = a.end }) (flaw m.token) refl h
+
+-- the last item is the last thing
+abbrev EndsLast : {A : Type 0} → Item A → Type 0
+EndsLast {A} item = (a : Ahead) (x : A) (b : Ahead) → item true a ≡ Ok (x, false, b) → b.lexemes ≡ []
+
+goes_on_ends : (a b : Ahead) → goes_on_at End a ≡ Ok (false, b) → b.lexemes ≡ []
+unfolding goes_on_at
+goes_on_ends a b e =
+    let p = bind_ok (next_at a) _ (false, b) e in
+    elim (chosen (is_sign Comma p.0.0.token) _ _ (false, b) p.2) [
+      | inl (h, k) ↦ absurd (more_not (ap (λ (m : Bool × Ahead). m.0) (ok_is (true, p.0.1) (false, b) k)))
+      | inr (h, k) ↦
+          let g = guard_ok (is_finish p.0.0.token) Shape p.0.0.at (false, p.0.1) (false, b) k in
+          ap (λ (m : Bool × Ahead). m.1.lexemes) (sym g.1) ∙ finish_last a p.0.0 p.0.1 p.1 g.0
+    ]
+  where
+    more_not : true ≡ false → ⊥
+    more_not h = cc
+
+atom_ends : EndsLast (atom_at End)
+unfolding atom_at
+atom_ends a x b e =
+    let p = bind_ok (next_at a) _ (x, false, b) e in
+    let q = bind_ok (relation_in p.0.0.token p.0.0.at) _ (x, false, b) p.2 in
+    let s = bind_ok (applied_at q.0 p.0.1) _ (x, false, b) q.2 in
+    let m = bind_ok (goes_on_at End s.0.1) _ (x, false, b) s.2 in
+    let same = ok_is (s.0.0, m.0.0, m.0.1) (x, false, b) m.2 in
+    let last : m.0 ≡ (false, b) = ap (λ (i : AtomRecord × Bool × Ahead). (i.1, i.2)) same in
+    goes_on_ends s.0.1 b (m.1 ∙ ap (λ (n : Bool × Ahead). Ok n) last)
+
+listed_ends : {A : Type 0} (item : Item A) (n : ℕ) (a : Ahead) (r : List A × Ahead) → NeedsRoom item → EndsLast item → listed_at item n a ≡ Ok r → r.1.lexemes ≡ []
+unfolding listed_at
+listed_ends item zero a r needs last e = let p = bind_ok (item false a) _ r e in absurd (needs a p.0 p.1)
+listed_ends {A} item (suc n) a r needs last e =
+    let p = bind_ok (item true a) _ r e in
+    elim (chosen p.0.1 _ _ r p.2) [
+      | inl (h, m) ↦
+          let q = bind_ok (listed_at item n p.0.2) _ r m in
+          ap (λ (z : List A × Ahead). z.1.lexemes) (sym (ok_is (p.0.0 ∷ q.0.0, q.0.1) r q.2)) ∙ listed_ends item n p.0.2 q.0 needs last q.1
+      | inr (h, m) ↦
+          ap (λ (z : List A × Ahead). z.1.lexemes) (sym (ok_is (p.0.0 ∷ [], p.0.2) r m))
+          ∙ last a p.0.0 p.0.2 (p.1 ∙ ap (λ (b : Bool). Ok (p.0.0, b, p.0.2)) h)
+    ]
+
+pub atoms_to_end : (a : Ahead) (r : List AtomRecord × Ahead) → atoms_if_any_at End a ≡ Ok r → r.1.lexemes ≡ []
+unfolding atoms_if_any_at atoms_at
+atoms_to_end a r e =
+    let p = bind_ok (next_at a) _ r e in
+    elim (chosen (is_finish p.0.0.token) _ _ r p.2) [
+      | inl (h, m) ↦ ap (λ (z : List AtomRecord × Ahead). z.1.lexemes) (sym (ok_is ([], p.0.1) r m)) ∙ finish_last a p.0.0 p.0.1 p.1 h
+      | inr (h, m) ↦ listed_ends (atom_at End) 8 a r (atom_needs End) atom_ends m
+    ]

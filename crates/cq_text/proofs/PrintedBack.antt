@@ -13,9 +13,9 @@ use Rattle.cq_atom.specs.Query.{QueryRecord}
 use Rattle.cq_text.specs.declared.token.Sign.TheVariants.{OpenBrace, CloseBrace, OpenParen, CloseParen, Comma, Arrow}
 use Rattle.cq_text.specs.declared.token.Token.TheVariants.{Mark, Word, Literal}
 use Rattle.cq_text.specs.Token.{TokenContent, tokens_of}
-use Rattle.cq_text.specs.Grammar.{Separated, IsConstant, IsTermText, Applied, IsAtomText, IsRowText, AreAtomsIfAny, IsQueryText, IsShort, FewTerms, StandsForQuery}
+use Rattle.cq_text.specs.Grammar.{Separated, IsConstant, IsTermText, Applied, IsAtomText, IsRowText, AreAtomsIfAny, IsQueryText, IsShort, FewTerms, StandsForQuery, StandsForRow}
 use Rattle.cq_text.specs.Lexing.{lexemes_of}
-use Rattle.cq_text.specs.Print.{StandsForAtom, StandsForRow, printed_value, printed_term, printed_atom, printed_row, printed_atoms, printed_body, printed_query}
+use Rattle.cq_text.specs.Print.{StandsForAtom, printed_value, printed_term, printed_atom, printed_row, printed_atoms, printed_body, printed_query}
 use Rattle.cq_text.specs.Steps.Sound.{IsSoundTerm, IsSoundAtom, IsSoundRow, IsSoundQuery}
 use Rattle.cq_text.proofs.PrintedBound.{fits}
 use Rattle.cq_text.proofs.PrintedLengths.{line_atom, line_row, line_query}
@@ -142,7 +142,7 @@ atom_back a s =
 pub row_back : (w : RowRecord) → IsSoundRow w → StandsForRow (printed_row w) w
 row_back w s =
     let r = reads_row w s in
-    (line_row w s, allowed (printed_row w) (λ ts. IsRowText ts w) r, all_short (printed_row w) (λ ts. IsRowText ts w) r, s.few)
+    (line_row w s, record { sentence = allowed (printed_row w) (λ ts. IsRowText ts w) r; short = all_short (printed_row w) (λ ts. IsRowText ts w) r; fits = s.few })
 
 pub query_back : (q : QueryRecord) → IsSoundQuery q → StandsForQuery (printed_query q) q
 query_back q s =

@@ -1,5 +1,6 @@
--- Looking for the first variable, as a loop does.
+-- Looking for the first unbound variable, as a loop does.
 use Rattle.std.proofs.Common.{◌≡◌, ℕ, ◌<◌, Bool, true, false, cond, List, [], ◌∷◌, length, Option, Some, None, Result, Ok, Err, refl, ap, ◌∙◌, arith}
+use Rattle.cq_atom.specs.Atom.{AtomRecord}
 use Rattle.cq_text.specs.declared.fault.Kind.{Kind}
 use Rattle.cq_text.specs.declared.fault.Kind.TheVariants.{Shape}
 use Rattle.cq_text.specs.declared.fault.TextFault.{TextFault}
@@ -7,7 +8,7 @@ use Rattle.cq_text.specs.declared.fault.TextFault.TheVariants.{At, NoMemory}
 use Rattle.cq_text.specs.declared.token.Token.TheVariants.{Mark, Word, Literal, Bad, Finish}
 use Rattle.cq_text.specs.Token.{TokenContent, LexemeContent, flaw}
 use Rattle.cq_text.specs.Fault.{is_unbound}
-use Rattle.cq_text.specs.Steps.Reading.{Ahead, Fails, fault, unless_flawed, ◌>>=◌, next_of, next_at, is_finish, variable_at, first_variable_of, first_variable_at}
+use Rattle.cq_text.specs.Steps.Reading.{Ahead, Fails, fault, unless_flawed, ◌>>=◌, next_of, next_at, is_finish, unbound_at, first_unbound_of, first_unbound_from}
 use Rattle.cq_text.proofs.Binds.{bind_ok, ok_is, never_ok}
 
 good_token : (t : TokenContent) → flaw t ≡ None → is_finish t ≡ false
@@ -17,20 +18,20 @@ good_token (Literal v) e = refl
 good_token (Bad kind) e = absurd cc
 good_token Finish e = absurd cc
 
-abbrev walked : LexemeContent × Ahead → Result ℕ TextFault
-walked l = cond (is_unbound [] l.0.token) (Ok l.0.at) (cond (is_finish l.0.token) (fault Shape l.0.at) (first_variable_at l.1))
+abbrev walked : List AtomRecord → LexemeContent × Ahead → Result ℕ TextFault
+walked body l = cond (is_unbound body l.0.token) (Ok l.0.at) (cond (is_finish l.0.token) (fault Shape l.0.at) (first_unbound_from body l.1))
 
-step : (a : Ahead) → first_variable_at a ≡ (next_at a >>= walked)
-unfolding first_variable_at next_at
-step a = over a.lexemes a.end
+step : (body : List AtomRecord) (a : Ahead) → first_unbound_from body a ≡ (next_at a >>= walked body)
+unfolding first_unbound_from next_at
+step body a = over a.lexemes a.end
   where
     token_step : (m : LexemeContent) (ms : List LexemeContent) (end : ℕ) (f : Option Kind) → flaw m.token ≡ f
-        → (unless_flawed f m.at m >>= λ k. cond (is_unbound [] m.token) (Ok m.at) (first_variable_of ms end))
-        ≡ (unless_flawed f m.at (m, record { lexemes = ms; end = end }) >>= walked)
+        → (unless_flawed f m.at m >>= λ k. cond (is_unbound body m.token) (Ok m.at) (first_unbound_of body ms end))
+        ≡ (unless_flawed f m.at (m, record { lexemes = ms; end = end }) >>= walked body)
     token_step m ms end None e = rw (good_token m.token e) refl
     token_step m ms end (Some kind) e = refl
 
-    over : (ls : List LexemeContent) (end : ℕ) → first_variable_of ls end ≡ (next_of ls end >>= walked)
+    over : (ls : List LexemeContent) (end : ℕ) → first_unbound_of body ls end ≡ (next_of ls end >>= walked body)
     over [] end = refl
     over (m ∷ ms) end = token_step m ms end (flaw m.token) refl
 
@@ -56,38 +57,38 @@ found_none true f l b c e = absurd (apart (ap (λ (p : Option ℕ × Ahead). p.0
 found_none false true l b c e = absurd (never_ok Shape l.at (None, c) e)
 found_none false false l b c e = (refl, refl, ap (λ (p : Option ℕ × Ahead). p.1) (ok_is (None, b) (None, c) e))
 
-pub walk_found : (a b : Ahead) (at : ℕ) → variable_at a ≡ Ok (Some at, b) → first_variable_at a ≡ Ok at
-unfolding variable_at
-walk_found a b at e =
+pub walk_found : (body : List AtomRecord) (a b : Ahead) (at : ℕ) → unbound_at body a ≡ Ok (Some at, b) → first_unbound_from body a ≡ Ok at
+unfolding unbound_at
+walk_found body a b at e =
     let p = bind_ok (next_at a) _ (Some at, b) e in
-    let f = found_some (is_unbound [] p.0.0.token) (is_finish p.0.0.token) p.0.0 p.0.1 b at p.2 in
-    step a ∙ rw (p.1, f.0) (ap (λ (n : ℕ). Ok n) f.1)
+    let f = found_some (is_unbound body p.0.0.token) (is_finish p.0.0.token) p.0.0 p.0.1 b at p.2 in
+    step body a ∙ rw (p.1, f.0) (ap (λ (n : ℕ). Ok n) f.1)
 
-pub walk_on : (a b : Ahead) → variable_at a ≡ Ok (None, b) → first_variable_at a ≡ first_variable_at b
-unfolding variable_at
-walk_on a b e =
+pub walk_on : (body : List AtomRecord) (a b : Ahead) → unbound_at body a ≡ Ok (None, b) → first_unbound_from body a ≡ first_unbound_from body b
+unfolding unbound_at
+walk_on body a b e =
     let p = bind_ok (next_at a) _ (None, b) e in
-    let f = found_none (is_unbound [] p.0.0.token) (is_finish p.0.0.token) p.0.0 p.0.1 b p.2 in
-    step a ∙ rw (p.1, f.0, f.1) (ap first_variable_at f.2)
+    let f = found_none (is_unbound body p.0.0.token) (is_finish p.0.0.token) p.0.0 p.0.1 b p.2 in
+    step body a ∙ rw (p.1, f.0, f.1) (ap (first_unbound_from body) f.2)
 
 fault_is : {X : Type 0} (k j : Kind) (m n : ℕ) → ◌≡◌ {A = Result X TextFault} (fault k m) (fault j n) → (k ≡ j) × (m ≡ n)
 fault_is k j m n e = (cc, cc)
 
-found_fails : (u f : Bool) (l : LexemeContent) (b : Ahead) (kind : Kind) (offset : ℕ) → found u f l b ≡ fault kind offset → cond u (Ok l.at) (cond f (fault Shape l.at) (first_variable_at b)) ≡ fault kind offset
-found_fails true f l b kind offset e = absurd cc
-found_fails false true l b kind offset e = let s = fault_is Shape kind l.at offset e in ap (λ (k : Kind). fault k l.at) s.0 ∙ ap (λ (n : ℕ). fault kind n) s.1
-found_fails false false l b kind offset e = absurd cc
+found_fails : (body : List AtomRecord) (u f : Bool) (l : LexemeContent) (b : Ahead) (kind : Kind) (offset : ℕ) → found u f l b ≡ fault kind offset → cond u (Ok l.at) (cond f (fault Shape l.at) (first_unbound_from body b)) ≡ fault kind offset
+found_fails body true f l b kind offset e = absurd cc
+found_fails body false true l b kind offset e = let s = fault_is Shape kind l.at offset e in ap (λ (k : Kind). fault k l.at) s.0 ∙ ap (λ (n : ℕ). fault kind n) s.1
+found_fails body false false l b kind offset e = absurd cc
 
-pub walk_fails : (a : Ahead) (e : TextFault) → Fails e (variable_at a) → Fails e (first_variable_at a)
-unfolding variable_at
-walk_fails a NoMemory h = tt
-walk_fails a (At kind offset) h = step a ∙ over (next_at a) h
+pub walk_fails : (body : List AtomRecord) (a : Ahead) (e : TextFault) → Fails e (unbound_at body a) → Fails e (first_unbound_from body a)
+unfolding unbound_at
+walk_fails body a NoMemory h = tt
+walk_fails body a (At kind offset) h = step body a ∙ over (next_at a) h
   where
     err_is : (e d : TextFault) → ◌≡◌ {A = Result (Option ℕ × Ahead) TextFault} (Err e) (Err d) → ◌≡◌ {A = Result ℕ TextFault} (Err e) (Err d)
     err_is e d k = ap (λ (x : TextFault). Err x) cc
 
-    over : (r : Result (LexemeContent × Ahead) TextFault) → (r >>= λ l. found (is_unbound [] l.0.token) (is_finish l.0.token) l.0 l.1) ≡ fault kind offset → (r >>= walked) ≡ fault kind offset
-    over (Ok l) k = found_fails (is_unbound [] l.0.token) (is_finish l.0.token) l.0 l.1 kind offset k
+    over : (r : Result (LexemeContent × Ahead) TextFault) → (r >>= λ l. found (is_unbound body l.0.token) (is_finish l.0.token) l.0 l.1) ≡ fault kind offset → (r >>= walked body) ≡ fault kind offset
+    over (Ok l) k = found_fails body (is_unbound body l.0.token) (is_finish l.0.token) l.0 l.1 kind offset k
     over (Err e) k = err_is e (At kind offset) k
 
 -- a good token is one lexeme less
@@ -109,11 +110,11 @@ next_shorter a b l e f = over a.lexemes a.end e
     over [] end h = let p = pair_is (record { at = end; token = Finish }) (record { lexemes = []; end = end }) h in absurd (true_false (ap (λ (m : LexemeContent). is_finish m.token) p.0 ∙ f))
     over (m ∷ ms) end h = token_step m ms end (flaw m.token) h
 
-pub walk_shorter : (a b : Ahead) → variable_at a ≡ Ok (None, b) → length b.lexemes < length a.lexemes
-unfolding variable_at
-walk_shorter a b e =
+pub walk_shorter : (body : List AtomRecord) (a b : Ahead) → unbound_at body a ≡ Ok (None, b) → length b.lexemes < length a.lexemes
+unfolding unbound_at
+walk_shorter body a b e =
     let p = bind_ok (next_at a) _ (None, b) e in
-    let f = found_none (is_unbound [] p.0.0.token) (is_finish p.0.0.token) p.0.0 p.0.1 b p.2 in
+    let f = found_none (is_unbound body p.0.0.token) (is_finish p.0.0.token) p.0.0 p.0.1 b p.2 in
     let lt = next_shorter a p.0.1 p.0.0 p.1 f.1 in
     let n = ap (λ (c : Ahead). length c.lexemes) f.2 in
     omega arith

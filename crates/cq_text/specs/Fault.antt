@@ -6,7 +6,7 @@ use Rattle.cq_atom.specs.declared.value.Content.TheVariants.{Number, Text}
 use Rattle.cq_atom.specs.declared.term.TermKind.TheVariants.{Variable}
 use Rattle.cq_atom.specs.Text.{begins_with_lower}
 use Rattle.cq_atom.specs.Value.{ValueContent}
-use Rattle.cq_atom.specs.Atom.{AtomRecord}
+use Rattle.cq_atom.specs.Atom.{AtomRecord, RowRecord}
 use Rattle.cq_atom.specs.Query.{QueryRecord, is_bound}
 use Rattle.cq_text.specs.declared.limits.TheConstants.{MAX_LINE, MAX_COUNT}
 use Rattle.cq_text.specs.declared.fault.Kind.{Kind}
@@ -16,17 +16,21 @@ use Rattle.cq_text.specs.declared.token.Sign.TheVariants.{OpenBrace, CloseBrace,
 use Rattle.cq_text.specs.declared.token.Token.TheVariants.{Mark, Word, Literal, Bad, Finish}
 use Rattle.cq_text.specs.Token.{TokenContent, LexemeContent, flaw}
 use Rattle.cq_text.specs.Lexing.{is_blank, lexemes_of}
-use Rattle.cq_text.specs.Grammar.{CommandContent, count_of, IsSentence, IsQueryText, IsServed, IsServedQuery, FitsGrammar, FitsQueryGrammar}
+use Rattle.cq_text.specs.Grammar.{CommandContent, count_of, IsSentence, IsQueryText, IsRowText, FitsGrammar, FitsQueryGrammar}
 
 -- ---- what may still come
 
--- The tokens are a command that is served, limits apart.
+-- The tokens are a command, limits apart.
 abbrev pub IsCommandText : List TokenContent → Type 0
-IsCommandText ts = (command : CommandContent) × IsSentence ts command × IsServed command
+IsCommandText ts = (command : CommandContent) × IsSentence ts command
 
--- The tokens are a query that is served, limits apart.
+-- The tokens are a query, limits apart.
 abbrev pub IsLoneQuery : List TokenContent → Type 0
-IsLoneQuery ts = (query : QueryRecord) × IsQueryText ts query × IsServedQuery query
+IsLoneQuery ts = (query : QueryRecord) × IsQueryText ts query
+
+-- The tokens are a ground atom, limits apart.
+abbrev pub IsLoneRow : List TokenContent → Type 0
+IsLoneRow ts = (row : RowRecord) × IsRowText ts row
 
 -- Some tokens after these complete a whole, limits apart.
 abbrev pub IsViable : (List TokenContent → Type 0) → List TokenContent → Type 0
@@ -136,10 +140,10 @@ IsUnboundAt ls query offset = first_unbound_at query.body (behind_brace ls) ≡ 
 
 -- A text of a command fits the grammar and its limits, and has an unbound variable.
 abbrev pub UnboundInCommand : List LexemeContent → ℕ → Type 0
-UnboundInCommand ls offset = (name : List ℕ) × (query : QueryRecord) × FitsGrammar ls (Post name query) × IsServedQuery query × IsUnboundAt ls query offset
+UnboundInCommand ls offset = (name : List ℕ) × (query : QueryRecord) × FitsGrammar ls (Post name query) × IsUnboundAt ls query offset
 
 abbrev pub UnboundInQuery : List LexemeContent → ℕ → Type 0
-UnboundInQuery ls offset = (query : QueryRecord) × FitsQueryGrammar ls query × IsServedQuery query × IsUnboundAt ls query offset
+UnboundInQuery ls offset = (query : QueryRecord) × FitsQueryGrammar ls query × IsUnboundAt ls query offset
 
 -- A text that is too long has its fault at the limit. Any other has the first fault of its tokens, or else that of a variable.
 abbrev pub FirstFaultOf : (List TokenContent → Type 0) → (List LexemeContent → ℕ → Type 0) → List ℕ → Kind → ℕ → Type 0
@@ -154,3 +158,20 @@ FirstFault text kind offset = (length text ≤ MAX_LINE → IsTrue (is_blank tex
 -- The first fault of a text that is read as a query.
 abbrev pub FirstQueryFault : List ℕ → Kind → ℕ → Type 0
 FirstQueryFault text kind offset = FirstFaultOf IsLoneQuery UnboundInQuery text kind offset
+
+-- A ground atom has no variable, so none that is unbound.
+abbrev pub UnboundInRow : List LexemeContent → ℕ → Type 0
+UnboundInRow ls offset = ⊥
+
+-- The first fault of a text that is read as a ground atom.
+abbrev pub FirstRowFault : List ℕ → Kind → ℕ → Type 0
+FirstRowFault text kind offset = FirstFaultOf IsLoneRow UnboundInRow text kind offset
+
+-- ---- one reading
+
+-- Either one thing is stood for and there is no fault, or there is one fault and nothing is stood for.
+pub record HasOneReading {A : Type 0} (Stands : A → Type 0) (Faults : Kind → ℕ → Type 0) : Type 0 where
+  pub some : ((x : A) × Stands x) ⊎ ((kind : Kind) × (offset : ℕ) × Faults kind offset)
+  pub one : (x y : A) → Stands x → Stands y → x ≡ y
+  pub one_fault : (kind other : Kind) (offset place : ℕ) → Faults kind offset → Faults other place → (kind ≡ other) × (offset ≡ place)
+  pub not_both : (x : A) (kind : Kind) (offset : ℕ) → Stands x → Faults kind offset → ⊥

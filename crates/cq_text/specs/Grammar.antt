@@ -144,24 +144,16 @@ pub record FitsQueryGrammar (ls : List LexemeContent) (query : QueryRecord) : Ty
   pub short : AllByRecursion IsShort (tokens_of ls)
   pub fits : FitsQuery query
 
+-- The lexemes fit the grammar of a ground atom alone and its limits.
+pub record FitsRowGrammar (ls : List LexemeContent) (row : RowRecord) : Type 0 where
+  pub sentence : IsRowText (tokens_of ls) row
+  pub short : AllByRecursion IsShort (tokens_of ls)
+  pub fits : length row.values ≤ MAX_ARITY
+
 -- The text is no longer than a line may be, fits the grammar of a query, and each variable is bound.
 abbrev pub StandsForQuery : List ℕ → QueryRecord → Type 0
 StandsForQuery text query = (length text ≤ MAX_LINE) × FitsQueryGrammar (lexemes_of text) query × IsRestricted query
 
--- ---- what is read so far
-
--- A query without a body.
-abbrev pub IsServedQuery : QueryRecord → Type 0
-IsServedQuery query = query.body ≡ []
-
--- Blank lines, posts of queries without a body, `publish` and `show`.
-abbrev pub IsServed : CommandContent → Type 0
-IsServed Blank = Unit {0}
-IsServed (Relation name arity) = ⊥
-IsServed (Limits pool journal) = ⊥
-IsServed (Post name query) = IsServedQuery query
-IsServed (Withdraw name) = ⊥
-IsServed (Insert row) = ⊥
-IsServed (Delete row) = ⊥
-IsServed Publish = Unit {0}
-IsServed Show = Unit {0}
+-- The text is no longer than a line may be, and its tokens are those of the row, a ground atom, within the limits.
+abbrev pub StandsForRow : List ℕ → RowRecord → Type 0
+StandsForRow text row = (length text ≤ MAX_LINE) × FitsRowGrammar (lexemes_of text) row

@@ -2,7 +2,6 @@
 use Rattle.std.specs.Prelude.{ℕ, Bool, ◌≤◌, length, List, [], ◌∷◌, ◌++◌, codes, if◌then◌else◌, ◌||◌, ◌==◌}
 use Rattle.std.specs.Fmt.{signed_decimal}
 use Rattle.std.specs.List.{flat_map, join_by, AllByRecursion}
-use Rattle.cq_atom.specs.declared.limits.TheConstants.{MAX_ARITY}
 use Rattle.cq_atom.specs.declared.value.Content.TheVariants.{Number, Text}
 use Rattle.cq_atom.specs.declared.term.TermKind.TheVariants.{Constant, Variable}
 use Rattle.cq_atom.specs.Value.{ValueContent}
@@ -11,7 +10,7 @@ use Rattle.cq_atom.specs.Query.{QueryRecord}
 use Rattle.cq_text.specs.declared.limits.TheConstants.{MAX_LINE}
 use Rattle.cq_text.specs.Token.{tokens_of}
 use Rattle.cq_text.specs.Lexing.{lexemes_of}
-use Rattle.cq_text.specs.Grammar.{IsAtomText, IsRowText, IsShort, FewTerms}
+use Rattle.cq_text.specs.Grammar.{IsAtomText, IsShort, FewTerms}
 
 -- The byte `"`.
 abbrev pub quote_mark : ℕ
@@ -55,6 +54,10 @@ printed_atom a = a.relation ++ codes "(" ++ join_by printed_term (codes ", ") a.
 abbrev pub printed_row : RowRecord → List ℕ
 printed_row r = r.relation ++ codes "(" ++ join_by printed_value (codes ", ") r.values ++ codes ")"
 
+-- `(1, "a")`: values in brackets.
+abbrev pub printed_values : List ValueContent → List ℕ
+printed_values values = codes "(" ++ join_by printed_value (codes ", ") values ++ codes ")"
+
 -- Atoms with a comma and a space between two.
 abbrev pub printed_atoms : List AtomRecord → List ℕ
 printed_atoms atoms = join_by printed_atom (codes ", ") atoms
@@ -71,7 +74,3 @@ printed_query q = codes "{" ++ printed_atoms q.posts ++ codes "} " ++ printed_at
 -- The text is no longer than a line may be, and its tokens are those of the atom, within the limits.
 abbrev pub StandsForAtom : List ℕ → AtomRecord → Type 0
 StandsForAtom text a = (length text ≤ MAX_LINE) × IsAtomText (tokens_of (lexemes_of text)) a × AllByRecursion IsShort (tokens_of (lexemes_of text)) × FewTerms a
-
--- The text is no longer than a line may be, and its tokens are those of the row, a ground atom, within the limits.
-abbrev pub StandsForRow : List ℕ → RowRecord → Type 0
-StandsForRow text r = (length text ≤ MAX_LINE) × IsRowText (tokens_of (lexemes_of text)) r × AllByRecursion IsShort (tokens_of (lexemes_of text)) × (length r.values ≤ MAX_ARITY)

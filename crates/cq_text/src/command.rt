@@ -1,5 +1,8 @@
 //! Commands.
 
+ghost use Rattle.std.specs.Prelude.{◌≡◌};
+ghost use Rattle.cq_text.specs.Steps.Commands.{command_word};
+
 use cq_atom::{Name, Query, Row};
 use std::alloc::{Allocator, Global};
 
@@ -53,3 +56,35 @@ pub enum CommandKind<N, Q, R> {
 
 /// A command.
 pub type Command<A = Global> = CommandKind<Name<A>, Query<A>, Row<A>>;
+
+/// The word that a command begins with.
+#[derive(Clone, Copy)]
+pub(crate) enum CommandWord {
+    Relation,
+    Limits,
+    Post,
+    Withdraw,
+    Insert,
+    Delete,
+    Publish,
+    Show,
+}
+
+impl CommandWord {
+    /// The command word that an identifier is, if it is one.
+    pub(crate) fn of(word: &str) -> Option<CommandWord>
+        ensures { result ≡ command_word word.now }
+    {
+        match word {
+            "relation" => Some(CommandWord::Relation),
+            "limits" => Some(CommandWord::Limits),
+            "post" => Some(CommandWord::Post),
+            "withdraw" => Some(CommandWord::Withdraw),
+            "insert" => Some(CommandWord::Insert),
+            "delete" => Some(CommandWord::Delete),
+            "publish" => Some(CommandWord::Publish),
+            "show" => Some(CommandWord::Show),
+            _ => None,
+        }
+    }
+}

@@ -1,7 +1,8 @@
 //! The text form of queries and commands, and the devices that text comes from and goes to.
 //!
 //! The room above uses `read_command`: a line is read exactly as what it stands for, and any other
-//! line is refused with its first fault, by kind and offset. `specs/Lexing` says which tokens a text
+//! line is refused with its first fault, by kind and offset. `read_query` and `read_ground_atom` do the
+//! same with a query and with a row alone. `specs/Lexing` says which tokens a text
 //! has, `specs/Grammar` which of them stand for what, and `specs/Fault` which fault is the first.
 //! Bytes come from a `Source` and go to a `Sink`, which count their calls; `Counted` makes either of
 //! a device of std.
@@ -9,6 +10,7 @@
 //! Not here: what a command does, and cutting a script into lines.
 #![tactic(auto)]
 
+mod binding;
 mod command;
 mod counted;
 mod fault;
@@ -26,7 +28,7 @@ pub use command::{Command, CommandKind};
 pub use counted::Counted;
 pub use fault::{Kind, TextFault};
 pub use limits::{MAX_COUNT, MAX_LINE};
-pub use printing::{print_atom, print_query, print_row};
-pub use reading::{read_command, read_query};
+pub use printing::{print_atom, print_query, print_row, print_values};
+pub use reading::{one_reading, read_command, read_ground_atom, read_query};
 pub use sink::{Sink, write_all};
 pub use source::{Failed, Source};

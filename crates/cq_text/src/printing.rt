@@ -4,8 +4,8 @@ ghost use Rattle.std.specs.Prelude.{◌≡◌, ◌++◌, codes, string_bytes, en
 ghost use Rattle.std.specs.Fmt.{signed_decimal};
 ghost use Rattle.std.specs.List.{join_by, All};
 ghost use Rattle.cq_atom.specs.Value.{IsValue};
-ghost use Rattle.cq_text.specs.Print.{is_escaped, escaped, printed_text, printed_value, printed_term, printed_atom, printed_row, printed_atoms, printed_body, printed_query, StandsForAtom, StandsForRow};
-ghost use Rattle.cq_text.specs.Grammar.{StandsForQuery};
+ghost use Rattle.cq_text.specs.Print.{is_escaped, escaped, printed_text, printed_value, printed_term, printed_atom, printed_row, printed_values, printed_atoms, printed_body, printed_query, StandsForAtom};
+ghost use Rattle.cq_text.specs.Grammar.{StandsForQuery, StandsForRow};
 ghost use Rattle.cq_text.specs.Steps.Sound.{IsSoundTerm, IsSoundAtom, IsSoundRow, IsSoundQuery};
 ghost use Rattle.cq_text.specs.Steps.Separators.{separator_at};
 
@@ -204,5 +204,22 @@ pub fn print_row<A: Allocator + Copy>(alloc: A, row: &Row<A>) -> Result<String<A
 {
     let mut printed = String::new(alloc);
     push_row(&mut printed, row)?;
+    Ok(printed)
+}
+
+/// Values in brackets as a text, as `(1, "a")`, and `()` where there are none.
+///
+/// # Errors
+/// `AllocError` where a growth was refused.
+pub fn print_values<A: Allocator + Copy>(
+    alloc: A,
+    values: &[Value<A>],
+) -> Result<String<A>, AllocError>
+    ensures { IfOk result (λ text. string_bytes text ≡ printed_values values.now) }
+{
+    let mut printed = String::new(alloc);
+    printed.push('(')?;
+    push_values(&mut printed, values)?;
+    printed.push(')')?;
     Ok(printed)
 }

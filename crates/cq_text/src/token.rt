@@ -15,6 +15,15 @@ pub(crate) enum Sign {
     Arrow,
 }
 
+/// What stands behind the last item of a list.
+#[derive(Clone, Copy, Debug, PartialEq, Eq)]
+pub(crate) enum Close {
+    /// That sign.
+    By(Sign),
+    /// The end of the text.
+    End,
+}
+
 /// A token, over what holds an identifier and what holds a value.
 #[derive(Drop)]
 pub(crate) enum Token<W, V> {

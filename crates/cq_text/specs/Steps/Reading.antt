@@ -1,25 +1,31 @@
 -- Reading lexemes from left to right, as the reader's methods do: what each gives, and what it leaves.
-use Rattle.std.specs.Prelude.{◌≡◌, ℕ, zero, suc, List, [], ◌∷◌, length, Bool, true, false, nat_lt, nat_eq, Option, Some, None, Result, Ok, Err, if◌then◌else◌, codes}
-use Rattle.std.specs.Str.{bytes_eq}
-use Rattle.cq_atom.specs.declared.fault.Bad.{Bad as Refusal}
+use Rattle.std.specs.Prelude.{◌≡◌, ℕ, ℤ, zero, suc, List, [], ◌∷◌, length, Bool, true, false, ◌&&◌, nat_lt, nat_le, nat_eq, Option, Some, None, Result, Ok, Err, if◌then◌else◌, ◌||◌}
 use Rattle.cq_atom.specs.declared.limits.TheConstants.{MAX_NAME, MAX_ARITY, MAX_ATOMS}
 use Rattle.cq_atom.specs.declared.value.Content.TheVariants.{Text}
 use Rattle.cq_atom.specs.declared.term.TermKind.TheVariants.{Constant, Variable}
 use Rattle.cq_atom.specs.Text.{begins_with_upper, begins_with_lower}
-use Rattle.cq_atom.specs.Atom.{TermContent, AtomRecord}
-use Rattle.cq_atom.specs.Query.{QueryRecord, query_fault}
+use Rattle.cq_atom.specs.Value.{ValueContent, number_of}
+use Rattle.cq_atom.specs.Atom.{TermContent, AtomRecord, RowRecord}
+use Rattle.cq_atom.specs.Query.{QueryRecord}
 use Rattle.cq_text.specs.declared.fault.Kind.{Kind}
 use Rattle.cq_text.specs.declared.fault.Kind.TheVariants.{Shape, Limit, Unbound}
 use Rattle.cq_text.specs.declared.fault.TextFault.{TextFault}
 use Rattle.cq_text.specs.declared.fault.TextFault.TheVariants.{At, NoMemory}
-use Rattle.cq_text.specs.declared.command.CommandKind.TheVariants.{Post, Publish, Show}
+use Rattle.cq_text.specs.declared.limits.TheConstants.{MAX_COUNT}
+use Rattle.cq_text.specs.declared.command.CommandKind.TheVariants.{Relation, Limits, Post, Withdraw, Insert, Delete, Publish, Show}
+use Rattle.cq_text.specs.declared.command.CommandWord.{CommandWord}
+use Rattle.cq_text.specs.declared.command.CommandWord.TheVariants as words
 use Rattle.cq_text.specs.declared.token.Sign.{Sign}
 use Rattle.cq_text.specs.declared.token.Sign.TheVariants.{OpenBrace, CloseBrace, OpenParen, CloseParen, Comma, Arrow}
+use Rattle.cq_text.specs.declared.token.Close.{Close}
+use Rattle.cq_text.specs.declared.token.Close.TheVariants.{By, End}
 use Rattle.cq_text.specs.declared.token.Token.TheVariants.{Mark, Word, Literal, Bad, Finish}
 use Rattle.cq_text.specs.Token.{TokenContent, LexemeContent, flaw}
-use Rattle.cq_text.specs.Grammar.{CommandContent}
+use Rattle.cq_text.specs.Grammar.{CommandContent, count_of}
 use Rattle.cq_text.specs.Fault.{is_unbound}
 use Rattle.cq_text.specs.Lexing.{lexemes_of}
+use Rattle.cq_text.specs.Steps.Commands.{command_word}
+use Rattle.cq_text.specs.Steps.Binding.{have_unbound}
 
 -- What a function returned, seen by view, is what reading gives, unless memory ran out.
 abbrev pub Fails : {Y : Type 0} → TextFault → Result Y TextFault → Type 0
@@ -117,6 +123,33 @@ term_in (Mark s) at = fault Shape at
 term_in (Bad kind) at = fault Shape at
 term_in Finish at = fault Shape at
 
+-- An upper-case identifier as a constant.
+abbrev pub word_value : List ℕ → ℕ → Result ValueContent TextFault
+word_value w at = if begins_with_upper w then (short_word w at >>= λ v. Ok (Text v)) else fault Shape at
+
+abbrev pub value_in : TokenContent → ℕ → Result ValueContent TextFault
+value_in (Word w) at = word_value w at
+value_in (Literal v) at = Ok v
+value_in (Mark s) at = fault Shape at
+value_in (Bad kind) at = fault Shape at
+value_in Finish at = fault Shape at
+
+-- The number that a token is.
+abbrev pub number_in : TokenContent → Option ℤ
+number_in (Literal v) = number_of v
+number_in (Word w) = None
+number_in (Mark s) = None
+number_in (Bad kind) = None
+number_in Finish = None
+
+-- A number as a count from 1 to the most.
+abbrev pub count_within : ℕ → Option ℤ → ℕ → Result ℕ TextFault
+count_within most None at = fault Shape at
+count_within most (Some n) at = if nat_le 1 (count_of n) && nat_le (count_of n) most then Ok (count_of n) else fault Limit at
+
+abbrev pub count_in : ℕ → TokenContent → ℕ → Result ℕ TextFault
+count_in most t at = count_within most (number_in t) at
+
 unfoldable pub sign_at : Sign → Ahead → Result Ahead TextFault
 sign_at s a = do
   l ← next_at a
@@ -128,11 +161,19 @@ end_at a = do
   l ← next_at a
   if is_finish l.0.token then Ok l.1 else fault Shape l.0.at
 
--- Whether a comma comes, or the sign that closes a list.
-unfoldable pub has_more_at : Sign → Ahead → Result (Bool × Ahead) TextFault
-has_more_at close a = do
+abbrev pub is_close : Close → TokenContent → Bool
+is_close (By s) t = is_sign s t
+is_close End t = is_finish t
+
+-- Whether a comma comes, or what closes a list.
+unfoldable pub goes_on_at : Close → Ahead → Result (Bool × Ahead) TextFault
+goes_on_at close a = do
   s ← next_at a
-  if is_sign Comma s.0.token then Ok (true, s.1) else (if is_sign close s.0.token then Ok (false, s.1) else fault Shape s.0.at)
+  if is_sign Comma s.0.token then Ok (true, s.1) else (if is_close close s.0.token then Ok (false, s.1) else fault Shape s.0.at)
+
+-- Whether a comma comes, or the sign that closes a list.
+abbrev pub has_more_at : Sign → Ahead → Result (Bool × Ahead) TextFault
+has_more_at close a = goes_on_at (By close) a
 
 -- What an item of a list gives: the item, whether more come, and what is ahead. It takes whether there is room for it.
 abbrev pub Item : Type 0 → Type 0
@@ -166,54 +207,94 @@ applied_at relation a = do
   xs ← terms_at inner
   Ok (atom_record relation xs.0, xs.1)
 
-unfoldable pub atom_at : Sign → Item AtomRecord
+unfoldable pub atom_at : Close → Item AtomRecord
 atom_at close room a = do
   l ← next_at a
   relation ← relation_in l.0.token l.0.at
-  if room then (applied_at relation l.1 >>= λ x. has_more_at close x.1 >>= λ m. Ok (x.0, m.0, m.1)) else fault Limit l.0.at
+  if room then (applied_at relation l.1 >>= λ x. goes_on_at close x.1 >>= λ m. Ok (x.0, m.0, m.1)) else fault Limit l.0.at
 
-unfoldable pub atoms_at : Sign → Ahead → Result (List AtomRecord × Ahead) TextFault
+unfoldable pub atoms_at : Close → Ahead → Result (List AtomRecord × Ahead) TextFault
 atoms_at close a = listed_at (atom_at close) MAX_ATOMS a
 
--- The sign that closes, or atoms and that sign.
-unfoldable pub atoms_if_any_at : Sign → Ahead → Result (List AtomRecord × Ahead) TextFault
+-- What closes, or atoms and what closes.
+unfoldable pub atoms_if_any_at : Close → Ahead → Result (List AtomRecord × Ahead) TextFault
 atoms_if_any_at close a = do
   l ← next_at a
-  if is_sign close l.0.token then Ok ([], l.1) else atoms_at close a
+  if is_close close l.0.token then Ok ([], l.1) else atoms_at close a
 
--- Where a variable stands, if the next token is one.
-unfoldable pub variable_at : Ahead → Result (Option ℕ × Ahead) TextFault
-variable_at a = do
+unfoldable pub value_at : Item ValueContent
+value_at room a = do
   l ← next_at a
-  if is_unbound [] l.0.token then Ok (Some l.0.at, l.1) else (if is_finish l.0.token then fault Shape l.0.at else Ok (None, l.1))
+  v ← value_in l.0.token l.0.at
+  if room then (has_more_at CloseParen l.1 >>= λ m. Ok (v, m.0, m.1)) else fault Limit l.0.at
 
-abbrev pub first_variable_of : List LexemeContent → ℕ → Result ℕ TextFault
-first_variable_of [] end = fault Shape end
-first_variable_of (l ∷ ls) end = unless_flawed (flaw l.token) l.at l >>= λ m. if is_unbound [] l.token then Ok l.at else first_variable_of ls end
+unfoldable pub values_at : Ahead → Result (List ValueContent × Ahead) TextFault
+values_at a = listed_at value_at MAX_ARITY a
 
--- The offset of the first variable, of lexemes that have one.
-unfoldable pub first_variable_at : Ahead → Result ℕ TextFault
-first_variable_at a = first_variable_of a.lexemes a.end
+abbrev pub row_record : List ℕ → List ValueContent → RowRecord
+row_record relation values = record { relation = relation; values = values }
 
--- The query, or where its first variable stands if it has one: without a body no variable is bound.
-abbrev pub or_unbound : Option Refusal → QueryRecord → Ahead → Result QueryRecord TextFault
-or_unbound None query a = Ok query
-or_unbound (Some refusal) query a = first_variable_at a >>= λ at. fault Unbound at
+-- A ground atom and the end.
+unfoldable pub row_at : Ahead → Result RowRecord TextFault
+row_at a = do
+  l ← next_at a
+  relation ← relation_in l.0.token l.0.at
+  inner ← sign_at OpenParen l.1
+  values ← values_at inner
+  rest ← end_at values.1
+  Ok (row_record relation values.0)
 
-abbrev pub query_record : List AtomRecord → List AtomRecord → QueryRecord
-query_record posts heads = record { posts = posts; heads = heads; body = [] }
+unfoldable pub count_at : ℕ → Ahead → Result (ℕ × Ahead) TextFault
+count_at most a = do
+  l ← next_at a
+  n ← count_in most l.0.token l.0.at
+  Ok (n, l.1)
 
-abbrev pub bound_query : List AtomRecord → List AtomRecord → Ahead → Result QueryRecord TextFault
-bound_query posts heads a = or_unbound (query_fault posts heads []) (query_record posts heads) a
+-- Where an unbound variable stands, if the next token is one.
+unfoldable pub unbound_at : List AtomRecord → Ahead → Result (Option ℕ × Ahead) TextFault
+unbound_at body a = do
+  l ← next_at a
+  if is_unbound body l.0.token then Ok (Some l.0.at, l.1) else (if is_finish l.0.token then fault Shape l.0.at else Ok (None, l.1))
 
--- A query and the end.
+abbrev pub first_unbound_of : List AtomRecord → List LexemeContent → ℕ → Result ℕ TextFault
+first_unbound_of body [] end = fault Shape end
+first_unbound_of body (l ∷ ls) end = unless_flawed (flaw l.token) l.at l >>= λ m. if is_unbound body l.token then Ok l.at else first_unbound_of body ls end
+
+-- The offset of the first unbound variable, of lexemes that have one.
+unfoldable pub first_unbound_from : List AtomRecord → Ahead → Result ℕ TextFault
+first_unbound_from body a = first_unbound_of body a.lexemes a.end
+
+abbrev pub query_record : List AtomRecord → List AtomRecord → List AtomRecord → QueryRecord
+query_record posts heads body = record { posts = posts; heads = heads; body = body }
+
+-- The query, or where its first unbound variable stands if it has one.
+abbrev pub bound_query : List AtomRecord → List AtomRecord → List AtomRecord → Ahead → Result QueryRecord TextFault
+bound_query posts heads body a =
+    if have_unbound body posts || have_unbound body heads then (first_unbound_from body a >>= λ at. fault Unbound at) else Ok (query_record posts heads body)
+
+-- A query, up to the end.
 unfoldable pub query_at : Ahead → Result QueryRecord TextFault
 query_at a = do
   inner ← sign_at OpenBrace a
-  posts ← atoms_if_any_at CloseBrace inner
-  heads ← atoms_at Arrow posts.1
-  rest ← end_at heads.1
-  bound_query posts.0 heads.0 inner
+  posts ← atoms_if_any_at (By CloseBrace) inner
+  heads ← atoms_at (By Arrow) posts.1
+  body ← atoms_if_any_at End heads.1
+  bound_query posts.0 heads.0 body.0 inner
+
+unfoldable pub relation_at : Ahead → Result CommandContent TextFault
+relation_at a = do
+  l ← next_at a
+  name ← relation_in l.0.token l.0.at
+  arity ← count_at MAX_ARITY l.1
+  rest ← end_at arity.1
+  Ok (Relation name arity.0)
+
+unfoldable pub limits_at : Ahead → Result CommandContent TextFault
+limits_at a = do
+  pool ← count_at MAX_COUNT a
+  journal ← count_at MAX_COUNT pool.1
+  rest ← end_at journal.1
+  Ok (Limits pool.0 journal.0)
 
 unfoldable pub post_at : Ahead → Result CommandContent TextFault
 post_at a = do
@@ -222,24 +303,52 @@ post_at a = do
   query ← query_at l.1
   Ok (Post name query)
 
+unfoldable pub withdraw_at : Ahead → Result CommandContent TextFault
+withdraw_at a = do
+  l ← next_at a
+  name ← name_in l.0.token l.0.at
+  rest ← end_at l.1
+  Ok (Withdraw name)
+
+unfoldable pub insert_at : Ahead → Result CommandContent TextFault
+insert_at a = do
+  row ← row_at a
+  Ok (Insert row)
+
+unfoldable pub delete_at : Ahead → Result CommandContent TextFault
+delete_at a = do
+  row ← row_at a
+  Ok (Delete row)
+
 unfoldable pub word_alone : CommandContent → Ahead → Result CommandContent TextFault
 word_alone command a = do
   rest ← end_at a
   Ok command
 
 -- What stands behind a command word.
-abbrev pub command_of : List ℕ → ℕ → Ahead → Result CommandContent TextFault
-command_of w at a =
-    if bytes_eq w (codes "post") then post_at a else (if bytes_eq w (codes "publish") then word_alone Publish a else (if bytes_eq w (codes "show") then word_alone Show a else fault Shape at))
+abbrev pub command_of : CommandWord → Ahead → Result CommandContent TextFault
+command_of words.Relation a = relation_at a
+command_of words.Limits a = limits_at a
+command_of words.Post a = post_at a
+command_of words.Withdraw a = withdraw_at a
+command_of words.Insert a = insert_at a
+command_of words.Delete a = delete_at a
+command_of words.Publish a = word_alone Publish a
+command_of words.Show a = word_alone Show a
 
-abbrev pub command_from : Option (List ℕ) → ℕ → Ahead → Result CommandContent TextFault
+abbrev pub command_from : Option CommandWord → ℕ → Ahead → Result CommandContent TextFault
 command_from None at a = fault Shape at
-command_from (Some w) at a = command_of w at a
+command_from (Some word) at a = command_of word a
 
-abbrev pub command_in : TokenContent → ℕ → Ahead → Result CommandContent TextFault
-command_in t at a = command_from (word_in t) at a
+-- The command word that a token is.
+abbrev pub command_word_in : TokenContent → Option CommandWord
+command_word_in (Word w) = command_word w
+command_word_in (Mark s) = None
+command_word_in (Literal v) = None
+command_word_in (Bad kind) = None
+command_word_in Finish = None
 
 unfoldable pub command_at : Ahead → Result CommandContent TextFault
 command_at a = do
   l ← next_at a
-  command_in l.0.token l.0.at l.1
+  command_from (command_word_in l.0.token) l.0.at l.1

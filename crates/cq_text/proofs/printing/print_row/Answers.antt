@@ -1,4 +1,4 @@
-use Rattle.cq_text.specs.Print.{StandsForRow}
+use Rattle.cq_text.specs.Grammar.{StandsForRow}
 use Rattle.cq_text.proofs.PrintedBack.{row_back, of_new}
 use Rattle.cq_text.proofs.printing.print_row.Goals as goal
 

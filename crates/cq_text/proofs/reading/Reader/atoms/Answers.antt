@@ -1,4 +1,4 @@
-use Rattle.std.proofs.Common.{rules, vec_len, arith}
+use Rattle.std.proofs.Common.{rules, ◌≡◌, length, vec_len, arith}
 use Rattle.std.proofs.lemmas.Result.{err_from_is_err_and}
 use Rattle.cq_text.specs.Steps.Reading.{atom_at, atoms_at}
 use Rattle.cq_text.proofs.Loops.{atom_needs, begins, step_fails, step_more, step_done, step_room}
@@ -11,14 +11,14 @@ atoms-init g c = record {
   goes_on = begins (atom_at c.args.close) 8 c.new-atoms.result.items (vec_len c.new-atoms.result) c.args.self.now c.new-atoms.ensures.items c.new-atoms.ensures.len;
 }
 
-pub returns-in_err-atom : goal.returns-in_err-atom
-returns-in_err-atom g c =
+pub returns-in_err-atom-clause-atoms : goal.returns-in_err-atom-clause-atoms
+returns-in_err-atom-clause-atoms g c =
     let p = err_from_is_err_and c.from_residual.result c.from_residual.ensures.1 in
     let h = rw c.len.ensures at c.in_err-atom.ensures in
     rw (p.1, p.2) (step_fails (atom_at c.args.close) c.in_err-atom.field-0.0 8 c.atoms.atoms.items (vec_len c.atoms.atoms) c.atoms.self (atoms_at c.args.close c.args.self.now) (atom_needs c.args.close) c.atoms.invariant.few c.atoms.invariant.goes_on h)
 
-pub returns-then-not-has_more : goal.returns-then-not-has_more
-returns-then-not-has_more g c =
+pub returns-then-not-has_more-clause-atoms : goal.returns-then-not-has_more-clause-atoms
+returns-then-not-has_more-clause-atoms g c =
     let h = rw (c.len.ensures, c.if-not-has_more.true) at c.in_ok-atom.ensures in
     rw c.in_ok-push.ensures.items (step_done (atom_at c.args.close) 8 c.atoms.atoms.items (vec_len c.atoms.atoms) c.atoms.self c.atom.new.self c.in_ok-atom.atom (atoms_at c.args.close c.args.self.now) (atom_needs c.args.close) c.atoms.invariant.few c.atoms.invariant.goes_on h)
 
@@ -36,3 +36,15 @@ atoms-preserved g c =
       few = omega (arith, lt, c.in_ok-push.ensures.len);
       goes_on = rw (c.in_ok-push.ensures.len, c.in_ok-push.ensures.items) (step_more (atom_at c.args.close) 8 c.atoms.atoms.items (vec_len c.atoms.atoms) c.atoms.self c.atom.new.self c.in_ok-atom.atom (atoms_at c.args.close c.args.self.now) (atom_needs c.args.close) c.atoms.invariant.few c.atoms.invariant.goes_on h);
     }
+
+pub returns-then-not-has_more-clause-some : goal.returns-then-not-has_more-clause-some
+returns-then-not-has_more-clause-some g c =
+    let count : length c.push.new.self.items ≡ vec_len c.push.new.self = search rules in
+    rw (count, c.in_ok-push.ensures.len) (omega arith)
+
+pub returns-then-not-has_more-clause-few : goal.returns-then-not-has_more-clause-few
+returns-then-not-has_more-clause-few g c =
+    let h = rw c.len.ensures at c.in_ok-atom.ensures in
+    let lt = step_room (atom_at c.args.close) 8 (vec_len c.atoms.atoms) c.atoms.self _ (atom_needs c.args.close) c.atoms.invariant.few h in
+    let count : length c.push.new.self.items ≡ vec_len c.push.new.self = search rules in
+    rw (count, c.in_ok-push.ensures.len) (omega arith)
