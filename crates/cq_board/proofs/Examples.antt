@@ -1,16 +1,17 @@
 -- Worked examples of the edges and of the edits.
-use Rattle.std.proofs.Common.{◌≡◌, ℕ, pos, true, false, List, [], ◌∷◌, refl, Some}
+use Rattle.std.proofs.Common.{◌≡◌, ℕ, pos, true, false, List, [], ◌∷◌, refl, Some, None}
 use Rattle.std.specs.Prelude.{codes}
 use Rattle.cq_atom.specs.declared.value.Content.TheVariants.{Number, Text}
 use Rattle.cq_atom.specs.declared.term.TermKind.TheVariants.{Constant, Variable}
 use Rattle.cq_atom.specs.Atom.{TermContent, AtomRecord}
 use Rattle.cq_atom.specs.Query.{QueryRecord}
 use Rattle.cq_match.specs.declared.edge.Edge.{Edge}
-use Rattle.cq_match.specs.Graph.{provider_count, is_crowd}
-use Rattle.cq_board.specs.declared.edit.EditKind.TheVariants.{Post}
-use Rattle.cq_board.specs.declared.edit.Why.TheVariants.{PoolFull, NameTaken}
+use Rattle.cq_atom.specs.declared.fault.Part.TheVariants.{Heads}
+use Rattle.cq_atom.specs.Atom.{RowRecord}
+use Rattle.cq_board.specs.declared.edit.EditKind.TheVariants.{Post, Withdraw, Insert, Delete}
+use Rattle.cq_board.specs.declared.edit.Why.TheVariants.{PoolFull, NameTaken, NotAnswer, UnknownRelation, Arity, NoSuchName, RowPresent, RowAbsent}
 use Rattle.cq_board.specs.Supply.{unifies}
-use Rattle.cq_board.specs.Pool.{PendingQuery}
+use Rattle.cq_board.specs.Pool.{PendingQuery, PoolRecord}
 use Rattle.cq_board.specs.Edges.{edges_of}
 use Rattle.cq_board.specs.Edits.{why, pool_after}
 
@@ -77,19 +78,62 @@ supplies_itself : edges_of (itself ∷ []) ≡ edge 0 0 0 0 ∷ edge 0 2 0 0 ∷
 unfolding unifies
 supplies_itself = refl
 
-crowded_supplier : is_crowd (provider_count 0 0 (edges_of (itself ∷ []))) ≡ true
-unfolding unifies
-crowded_supplier = refl
+-- ---- edits
 
--- A full pool is said before a taken name, and a refused edit changes nothing.
-full : why (record { limit = 1; pending = jerry ∷ [] }) (Post (codes "jerry") jerry.query) ≡ Some PoolFull
-full = refl
+abbrev flight : ℕ → RowRecord
+flight n = record { relation = codes "Flight"; values = Number (pos n) ∷ Text (codes "Paris") ∷ [] }
 
-taken : why (record { limit = 2; pending = jerry ∷ [] }) (Post (codes "jerry") kramer.query) ≡ Some NameTaken
-taken = refl
+abbrev flies : List TermContent → AtomRecord
+flies terms = record { relation = codes "Flight"; terms = terms }
 
-taken_changes_nothing : pool_after (record { limit = 2; pending = jerry ∷ [] }) (Post (codes "jerry") kramer.query) ≡ record { limit = 2; pending = jerry ∷ [] }
-taken_changes_nothing = refl
+abbrev reads : List AtomRecord → QueryRecord
+reads body = record { posts = []; heads = reservation (x ∷ []) ∷ []; body = body }
 
-posted_last : pool_after (record { limit = 2; pending = jerry ∷ [] }) (Post (codes "kramer") kramer.query) ≡ record { limit = 2; pending = jerry ∷ kramer ∷ [] }
-posted_last = refl
+-- Flight has two values; two queries may be pending.
+abbrev pool : List PendingQuery → PoolRecord
+pool pending = record {
+  limits = record { pool = 2; journal = 9 };
+  tables = record { catalog = record { relation = codes "Flight"; arity = 2 } ∷ []; rows = flight 122 ∷ [] };
+  pending = pending;
+}
+
+posted : why (pool (kramer ∷ [])) (Post (codes "jerry") (reads (flies (x ∷ y ∷ []) ∷ []))) ≡ None
+posted = refl
+
+name_taken : why (pool (kramer ∷ [])) (Post (codes "kramer") jerry.query) ≡ Some NameTaken
+name_taken = refl
+
+-- A full pool is told before a taken name.
+pool_full : why (pool (kramer ∷ jerry ∷ [])) (Post (codes "kramer") kramer.query) ≡ Some PoolFull
+pool_full = refl
+
+-- The relation's name alone makes an atom none for an answer. All of posts and heads go before the body.
+not_answer : why (pool []) (Post (codes "k") (record { posts = []; heads = reservation (x ∷ []) ∷ flies (x ∷ []) ∷ []; body = reservation (x ∷ []) ∷ [] })) ≡ Some (NotAnswer Heads 1)
+not_answer = refl
+
+unknown_relation : why (pool []) (Post (codes "k") (reads (flies (x ∷ y ∷ []) ∷ reservation (x ∷ []) ∷ []))) ≡ Some (UnknownRelation 1)
+unknown_relation = refl
+
+-- Atom by atom: the first atom's arity goes before the second one's relation.
+arity : why (pool []) (Post (codes "k") (reads (flies (x ∷ []) ∷ reservation (x ∷ []) ∷ []))) ≡ Some (Arity 0)
+arity = refl
+
+no_such_name : why (pool (kramer ∷ [])) (Withdraw (codes "jerry")) ≡ Some NoSuchName
+no_such_name = refl
+
+row_present : why (pool []) (Insert (flight 122)) ≡ Some RowPresent
+row_present = refl
+
+row_absent : why (pool []) (Delete (flight 123)) ≡ Some RowAbsent
+row_absent = refl
+
+-- A refused edit leaves the pool as it was.
+refused : pool_after (pool (kramer ∷ [])) (Post (codes "kramer") jerry.query) ≡ pool (kramer ∷ [])
+refused = refl
+
+-- A query that was withdrawn and posted again comes last.
+posted_again : pool_after (pool_after (pool (kramer ∷ jerry ∷ [])) (Withdraw (codes "kramer"))) (Post (codes "kramer") kramer.query) ≡ pool (jerry ∷ kramer ∷ [])
+posted_again = refl
+
+inserted_and_deleted : pool_after (pool_after (pool []) (Insert (flight 123))) (Delete (flight 123)) ≡ pool []
+inserted_and_deleted = refl

@@ -2,4 +2,16 @@ pub mod Members
 pub mod Searches
 pub mod Examples
 pub mod Places
-pub mod Providers
+pub mod Ends
+pub mod Crowds
+pub mod Agreement
+pub mod Among
+pub mod Coordination
+pub mod Law
+pub mod Bound
+pub mod Scratched
+pub mod Walks
+pub mod Coordinated
+pub mod Rising
+pub mod Nodes
+pub mod Kept

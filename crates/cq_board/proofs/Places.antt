@@ -1,8 +1,8 @@
 -- Lists that are gone through with their places.
-use Rattle.std.proofs.Common.{◌≡◌, ℕ, zero, suc, ◌+◌, ◌<◌, Bool, List, [], ◌∷◌, ◌++◌, length, drop, refl, sym, ap, ◌∙◌, append_assoc, append-nil, arith, get_or, Some, add-one, drop-cons}
+use Rattle.std.proofs.Common.{◌≡◌, ℕ, suc, ◌+◌, ◌<◌, Bool, true, false, List, [], ◌∷◌, ◌++◌, length, take, drop, map, refl, sym, ap, ◌∙◌, append_assoc, append-nil, arith, get_or, add-one, drop-cons}
 use Rattle.std.specs.Prelude.{filter}
-use Rattle.std.specs.List.{flat_map, enumerate_from, slice_get}
-use Rattle.std.proofs.lemmas.List.{drop_all}
+use Rattle.std.specs.List.{flat_map, enumerate_from}
+use Rattle.std.proofs.lemmas.List.{drop_all, take_more}
 use Rattle.std.proofs.lemmas.List.Elements.{filter-append}
 
 module _ {X Y : Type 0} (f : ℕ × X → List Y) where
@@ -21,27 +21,34 @@ module _ {X Y : Type 0} (f : ℕ × X → List Y) where
       let none : drop i xs ≡ [] = drop_all i xs (omega arith) in
       sym (append-nil now) ∙ ap (λ ys. now ++ flat_map f (enumerate_from i ys)) (sym none) ∙ so_far
 
-module _ {X Y : Type 0} (p : Y → Bool) where
-  pub filter-flat_map_none : (f : X → List Y) → ((x : X) → filter p (f x) ≡ []) → (xs : List X) → filter p (flat_map f xs) ≡ []
-  filter-flat_map_none f h [] = refl
-  filter-flat_map_none f h (x ∷ xs) = filter-append p (f x) (flat_map f xs) ∙ rw (h x) (filter-flat_map_none f h xs)
+module _ {X Y : Type 0} (f : ℕ × X → Y) where
+  -- the same with one item for each element
+  pub map-step : (now whole : List Y) (xs : List X) (i : ℕ) (x : X) → i < length xs → x ≡ get_or xs i x
+      → now ++ map f (enumerate_from i (drop i xs)) ≡ whole → (now ++ f (i, x) ∷ []) ++ map f (enumerate_from (i + 1) (drop (i + 1) xs)) ≡ whole
+  map-step now whole xs i x h is so_far =
+      let ahead : drop i xs ≡ x ∷ drop (i + 1) xs = rw add-one (drop-cons xs i x h ∙ ap (λ y. y ∷ drop (suc i) xs) (sym is)) in
+      append_assoc now (f (i, x) ∷ []) (map f (enumerate_from (i + 1) (drop (i + 1) xs)))
+      ∙ ap (λ ys. now ++ map f (enumerate_from i ys)) (sym ahead) ∙ so_far
 
-  pub filter-flat_map_all : (f : X → List Y) → ((x : X) → filter p (f x) ≡ f x) → (xs : List X) → filter p (flat_map f xs) ≡ flat_map f xs
-  filter-flat_map_all f h [] = refl
-  filter-flat_map_all f h (x ∷ xs) = filter-append p (f x) (flat_map f xs) ∙ ap (λ ys. ys ++ filter p (flat_map f xs)) (h x) ∙ ap (λ ys. f x ++ ys) (filter-flat_map_all f h xs)
+  pub map-end : (now whole : List Y) (xs : List X) (i : ℕ) → length xs ≡ i
+      → now ++ map f (enumerate_from i (drop i xs)) ≡ whole → now ≡ whole
+  map-end now whole xs i e so_far =
+      let none : drop i xs ≡ [] = drop_all i xs (omega arith) in
+      sym (append-nil now) ∙ ap (λ ys. now ++ map f (enumerate_from i ys)) (sym none) ∙ so_far
 
-  -- what passes comes from one place alone
-  module _ (f : ℕ × X → List Y) (i : ℕ) (others : (j : ℕ) (x : X) → (j ≡ i → ⊥) → filter p (f (j, x)) ≡ []) where
-    pub filter_behind : (n : ℕ) (xs : List X) → i < n → filter p (flat_map f (enumerate_from n xs)) ≡ []
-    filter_behind n [] h = refl
-    filter_behind n (x ∷ xs) h = filter-append p (f (n, x)) (flat_map f (enumerate_from (n + 1) xs)) ∙ rw (others n x (λ e. omega arith)) (filter_behind (n + 1) xs (omega arith))
+more_taken : {X : Type 0} (xs : List X) (i : ℕ) (x : X) → i < length xs → x ≡ get_or xs i x → take (i + 1) xs ≡ take i xs ++ x ∷ []
+more_taken xs i x h is = take_more xs i x h ∙ ap (λ y. take i xs ++ y ∷ []) (sym is)
 
-    pub filter_place : (n : ℕ) (xs : List X) (m : ℕ) (x : X) → n + m ≡ i → slice_get xs m ≡ Some x → filter p (flat_map f (enumerate_from n xs)) ≡ filter p (f (i, x))
-    filter_place n [] m x e h = cc
-    filter_place n (y ∷ xs) zero x e h =
-        let at : n ≡ i = omega arith in
-        let same : y ≡ x = cc in
-        filter-append p (f (n, y)) (flat_map f (enumerate_from (n + 1) xs)) ∙ ap (λ ys. filter p (f (n, y)) ++ ys) (filter_behind (n + 1) xs (omega arith))
-        ∙ append-nil (filter p (f (n, y))) ∙ ap (λ k. filter p (f (k, y))) at ∙ ap (λ z. filter p (f (i, z))) same
-    filter_place n (y ∷ xs) (suc m) x e h =
-        filter-append p (f (n, y)) (flat_map f (enumerate_from (n + 1) xs)) ∙ rw (others n y (λ k. omega arith)) (filter_place (n + 1) xs m x (omega arith) h)
+module _ {X : Type 0} (p : X → Bool) where
+  -- one more element that passes, or that does not
+  pub filter-step_yes : (now next : List X) (xs : List X) (i : ℕ) (x : X) → i < length xs → x ≡ get_or xs i x → p x ≡ true
+      → now ≡ filter p (take i xs) → next ≡ now ++ x ∷ [] → next ≡ filter p (take (i + 1) xs)
+  filter-step_yes now next xs i x h is t so_far made =
+      let more : filter p (x ∷ []) ≡ x ∷ [] = rw t refl in
+      made ∙ ap (λ ys. ys ++ x ∷ []) so_far ∙ ap (λ ys. filter p (take i xs) ++ ys) (sym more) ∙ sym (filter-append p (take i xs) (x ∷ [])) ∙ ap (filter p) (sym (more_taken xs i x h is))
+
+  pub filter-step_no : (now : List X) (xs : List X) (i : ℕ) (x : X) → i < length xs → x ≡ get_or xs i x → p x ≡ false
+      → now ≡ filter p (take i xs) → now ≡ filter p (take (i + 1) xs)
+  filter-step_no now xs i x h is f so_far =
+      let none : filter p (x ∷ []) ≡ [] = rw f refl in
+      so_far ∙ sym (append-nil (filter p (take i xs))) ∙ ap (λ ys. filter p (take i xs) ++ ys) (sym none) ∙ sym (filter-append p (take i xs) (x ∷ [])) ∙ ap (filter p) (sym (more_taken xs i x h is))

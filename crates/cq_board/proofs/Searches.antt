@@ -30,12 +30,12 @@ same_value_refl (Number (pos m)) = eq-eqb m m refl
 same_value_refl (Number (negsuc m)) = eq-eqb m m refl
 same_value_refl (Text s) = (bytes_eq-Decides s s).1 refl
 
-is_value_true : (c : ValueContent) → is_value c ≡ true → IsValue c
+pub is_value_true : (c : ValueContent) → is_value c ≡ true → IsValue c
 is_value_true (Number (pos n)) t = record { sfits = ltb-true n (2 ^ 63) t }
 is_value_true (Number (negsuc n)) t = record { sfits = ltb-true n (2 ^ 63) t }
 is_value_true (Text s) t = t
 
-is_value_has : (c : ValueContent) → IsValue c → is_value c ≡ true
+pub is_value_has : (c : ValueContent) → IsValue c → is_value c ≡ true
 is_value_has (Number (pos n)) h = lt-ltb n (2 ^ 63) h.sfits
 is_value_has (Number (negsuc n)) h = lt-ltb n (2 ^ 63) h.sfits
 is_value_has (Text s) h = h
@@ -87,7 +87,7 @@ valuations_bind values (x ∷ xs) v h =
     let made = In-map_gives (λ value. (x, value) ∷ among.0) values v among.2 in
     subst (Binds values) (sym made.2) (made.1, valuations_bind values xs among.0 among.1)
 
-abbrev given_by : (List ℕ → ValueContent) → List (List ℕ) → Bindings
+abbrev pub given_by : (List ℕ → ValueContent) → List (List ℕ) → Bindings
 given_by g xs = map (λ x. (x, g x)) xs
 
 valuations_have : (values : List ValueContent) (g : List ℕ → ValueContent) → ((x : List ℕ) → In (g x) values) → (xs : List (List ℕ)) → In (given_by g xs) (valuations values xs)
@@ -96,7 +96,7 @@ valuations_have values g h (x ∷ xs) =
     In-flat_map (λ rest. map (λ value. (x, value) ∷ rest) values) (valuations values xs) (given_by g xs) (given_by g (x ∷ xs))
     (valuations_have values g h xs) (In-map (λ value. (x, value) ∷ given_by g xs) values (g x) (h x))
 
-value_at-given_by : (g : List ℕ → ValueContent) (xs : List (List ℕ)) (x : List ℕ) → In x xs → value_at (given_by g xs) x ≡ Some (g x)
+pub value_at-given_by : (g : List ℕ → ValueContent) (xs : List (List ℕ)) (x : List ℕ) → In x xs → value_at (given_by g xs) x ≡ Some (g x)
 value_at-given_by g [] x h = absurd h
 value_at-given_by g (y ∷ xs) x (inl e) = rw ((bytes_eq-Decides x y).1 e) (ap (λ z. Some (g z)) (sym e))
 value_at-given_by g (y ∷ xs) x (inr h) =

@@ -2,3 +2,10 @@ pub mod Supply
 pub mod Pool
 pub mod Edges
 pub mod Edits
+pub mod Board
+pub mod Kept
+pub mod Views
+pub mod Named
+pub mod Choice
+pub mod Scratch
+pub mod Steps

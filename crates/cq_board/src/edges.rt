@@ -1,10 +1,9 @@
 //! The edges of pending queries.
 
-ghost use Rattle.std.specs.Prelude.{◌≡◌, ◌≤◌, ◌++◌, length, IfOk, OnOk, Some};
+ghost use Rattle.std.specs.Prelude.{◌≡◌, ◌≤◌, ◌++◌, length, IfOk, OnOk};
 ghost use Rattle.std.specs.List.{flat_map, enumerate_from};
 ghost use Rattle.cq_atom.specs.declared.limits.TheConstants.{MAX_ATOMS};
-ghost use Rattle.cq_match.specs.Graph.{edges_to};
-ghost use Rattle.cq_board.specs.Edges.{edge_if, edges_into, edges_of, post_at};
+ghost use Rattle.cq_board.specs.Edges.{edge_if, edges_into, edges_of};
 
 use crate::pending::Pending;
 use crate::supply::supplies;
@@ -37,20 +36,19 @@ fn add_heads<A: Allocator>(
     Ok(())
 }
 
-/// Each provider of each head that unifies with the atom, as edges to that postcondition.
-fn edges_into<A: Allocator>(
-    alloc: A,
+/// Adds the edges to one postcondition. Each head of each pending query is tested once.
+fn add_providers<A: Allocator>(
+    edges: &mut Vec<Edge, A>,
     pending: &[Pending<Name<A>, Query<A>>],
     waiter: usize,
     post: u8,
     wanted: &Atom<A>,
-) -> Result<Vec<Edge, A>, AllocError>
-    ensures { IfOk result (λ edges. edges.items ≡ edges_into pending.now waiter (post, wanted.now)) }
+) -> Result<(), AllocError>
+    ensures { OnOk result (edges.new.items ≡ edges.old.items ++ edges_into pending.now waiter (post, wanted.now)) }
 {
-    let mut edges = Vec::new(alloc);
     for (provider, offering) in pending.iter().enumerate() {
         add_heads(
-            &mut edges,
+            edges,
             provider,
             offering.query.heads(),
             waiter,
@@ -58,22 +56,35 @@ fn edges_into<A: Allocator>(
             wanted,
         )?;
     }
-    Ok(edges)
+    Ok(())
 }
 
-/// The edges to one postcondition: its providers. Each head of each pending query is tested once.
-///
-/// # Errors
-/// `AllocError` where a growth was refused.
-pub fn providers_of<A: Allocator>(
-    alloc: A,
+/// Adds the edges to the postconditions of one waiter.
+fn add_posts<A: Allocator>(
+    edges: &mut Vec<Edge, A>,
     pending: &[Pending<Name<A>, Query<A>>],
     waiter: usize,
-    post: u8,
-    wanted: &Atom<A>,
-) -> Result<Vec<Edge, A>, AllocError>
-    requires { post_at pending.now waiter post ≡ Some wanted.now }
-    ensures { IfOk result (λ edges. edges.items ≡ edges_to waiter post (edges_of pending.now)) }
+    posts: &[Atom<A>],
+) -> Result<(), AllocError>
+    requires { length posts.now ≤ MAX_ATOMS }
+    ensures { OnOk result (edges.new.items ≡ edges.old.items ++ flat_map (edges_into pending.now waiter) (enumerate_from 0 posts.now)) }
 {
-    edges_into(alloc, pending, waiter, post, wanted)
+    for (post, wanted) in posts.iter().enumerate() {
+        add_providers(edges, pending, waiter, post as u8, wanted)?;
+    }
+    Ok(())
+}
+
+/// All edges of the pending queries.
+pub(crate) fn edges_of<A: Allocator>(
+    alloc: A,
+    pending: &[Pending<Name<A>, Query<A>>],
+) -> Result<Vec<Edge, A>, AllocError>
+    ensures { IfOk result (λ edges. edges.items ≡ edges_of pending.now) }
+{
+    let mut edges = Vec::new(alloc);
+    for (waiter, waiting) in pending.iter().enumerate() {
+        add_posts(&mut edges, pending, waiter, waiting.query.posts())?;
+    }
+    Ok(edges)
 }

@@ -1,22 +1,68 @@
 //! Edits of a pool.
 
-/// What is asked of a pool. Contracts see it over the bytes of a name and a `QueryRecord`.
+use cq_atom::{Name, Part, Query, Row};
+use std::alloc::{Allocator, Global};
+
+/// What is asked of a pool, over what holds names, queries and rows. Contracts see an edit as an
+/// `EditKind` over the bytes of names and the records of queries and rows.
 #[derive(Drop)]
-pub enum EditKind<N, Q> {
-    /// Makes the query pending under the name.
+pub enum EditKind<N, Q, R> {
+    /// Makes the query pending under the name, behind those that are pending.
     Post {
         /// The query's name.
         name: N,
         /// The query.
         query: Q,
     },
+    /// Takes a pending query back.
+    Withdraw {
+        /// The query's name.
+        name: N,
+    },
+    /// Adds a row.
+    Insert {
+        /// The row.
+        row: R,
+    },
+    /// Takes a row out.
+    Delete {
+        /// The row.
+        row: R,
+    },
 }
 
-/// Why an edit is refused, in the order of the tests.
+/// An edit.
+pub type Edit<A = Global> = EditKind<Name<A>, Query<A>, Row<A>>;
+
+/// Why an edit is refused. Of the tests of one edit the first that holds is answered, in the order
+/// in which they stand here. Places count from 0.
 #[derive(Clone, Copy, Debug, PartialEq, Eq)]
 pub enum Why {
     /// As many queries are pending as the pool may hold.
     PoolFull,
     /// A query of that name is pending.
     NameTaken,
+    /// A postcondition or a head is over a database relation.
+    NotAnswer {
+        /// Whether it is a postcondition or a head.
+        part: Part,
+        /// Its place among the postconditions or heads.
+        place: usize,
+    },
+    /// A body atom or a row is over a relation that is not declared.
+    UnknownRelation {
+        /// The place of the atom in the body; 0 for a row.
+        place: usize,
+    },
+    /// A body atom or a row has another arity than its relation.
+    Arity {
+        /// The place of the atom in the body; 0 for a row.
+        place: usize,
+    },
+    /// No query of that name is pending.
+    NoSuchName,
+    /// The row that is to be inserted is there.
+    RowPresent,
+    /// The row that is to be deleted is not there.
+    RowAbsent,
 }

@@ -1,20 +1,38 @@
-//! One pool of pending queries, and what it is from scratch.
+//! Pools of pending queries, and the board of each.
 //!
-//! A pool is a list of pending queries in posting order under a limit. `specs/Edges` says which edges
-//! its queries have, and `specs/Edits` why an edit is refused and which pool an accepted one leaves.
-//! The crates above use one contract of this one most: `providers_of` finds exactly the edges of the
-//! pool that lead to a postcondition. It rests on `supplies`, which is true exactly where a head
-//! unifies with a postcondition; by that test the edges are defined.
+//! A pool is a list of pending queries in posting order under a limit, with the tables that their
+//! bodies read. `specs/Edits` says why an edit is refused and which pool an accepted one leaves, and
+//! `specs/Board` what the board of a pool is: its edges, crowded postconditions, matched queries and
+//! groundings, from scratch.
 //!
-//! Not here: the order in which edits came, and what is shown of a pool.
+//! The crates above use one contract of this one most: `Board::admit` tells why the edit is refused
+//! and leaves the pool after it, or leaves all as it was. That what a board shows is the board of its
+//! pool stands in its type. Edges rest on `supplies`, which is true exactly where a head unifies with
+//! a postcondition; by that test they are defined.
+//!
+//! Not here: the order in which edits came, and how a board is printed.
 #![tactic(auto)]
 
+mod board;
+mod choice;
 mod edges;
 mod edit;
+mod limits;
+mod link;
+mod parts;
 mod pending;
+mod refusal;
+mod scratch;
 mod supply;
+mod views;
+mod work;
 
-pub use edges::providers_of;
-pub use edit::{EditKind, Why};
+pub use board::{Board, Posted};
+pub use choice::Choice;
+pub use edit::{Edit, EditKind, Why};
+pub use limits::Limits;
+pub use link::{Crowd, Link};
 pub use pending::Pending;
+pub use scratch::ScratchFault;
 pub use supply::supplies;
+pub use work::Work;

@@ -1,0 +1,29 @@
+use Rattle.std.proofs.Common.{refl, arith}
+use Rattle.cq_board.specs.Choice.{ChoiceRecord}
+use Rattle.cq_board.specs.Named.{query_named}
+use Rattle.cq_board.specs.Steps.Choices.{IsServed, HasSuppliers}
+use Rattle.cq_board.proofs.Walks.{All_more, All_end}
+use Rattle.cq_board.proofs.board.Board.are_served.Goals as goal
+
+pub loop-choice-preserved : goal.loop-choice-preserved
+loop-choice-preserved g c =
+    let pending = c.args.self.now.pending in
+    let choices = c.args.choices.now in
+    record {
+      same = All_more (λ (d : ChoiceRecord). IsServed pending choices (query_named d.name pending) d.values) choices c.loop-choice.choice-index c.choice-item.result (omega arith) c.choice-item.is
+          c.loop-choice.invariant.same (c.if-not-is_served.ensures.same.0 refl);
+      unify = All_more (λ (d : ChoiceRecord). HasSuppliers pending choices (query_named d.name pending)) choices c.loop-choice.choice-index c.choice-item.result (omega arith) c.choice-item.is
+          c.loop-choice.invariant.unify (c.if-not-is_served.ensures.unify refl);
+    }
+
+pub returns-clause-same : goal.returns-clause-same
+returns-clause-same g c =
+    let pending = c.args.self.now.pending in
+    let choices = c.args.choices.now in
+    (λ t. All_end (λ (d : ChoiceRecord). IsServed pending choices (query_named d.name pending) d.values) choices choices c.loop-choice.choice-index (omega arith) refl c.loop-choice.invariant.same, λ all. refl)
+
+pub returns-clause-unify : goal.returns-clause-unify
+returns-clause-unify g c =
+    let pending = c.args.self.now.pending in
+    let choices = c.args.choices.now in
+    λ t. All_end (λ (d : ChoiceRecord). HasSuppliers pending choices (query_named d.name pending)) choices choices c.loop-choice.choice-index (omega arith) refl c.loop-choice.invariant.unify

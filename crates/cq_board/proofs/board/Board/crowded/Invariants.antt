@@ -1,0 +1,11 @@
+use Rattle.std.proofs.Common.{map, length}
+use Rattle.cq_board.specs.Named.{crowd_read}
+use Rattle.cq_board.proofs.Crowds.{IsCounting}
+use Rattle.cq_board.proofs.board.Board.crowded.Given as goal
+
+-- the crowded postconditions so far, and those of the edges that are left, are all
+abbrev pub invariant-loop-first : goal.invariant-loop-first
+invariant-loop-first g l = IsCounting l.self.pending l.rest (map (crowd_read (λ name. name.now)) l.crowded.items)
+
+abbrev pub decreases-loop-first : goal.decreases-loop-first
+decreases-loop-first g l = length l.rest

@@ -1,0 +1,16 @@
+use Rattle.std.proofs.Common.{ap, subst, ◌∙◌, Option, List, Some, IsTrue}
+use Rattle.std.specs.Prelude.{◌↔◌}
+use Rattle.cq_atom.specs.Value.{ValueContent}
+use Rattle.cq_atom.specs.Query.{QueryRecord}
+use Rattle.cq_atom.specs.Valuation.{under}
+use Rattle.cq_board.specs.Choice.{bound}
+use Rattle.cq_board.specs.Named.{query_named}
+use Rattle.cq_board.specs.Steps.Choices.{IsOfferedBy}
+use Rattle.cq_board.proofs.board.Board.offers.Goals as goal
+
+pub returns-in-Some-clause-same : goal.returns-in-Some-clause-same
+returns-in-Some-clause-same g c =
+    let atom = under (bound c.args.waiting.now.query.now c.args.waiting.now.values.now) c.args.post.now in
+    let named = c.in-Some.ensures ∙ ap (λ n. query_named n c.args.self.now.pending) c.name.ensures in
+    subst (λ (o : Option QueryRecord). IsTrue c.has_head.result ↔ IsOfferedBy o c.args.choice.now.values atom) named
+    (subst (λ (values : List ValueContent). IsTrue c.has_head.result ↔ IsOfferedBy (Some c.in-Some.query.now) values atom) c.values.ensures c.has_head.ensures.same)

@@ -1,0 +1,105 @@
+//! What is kept of a pool's board, from scratch.
+
+ghost use Rattle.std.specs.Prelude.{◌≡◌, map, IfOk};
+ghost use Rattle.cq_ground.specs.Grounding.{groundings_of};
+ghost use Rattle.cq_board.specs.Edges.{edges_of};
+ghost use Rattle.cq_board.specs.Board.{nodes_of, matched_of};
+
+use crate::board::Posted;
+use crate::edges::edges_of;
+use cq_atom::Meter;
+use cq_ground::Groundings;
+use cq_match::{Edge, greatest};
+use cq_rel::Tables;
+use std::alloc::{AllocError, Allocator, Global};
+
+/// The parts of a board that are kept beside its pool.
+#[derive(Drop)]
+pub(crate) struct Parts<A: Allocator = Global> {
+    /// All edges.
+    pub(crate) edges: Vec<Edge, A>,
+    /// The places of the matched queries.
+    pub(crate) matched: Vec<usize, A>,
+    /// The groundings of each query.
+    pub(crate) groundings: Vec<Groundings<A>, A>,
+}
+
+/// The graph's nodes: each query's place, with how many postconditions it has.
+fn nodes_of<A: Allocator>(
+    alloc: A,
+    pending: &[Posted<A>],
+) -> Result<Vec<(usize, u8), A>, AllocError>
+    ensures { IfOk result (λ nodes. nodes.items ≡ nodes_of pending.now) }
+{
+    let mut nodes = Vec::with_capacity(alloc, pending.len())?;
+    for (place, posted) in pending.iter().enumerate() {
+        nodes.push((place, posted.query.posts().len() as u8))?;
+    }
+    Ok(nodes)
+}
+
+/// The places of the matched queries, in posting order.
+fn matched_of<A: Allocator + Copy>(
+    alloc: A,
+    pending: &[Posted<A>],
+    edges: &[Edge],
+) -> Result<Vec<usize, A>, AllocError>
+    requires { edges.now ≡ edges_of pending.now }
+    ensures { IfOk result (λ matched. matched.items ≡ matched_of pending.now) }
+{
+    let nodes = nodes_of(alloc, pending)?;
+    greatest(alloc, &nodes, edges)
+}
+
+/// The groundings of each query, in posting order. The meter counts a visit of each.
+pub(crate) fn groundings_of<A: Allocator + Copy>(
+    alloc: A,
+    pending: &[Posted<A>],
+    tables: &Tables<A>,
+    visits: &mut Meter,
+) -> Result<Vec<Groundings<A>, A>, AllocError>
+    ensures { IfOk result (λ groundings. groundings.items ≡ map (λ p. groundings_of p.query.body tables.now.rows) pending.now) }
+{
+    let mut groundings = Vec::with_capacity(alloc, pending.len())?;
+    for posted in pending {
+        groundings.push(Groundings::all(alloc, &posted.query, tables, visits)?)?;
+    }
+    Ok(groundings)
+}
+
+/// Equal groundings of each query.
+pub(crate) fn copies_of<A: Allocator + Copy>(
+    alloc: A,
+    groundings: &[Groundings<A>],
+) -> Result<Vec<Groundings<A>, A>, AllocError>
+    ensures { IfOk result (λ copies. copies.items ≡ groundings.now) }
+{
+    let mut copies = Vec::with_capacity(alloc, groundings.len())?;
+    for found in groundings {
+        copies.push(found.copy()?)?;
+    }
+    Ok(copies)
+}
+
+impl<A: Allocator + Copy> Parts<A> {
+    /// The parts of the board over these queries and tables.
+    pub(crate) fn of(
+        alloc: A,
+        pending: &[Posted<A>],
+        tables: &Tables<A>,
+        visits: &mut Meter,
+    ) -> Result<Parts<A>, AllocError>
+        ensures edges { IfOk result (λ parts. parts.edges.items ≡ edges_of pending.now) }
+        ensures matched { IfOk result (λ parts. parts.matched.items ≡ matched_of pending.now) }
+        ensures groundings { IfOk result (λ parts. parts.groundings.items ≡ map (λ p. groundings_of p.query.body tables.now.rows) pending.now) }
+    {
+        let edges = edges_of(alloc, pending)?;
+        let matched = matched_of(alloc, pending, &edges)?;
+        let groundings = groundings_of(alloc, pending, tables, visits)?;
+        Ok(Parts {
+            edges,
+            matched,
+            groundings,
+        })
+    }
+}

@@ -1,0 +1,128 @@
+//! Why an edit is refused.
+
+ghost use Rattle.std.specs.Prelude.{◌≡◌};
+ghost use Rattle.cq_board.specs.declared.edit.EditKind.TheVariants.{Post};
+ghost use Rattle.cq_board.specs.Pool.{PoolRecord};
+ghost use Rattle.cq_board.specs.Edits.{is_named, is_taken, answer_why, arity_why, body_why, query_why, row_why, why};
+ghost use Rattle.cq_rel.specs.Tables.{arity_in};
+
+use crate::board::Posted;
+use crate::edit::{Edit, EditKind, Why};
+use crate::limits::Limits;
+use cq_atom::{Atom, Name, Part, Query, Row};
+use cq_rel::{Catalog, Tables};
+use std::alloc::Allocator;
+
+/// Whether the query is pending under the name.
+pub(crate) fn is_named<A: Allocator>(name: &Name<A>, posted: &Posted<A>) -> bool
+    ensures { result ≡ is_named name.now posted.now }
+{
+    name.as_str() == posted.name.as_str()
+}
+
+fn is_taken<A: Allocator>(name: &Name<A>, pending: &[Posted<A>]) -> bool
+    ensures { result ≡ is_taken name.now pending.now }
+{
+    pending.iter().any(|posted| is_named(name, posted))
+}
+
+fn answer_why<A: Allocator>(catalog: &Catalog<A>, part: Part, atoms: &[Atom<A>]) -> Option<Why>
+    ensures { result ≡ answer_why catalog.now part 0 atoms.now }
+{
+    for (place, atom) in atoms.iter().enumerate() {
+        if catalog.arity_of(atom.relation()).is_some() {
+            return Some(Why::NotAnswer { part, place });
+        }
+    }
+    None
+}
+
+fn arity_why<A: Allocator>(
+    catalog: &Catalog<A>,
+    relation: &str,
+    arity: usize,
+    place: usize,
+) -> Option<Why>
+    ensures { result ≡ arity_why (arity_in catalog.now relation.now) arity place }
+{
+    match catalog.arity_of(relation) {
+        None => Some(Why::UnknownRelation { place }),
+        Some(declared) if declared == arity => None,
+        Some(_) => Some(Why::Arity { place }),
+    }
+}
+
+fn body_why<A: Allocator>(catalog: &Catalog<A>, atoms: &[Atom<A>]) -> Option<Why>
+    ensures { result ≡ body_why catalog.now 0 atoms.now }
+{
+    for (place, atom) in atoms.iter().enumerate() {
+        if let Some(why) = arity_why(catalog, atom.relation(), atom.terms().len(), place) {
+            return Some(why);
+        }
+    }
+    None
+}
+
+fn query_why<A: Allocator>(catalog: &Catalog<A>, query: &Query<A>) -> Option<Why>
+    ensures { result ≡ query_why catalog.now query.now }
+{
+    if let Some(why) = answer_why(catalog, Part::Posts, query.posts()) {
+        return Some(why);
+    }
+    if let Some(why) = answer_why(catalog, Part::Heads, query.heads()) {
+        return Some(why);
+    }
+    body_why(catalog, query.body())
+}
+
+/// Why the catalog has no place for the row, or else what its presence says.
+fn row_why<A: Allocator>(tables: &Tables<A>, row: &Row<A>, present: Option<Why>) -> Option<Why>
+    ensures { result ≡ row_why tables.now row.now present }
+{
+    match arity_why(tables.catalog(), row.relation(), row.values().len(), 0) {
+        Some(why) => Some(why),
+        None => present,
+    }
+}
+
+fn post_why<A: Allocator>(
+    limits: Limits,
+    tables: &Tables<A>,
+    pending: &[Posted<A>],
+    name: &Name<A>,
+    query: &Query<A>,
+) -> Option<Why>
+    ensures { let pool : PoolRecord = record { limits = limits; tables = tables.now; pending = pending.now } in result ≡ why pool (Post name.now query.now) }
+{
+    if pending.len() >= limits.pool {
+        return Some(Why::PoolFull);
+    }
+    if is_taken(name, pending) {
+        return Some(Why::NameTaken);
+    }
+    query_why(tables.catalog(), query)
+}
+
+/// Why the pool of these parts refuses the edit: the first test that holds.
+pub(crate) fn refusal<A: Allocator>(
+    limits: Limits,
+    tables: &Tables<A>,
+    pending: &[Posted<A>],
+    edit: &Edit<A>,
+) -> Option<Why>
+    ensures { let pool : PoolRecord = record { limits = limits; tables = tables.now; pending = pending.now } in result ≡ why pool edit.now }
+{
+    match edit {
+        EditKind::Post { name, query } => post_why(limits, tables, pending, name, query),
+        EditKind::Withdraw { name } if is_taken(name, pending) => None,
+        EditKind::Withdraw { .. } => Some(Why::NoSuchName),
+        EditKind::Insert { row } => {
+            let present = tables.has(row).then_some(Why::RowPresent);
+            row_why(tables, row, present)
+        }
+        EditKind::Delete { row } => {
+            let absent = (!tables.has(row)).then_some(Why::RowAbsent);
+            row_why(tables, row, absent)
+        }
+    }
+}

@@ -1,0 +1,31 @@
+//! Counted work.
+
+ghost use Rattle.std.specs.Prelude.{◌≡◌};
+
+use cq_atom::Meter;
+
+/// Counts of the work that edits took. So far nothing is promised of them.
+#[derive(Drop)]
+pub struct Work {
+    /// Tests of a head against a postcondition.
+    pub tests: Meter,
+    /// Visits of a query's groundings.
+    pub visits: Meter,
+    /// Changes of a count of matched providers.
+    pub changes: Meter,
+}
+
+impl Work {
+    /// Nothing was done yet.
+    pub fn new() -> Work
+        ensures tests { result.tests ≡ 0 }
+        ensures visits { result.visits ≡ 0 }
+        ensures changes { result.changes ≡ 0 }
+    {
+        Work {
+            tests: Meter::new(),
+            visits: Meter::new(),
+            changes: Meter::new(),
+        }
+    }
+}
