@@ -1,12 +1,10 @@
 -- What a line is read as, and what is known of its reply.
-use Rattle.std.proofs.Common.{◌≡◌, ℕ, List, [], inl, inr, refl, sym, ap, subst, ◌∙◌, Option, None}
+use Rattle.std.proofs.Common.{◌≡◌, ℕ, List, [], inl, inr, sym, ap, subst, ◌∙◌, Option}
 use Rattle.std.specs.Prelude.{Result, Ok, Err, OnOk, IfErr}
-use Rattle.cq_atom.specs.Query.{QueryRecord}
 use Rattle.cq_text.specs.declared.fault.Kind.{Kind}
 use Rattle.cq_text.specs.declared.fault.TextFault.{TextFault}
 use Rattle.cq_text.specs.declared.fault.TextFault.TheVariants.{At}
-use Rattle.cq_text.specs.declared.command.CommandKind.TheVariants.{Blank, Relation, Limits, Post, Withdraw, Insert, Delete, Publish, Show}
-use Rattle.cq_text.specs.Grammar.{CommandContent, StandsFor, IsServed}
+use Rattle.cq_text.specs.Grammar.{CommandContent, StandsFor}
 use Rattle.cq_text.specs.Fault.{FirstFault}
 use Rattle.cq_text.specs.Views.{OrNoMemory, OfFault}
 use Rattle.cq_report.specs.declared.output.Output.{Output}
@@ -14,9 +12,9 @@ use Rattle.cq_report.specs.declared.fault.RunFault.{RunFault}
 use Rattle.cq_report.specs.declared.fault.RunFault.TheVariants as faults
 use Rattle.cq_report.specs.Written.{Puts, Breaks, Fails}
 use Rattle.cq_report.specs.Reading.{Reading, Reads, Faulty, IsReading}
-use Rattle.cq_report.specs.Machine.{State, event_of, next, reply}
+use Rattle.cq_report.specs.Machine.{State, next, reply}
 use Rattle.cq_report.specs.Steps.Put.{Put}
-use Rattle.cq_report.proofs.Writing.{Puts-nothing, Puts-starved}
+use Rattle.cq_report.specs.Steps.Writing.{Puts-nothing, Puts-starved}
 
 pub on_ok : {X E : Type 0} (r : Result X E) (P : Type 0) → P → OnOk r P
 on_ok (Ok x) P p = p
@@ -24,38 +22,26 @@ on_ok (Err e) P p = tt
 
 -- a line that is read as a command is read as nothing else
 pub only_command : (line : List ℕ) (command : CommandContent)
-    → ((other : CommandContent) → StandsFor line other → IsServed other → OrNoMemory {X = CommandContent} (Ok command) (Ok other))
+    → ((other : CommandContent) → StandsFor line other → OrNoMemory {X = CommandContent} (Ok command) (Ok other))
     → ((kind : Kind) (offset : ℕ) → FirstFault line kind offset → OrNoMemory {X = CommandContent} (Ok command) (Err (At kind offset)))
     → (reading : Reading) → IsReading line reading → reading ≡ Reads command
 only_command line command only only_fault (Reads other) h =
-    elim (only other h.0 h.1) [ inl e ↦ let same : other ≡ command = cc in ap Reads same | inr e ↦ cc ]
+    elim (only other h) [ inl e ↦ let same : other ≡ command = cc in ap Reads same | inr e ↦ cc ]
 only_command line command only only_fault (Faulty kind offset) h =
     elim (only_fault kind offset h) [ inl e ↦ cc | inr e ↦ cc ]
 
 -- a line that has a fault has no other reading
 pub only_the_fault : (line : List ℕ) (fault : TextFault) (kind : Kind) (offset : ℕ) → fault ≡ At kind offset
-    → ((other : CommandContent) → StandsFor line other → IsServed other → OrNoMemory {X = CommandContent} (Err fault) (Ok other))
+    → ((other : CommandContent) → StandsFor line other → OrNoMemory {X = CommandContent} (Err fault) (Ok other))
     → ((k : Kind) (o : ℕ) → FirstFault line k o → OrNoMemory {X = CommandContent} (Err fault) (Err (At k o)))
     → (reading : Reading) → IsReading line reading → reading ≡ Faulty kind offset
 only_the_fault line fault kind offset is only only_fault (Reads other) h =
-    elim (only other h.0 h.1) [ inl e ↦ cc | inr e ↦ cc ]
+    elim (only other h) [ inl e ↦ cc | inr e ↦ cc ]
 only_the_fault line fault kind offset is only only_fault (Faulty k o) h =
     elim (only_fault k o h) [ inl e ↦ let one : k ≡ kind = cc in let two : o ≡ offset = cc in ap (λ x. Faulty x o) one ∙ ap (Faulty kind) two | inr e ↦ cc ]
 
 pub the_fault : (line : List ℕ) (fault : TextFault) (kind : Kind) (offset : ℕ) → fault ≡ At kind offset → OfFault fault (λ k o. FirstFault line k o) → IsReading line (Faulty kind offset)
 the_fault line fault kind offset is h = rw is at h
-
--- a command that is no post, no publish and no look is no event
-pub no_event : (command : CommandContent) → ((name : List ℕ) (query : QueryRecord) → command ≡ Post name query → ⊥) → (command ≡ Publish → ⊥) → (command ≡ Show → ⊥) → event_of command ≡ None
-no_event Blank p q r = refl
-no_event (Relation name arity) p q r = refl
-no_event (Limits pool journal) p q r = refl
-no_event (Post name query) p q r = absurd (p name query refl)
-no_event (Withdraw name) p q r = refl
-no_event (Insert row) p q r = refl
-no_event (Delete row) p q r = refl
-no_event Publish p q r = absurd (q refl)
-no_event Show p q r = absurd (r refl)
 
 module _ {W A : Type 0} (taken : W → Option (List ℕ)) (failures : W → ℕ) (first now : Output W A) where
   -- bytes that were put, by the clauses of the buffer

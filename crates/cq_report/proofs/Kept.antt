@@ -12,7 +12,7 @@ never_both m n h k = omega (arith, h, k)
 
 -- a text that is too long has one fault, whatever it is
 too_long : (a b : List ℕ) (reading : Reading) → MAX_LINE < length a → MAX_LINE < length b → IsReading a reading → IsReading b reading
-too_long a b (Reads command) h k i = absurd (never_both MAX_LINE (length a) h i.0.0)
+too_long a b (Reads command) h k i = absurd (never_both MAX_LINE (length a) h i.0)
 too_long a b (Faulty kind offset) h k (i, inl j) = ((λ le _. absurd (never_both MAX_LINE (length b) k le)), inl (k, j.1, j.2))
 too_long a b (Faulty kind offset) h k (i, inr j) = absurd (never_both MAX_LINE (length a) h j.0)
 

@@ -1,9 +1,11 @@
-pub mod Writing
 mod Examples
+pub mod Pieces
+pub mod Left
+pub mod Onward
 pub mod Putting
-pub mod Entering
+pub mod Floor
 pub mod Answering
 pub mod Cutting
 pub mod Kept
-pub mod Serving
+pub mod Served
 pub mod Ending

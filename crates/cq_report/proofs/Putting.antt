@@ -1,14 +1,12 @@
 -- Bytes that are put piece by piece.
-use Rattle.std.proofs.Common.{◌≡◌, ℕ, ◌+◌, ◌<◌, List, [], ◌∷◌, ◌++◌, length, drop, refl, sym, ap, subst, ◌∙◌, append_assoc, append-nil, arith, get_or, Option, Some, zero, suc, add-one, drop-cons}
+use Rattle.std.proofs.Common.{◌≡◌, ℕ, List, [], ◌++◌, refl, sym, subst, ◌∙◌, append_assoc, append-nil, Option}
 use Rattle.std.specs.Prelude.{Result, Ok, Err}
-use Rattle.std.specs.List.{flat_map, enumerate_from, slice_get}
-use Rattle.std.proofs.lemmas.List.{drop_all}
 use Rattle.cq_report.specs.declared.output.Output.{Output}
 use Rattle.cq_report.specs.declared.fault.RunFault.{RunFault}
 use Rattle.cq_report.specs.declared.fault.RunFault.TheVariants as faults
 use Rattle.cq_report.specs.Written.{Puts, Breaks}
 use Rattle.cq_report.specs.Steps.Put.{Put}
-use Rattle.cq_report.proofs.Writing.{Puts-nothing, Puts-then, Puts-breaks, Breaks-more, Puts-starved}
+use Rattle.cq_report.specs.Steps.Writing.{Puts-nothing, Puts-then, Puts-breaks, Breaks-more, Puts-starved}
 
 -- Of the whole, all but the rest was put.
 pub record Putting {W A : Type 0} (taken : W → Option (List ℕ)) (failures : W → ℕ) (first now : Output W A) (whole rest : List ℕ) : Type 0 where
@@ -50,22 +48,3 @@ module _ {W A : Type 0} (taken : W → Option (List ℕ)) (failures : W → ℕ)
 
   pub Put-starved : (first now : Output W A) (whole rest : List ℕ) → Putting taken failures first now whole rest → Put taken failures first now whole (Err faults.NoMemory)
   Put-starved first now whole rest p = (Putting-starved first now whole rest p, λ h. h)
-
--- the pieces from a place on: the one there, and those behind it
-pub pieces_at : {X Y : Type 0} (f : X → List Y) (xs : List X) (i : ℕ) (d : X) → i < length xs → flat_map f (drop i xs) ≡ f (get_or xs i d) ++ flat_map f (drop (i + 1) xs)
-pieces_at f xs i d h = let ahead : drop i xs ≡ get_or xs i d ∷ drop (i + 1) xs = rw add-one (drop-cons xs i d h) in ap (flat_map f) ahead
-
-pub numbered_from : {X Y : Type 0} (f : ℕ × X → List Y) (xs : List X) (i : ℕ) (x : X) → i < length xs → x ≡ get_or xs i x → flat_map f (enumerate_from i (drop i xs)) ≡ f (i, x) ++ flat_map f (enumerate_from (i + 1) (drop (i + 1) xs))
-numbered_from f xs i x h is = let ahead : drop i xs ≡ x ∷ drop (i + 1) xs = rw add-one (drop-cons xs i x h ∙ ap (λ y. y ∷ drop (suc i) xs) (sym is)) in ap (λ ys. flat_map f (enumerate_from i ys)) ahead
-
-pub no_pieces : {X Y : Type 0} (f : X → List Y) (xs : List X) (i : ℕ) → length xs ≡ i → flat_map f (drop i xs) ≡ []
-no_pieces f xs i e = let none : drop i xs ≡ [] = drop_all i xs (omega arith) in ap (flat_map f) none
-
-pub none_numbered : {X Y : Type 0} (f : ℕ × X → List Y) (xs : List X) (i : ℕ) → length xs ≡ i → flat_map f (enumerate_from i (drop i xs)) ≡ []
-none_numbered f xs i e = let none : drop i xs ≡ [] = drop_all i xs (omega arith) in ap (λ ys. flat_map f (enumerate_from i ys)) none
-
--- an element that was read
-pub slice_get_read : {X : Type 0} (xs : List X) (i : ℕ) (x : X) → i < length xs → x ≡ get_or xs i x → slice_get xs i ≡ Some x
-slice_get_read [] i x h is = absurd (omega arith)
-slice_get_read (y ∷ xs) zero x h is = ap Some (sym is)
-slice_get_read (y ∷ xs) (suc i) x h is = slice_get_read xs i x (omega arith) is

@@ -1,54 +1,105 @@
--- A script is served by the floor machine, with one session and no declared relation. (this project's profile)
-use Rattle.std.specs.Prelude.{ℕ, List, [], Option, Some, None}
-use Rattle.cq_text.specs.declared.command.CommandKind.TheVariants.{Blank, Relation, Limits, Post, Withdraw, Insert, Delete, Publish, Show}
-use Rattle.cq_text.specs.Grammar.{CommandContent}
+-- A script is served by its setup first, and from then on by the floor machine with one session. (this project's profile)
+use Rattle.std.specs.Prelude.{ℕ, List, [], ◌∷◌, ◌++◌, Option, Some, None}
+use Rattle.cq_rel.specs.declared.fault.CatalogFault.{CatalogFault}
+use Rattle.cq_rel.specs.Tables.{Declaration, declaration, declare_fault}
+use Rattle.cq_text.specs.declared.command.CommandKind.TheVariants as commands
+use Rattle.cq_board.specs.declared.limits.Limits.{Limits}
 use Rattle.cq_board.specs.declared.edit.EditKind.TheVariants as edits
+use Rattle.cq_board.specs.Pool.{opening_pool}
 use Rattle.cq_board.specs.Edits.{Edit}
 use Rattle.cq_desk.specs.declared.event.Event.{Event}
 use Rattle.cq_desk.specs.declared.event.Event.TheVariants as events
 use Rattle.cq_desk.specs.Floor.{Setting, FloorRecord, opening_floor, published_pool, floor_after, answer_to}
 use Rattle.cq_report.specs.declared.limits.TheConstants.{POOL_LIMIT, JOURNAL_LIMIT}
+use Rattle.cq_report.specs.declared.stage.Stage.{Stage}
+use Rattle.cq_report.specs.declared.stage.Stage.TheVariants.{Setup, Serving}
 use Rattle.cq_report.specs.Reading.{Reading, Reads, Faulty}
-use Rattle.cq_report.specs.Reply.{fault_line, reply_lines}
+use Rattle.cq_report.specs.Reply.{fault_line, ok_line, late_line, catalog_line, reply_lines}
 
--- The pool is empty at first, under the limits of a script that names none.
-abbrev pub setting : Setting
-setting = record { opening = record { limit = POOL_LIMIT; pending = [] }; most_entries = JOURNAL_LIMIT; sessions = 1 }
+-- The relations that were declared so far, and the latest limits.
+pub record SetupRecord : Type 0 where
+  pub catalog : List Declaration
+  pub limits : Limits
 
--- The journal and the published count.
+-- The floor machine at work: what never changes of it, and what it has come to.
+pub record ServingRecord : Type 0 where
+  pub setting : Setting
+  pub floor : FloorRecord
+
+-- A script is in its setup, or the floor serves it.
 abbrev pub State : Type 0
-State = FloorRecord
+State = Stage SetupRecord ServingRecord
+
+-- At first nothing is declared, and the limits are those of a script that names none.
+abbrev pub begin_setup : SetupRecord
+begin_setup = record { catalog = []; limits = record { pool = POOL_LIMIT; journal = JOURNAL_LIMIT } }
 
 abbrev pub begin_state : State
-begin_state = opening_floor
+begin_state = Setup begin_setup
 
--- The event that a command is, by the one session. A blank line is none; the others that are none are not served yet.
-abbrev pub event_of : CommandContent → Option (Event Edit)
-event_of Blank = None
-event_of (Relation name arity) = None
-event_of (Limits pool journal) = None
-event_of (Post name query) = Some (events.Enter 0 (edits.Post name query))
-event_of (Withdraw name) = None
-event_of (Insert row) = None
-event_of (Delete row) = None
-event_of Publish = Some events.Publish
-event_of Show = Some (events.Look 0)
+-- ---- the setup
 
-abbrev pub state_with : State → Option (Event Edit) → State
-state_with state None = state
-state_with state (Some event) = floor_after setting state event
+-- A relation is declared behind the others, or it is told why not.
+abbrev pub declared : Option CatalogFault → SetupRecord → Declaration → State × List ℕ
+declared None setup relation = (Setup (record setup { catalog = setup.catalog ++ (relation ∷ []) }), ok_line)
+declared (Some fault) setup relation = (Setup setup, catalog_line fault)
 
--- What is replied to an event: the pool that is shown is the published one.
-abbrev pub reply_with : State → Option (Event Edit) → List ℕ
-reply_with state None = []
-reply_with state (Some event) = reply_lines (published_pool setting state) (answer_to setting state event)
+-- A line that declares a relation: behind the setup it is too late.
+abbrev pub declare : State → List ℕ → ℕ → State × List ℕ
+declare (Setup setup) name arity = declared (declare_fault setup.catalog name arity) setup (declaration name arity)
+declare (Serving serving) name arity = (Serving serving, late_line)
+
+-- A line of limits: the latest count, and behind the setup it is too late.
+abbrev pub limit : State → Limits → State × List ℕ
+limit (Setup setup) limits = (Setup (record setup { limits = limits }), ok_line)
+limit (Serving serving) limits = (Serving serving, late_line)
+
+-- ---- the floor
+
+-- What a setup opens: a floor over its relations and under its limits, without rows, queries and entries.
+abbrev pub opened : SetupRecord → ServingRecord
+opened setup = record {
+  setting = record { opening = opening_pool setup.catalog setup.limits; most_entries = setup.limits.journal; sessions = 1 };
+  floor = opening_floor;
+}
+
+-- The floor to which an event comes: where the setup lasts, the event ends it.
+abbrev pub serving_of : State → ServingRecord
+serving_of (Setup setup) = opened setup
+serving_of (Serving serving) = serving
+
+-- The floor behind an event.
+abbrev pub after : ServingRecord → Event Edit → ServingRecord
+after serving event = record serving { floor = floor_after serving.setting serving.floor event }
+
+-- The reply to an event: what is shown is the pool that is published then.
+abbrev pub told : ServingRecord → Event Edit → List ℕ
+told serving event =
+    reply_lines (published_pool serving.setting (after serving event).floor) (answer_to serving.setting serving.floor event)
+
+-- An event of the one session, whose number is 0.
+abbrev pub happen : State → Event Edit → State × List ℕ
+happen state event = (Serving (after (serving_of state) event), told (serving_of state) event)
+
+-- ---- lines
+
+-- The state behind a line, and the reply to it. A blank line and a fault of text change nothing.
+abbrev pub serve : State → Reading → State × List ℕ
+serve state (Reads commands.Blank) = (state, [])
+serve state (Reads (commands.Relation name arity)) = declare state name arity
+serve state (Reads (commands.Limits pool journal)) = limit state (record { pool = pool; journal = journal })
+serve state (Reads (commands.Post name query)) = happen state (events.Enter 0 (edits.Post name query))
+serve state (Reads (commands.Withdraw name)) = happen state (events.Enter 0 (edits.Withdraw name))
+serve state (Reads (commands.Insert row)) = happen state (events.Enter 0 (edits.Insert row))
+serve state (Reads (commands.Delete row)) = happen state (events.Enter 0 (edits.Delete row))
+serve state (Reads commands.Publish) = happen state events.Publish
+serve state (Reads commands.Show) = happen state (events.Look 0)
+serve state (Faulty kind offset) = (state, fault_line kind offset)
 
 -- The state behind a line.
 abbrev pub next : State → Reading → State
-next state (Reads command) = state_with state (event_of command)
-next state (Faulty kind offset) = state
+next state reading = (serve state reading).0
 
 -- The reply to a line.
 abbrev pub reply : State → Reading → List ℕ
-reply state (Reads command) = reply_with state (event_of command)
-reply state (Faulty kind offset) = fault_line kind offset
+reply state reading = (serve state reading).1

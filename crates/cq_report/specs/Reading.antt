@@ -1,7 +1,7 @@
 -- What a line of a script is read as. (this project's profile)
 use Rattle.std.specs.Prelude.{ℕ, List}
 use Rattle.cq_text.specs.declared.fault.Kind.{Kind}
-use Rattle.cq_text.specs.Grammar.{CommandContent, StandsFor, IsServed}
+use Rattle.cq_text.specs.Grammar.{CommandContent, StandsFor}
 use Rattle.cq_text.specs.Fault.{FirstFault}
 
 -- A command, or the first fault of a line that is none.
@@ -11,5 +11,5 @@ pub data Reading : Type 0 where
 
 -- The line stands for the command, or has the fault.
 abbrev pub IsReading : List ℕ → Reading → Type 0
-IsReading line (Reads command) = StandsFor line command × IsServed command
+IsReading line (Reads command) = StandsFor line command
 IsReading line (Faulty kind offset) = FirstFault line kind offset

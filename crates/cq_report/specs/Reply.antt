@@ -1,9 +1,13 @@
 -- The reply to a line: whole lines, or nothing. (this project's profile)
 use Rattle.std.specs.Prelude.{ℕ, List, ◌++◌, codes, decimal, Result, Ok, Err}
+use Rattle.cq_atom.specs.declared.fault.Part.{Part}
+use Rattle.cq_atom.specs.declared.fault.Part.TheVariants.{Posts, Heads, Body}
+use Rattle.cq_rel.specs.declared.fault.CatalogFault.{CatalogFault}
+use Rattle.cq_rel.specs.declared.fault.CatalogFault.TheVariants.{BadName, BadArity, Declared, CatalogFull, NoMemory}
 use Rattle.cq_text.specs.declared.fault.Kind.{Kind}
 use Rattle.cq_text.specs.declared.fault.Kind.TheVariants as kinds
 use Rattle.cq_board.specs.declared.edit.Why.{Why}
-use Rattle.cq_board.specs.declared.edit.Why.TheVariants.{PoolFull, NameTaken}
+use Rattle.cq_board.specs.declared.edit.Why.TheVariants.{PoolFull, NameTaken, NotAnswer, UnknownRelation, Arity, NoSuchName, RowPresent, RowAbsent}
 use Rattle.cq_board.specs.Pool.{PoolRecord}
 use Rattle.cq_desk.specs.declared.event.Answer.{Answer}
 use Rattle.cq_desk.specs.declared.event.Answer.TheVariants.{Entered, Published, Looked}
@@ -23,14 +27,53 @@ kind_word kinds.Unbound = codes "Unbound"
 abbrev pub fault_line : Kind → ℕ → List ℕ
 fault_line kind offset = line (codes "refused " ++ kind_word kind ++ codes " at " ++ decimal offset)
 
-abbrev pub refusal_word : StepFault Why → List ℕ
-refusal_word NoSession = codes "NoSession"
-refusal_word JournalFull = codes "JournalFull"
-refusal_word (Not PoolFull) = codes "PoolFull"
-refusal_word (Not NameTaken) = codes "NameTaken"
+-- A refusal in words.
+abbrev pub refused_line : List ℕ → List ℕ
+refused_line words = line (codes "refused " ++ words)
 
+-- What is accepted before the floor serves.
+abbrev pub ok_line : List ℕ
+ok_line = line (codes "ok")
+
+-- A line of the setup that comes behind it.
+abbrev pub late_line : List ℕ
+late_line = refused_line (codes "Late")
+
+abbrev pub catalog_word : CatalogFault → List ℕ
+catalog_word BadName = codes "BadName"
+catalog_word BadArity = codes "BadArity"
+catalog_word Declared = codes "Declared"
+catalog_word CatalogFull = codes "CatalogFull"
+catalog_word NoMemory = codes "NoMemory"
+
+-- Why a relation is not declared.
+abbrev pub catalog_line : CatalogFault → List ℕ
+catalog_line fault = refused_line (catalog_word fault)
+
+abbrev pub part_word : Part → List ℕ
+part_word Posts = codes "posts"
+part_word Heads = codes "heads"
+part_word Body = codes "body"
+
+-- Why the pool refuses an edit; an atom is told by its place.
+abbrev pub why_words : Why → List ℕ
+why_words PoolFull = codes "PoolFull"
+why_words NameTaken = codes "NameTaken"
+why_words (NotAnswer part place) = codes "NotAnswer " ++ part_word part ++ codes " " ++ decimal place
+why_words (UnknownRelation place) = codes "UnknownRelation " ++ decimal place
+why_words (Arity place) = codes "Arity " ++ decimal place
+why_words NoSuchName = codes "NoSuchName"
+why_words RowPresent = codes "RowPresent"
+why_words RowAbsent = codes "RowAbsent"
+
+abbrev pub refusal_words : StepFault Why → List ℕ
+refusal_words NoSession = codes "NoSession"
+refusal_words JournalFull = codes "JournalFull"
+refusal_words (Not reason) = why_words reason
+
+-- Why an event is refused.
 abbrev pub refusal_line : StepFault Why → List ℕ
-refusal_line fault = line (codes "refused " ++ refusal_word fault)
+refusal_line fault = refused_line (refusal_words fault)
 
 abbrev pub entered_line : ℕ → List ℕ
 entered_line n = line (codes "ok " ++ decimal n)
@@ -46,7 +89,7 @@ end_line = line (codes "end")
 
 -- What a look shows: the count, the report on the pool, and an end.
 abbrev pub show_block : ℕ → PoolRecord → List ℕ
-show_block count pool = show_line count ++ report pool.pending ++ end_line
+show_block count pool = show_line count ++ report pool ++ end_line
 
 -- An answer in words; a look also shows its pool.
 abbrev pub answer_lines : PoolRecord → Answer → List ℕ

@@ -1,6 +1,9 @@
 -- Definitions that only private steps are stated with.
 pub mod Put
-pub mod Pools
+pub mod Left
+pub mod Writing
+pub mod Laws
+pub mod Floor
 pub mod Kept
 pub mod Serving
 pub mod Replay

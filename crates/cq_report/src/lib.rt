@@ -2,7 +2,8 @@
 //!
 //! The room above uses `run`: what it writes is `specs/Output` of what it reads. `specs/Lines` cuts
 //! a script into lines, `specs/Reading` says what a line is read as, `specs/Machine` what it does and
-//! is answered with, and `specs/Reply` and `specs/Report` how that reads.
+//! is answered with, and `specs/Reply` and `specs/Report` how that reads. `report` gives the report on
+//! one board as a text, by the same lines.
 //!
 //! Not here: which texts stand for what, and what a post does to a pool; a program's arguments, its
 //! exit status and its messages.
@@ -12,15 +13,22 @@ mod fault;
 mod limits;
 mod line;
 mod output;
+mod page;
 mod reply;
-mod report;
+mod reporting;
+#[cfg(test)]
+mod reports;
 mod running;
 #[cfg(test)]
 mod scripts;
 mod service;
+mod serving;
+mod setup;
+mod stage;
 #[cfg(test)]
 mod tests;
 
 pub use fault::RunFault;
 pub use limits::{JOURNAL_LIMIT, POOL_LIMIT};
+pub use reporting::report;
 pub use running::run;

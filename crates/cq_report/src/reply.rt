@@ -1,10 +1,12 @@
 //! Reply lines.
 
-ghost use Rattle.std.specs.Prelude.{◌≡◌, IfOk, string_bytes};
-ghost use Rattle.cq_report.specs.Reply.{kind_word, fault_line, refusal_word, refusal_line, entered_line, published_line, show_line};
+ghost use Rattle.std.specs.Prelude.{◌≡◌, ◌++◌, codes, decimal, IfOk, string_bytes};
+ghost use Rattle.cq_report.specs.Reply.{kind_word, fault_line, refused_line, catalog_word, catalog_line, part_word, why_words, refusal_line, entered_line, published_line, show_line};
 
+use cq_atom::Part;
 use cq_board::Why;
 use cq_desk::StepFault;
+use cq_rel::CatalogFault;
 use cq_text::Kind;
 use std::alloc::{AllocError, Allocator};
 
@@ -33,26 +35,80 @@ pub(crate) fn fault_line<A: Allocator>(
     format!(in alloc; "refused {word} at {offset}\n")
 }
 
-fn refusal_word(fault: StepFault<Why>) -> &'static str
-    ensures { result.now ≡ refusal_word fault }
+/// A refusal of one word.
+fn word_line<A: Allocator>(alloc: A, word: &str) -> Result<String<A>, AllocError>
+    ensures { IfOk result (λ text. string_bytes text ≡ refused_line word.now) }
+{
+    format!(in alloc; "refused {word}\n")
+}
+
+/// A refusal that tells a place.
+fn place_line<A: Allocator>(alloc: A, words: &str, place: usize) -> Result<String<A>, AllocError>
+    ensures { IfOk result (λ text. string_bytes text ≡ refused_line (words.now ++ codes " " ++ decimal place)) }
+{
+    format!(in alloc; "refused {words} {place}\n")
+}
+
+fn catalog_word(fault: CatalogFault) -> &'static str
+    ensures { result.now ≡ catalog_word fault }
 {
     match fault {
-        StepFault::NoSession => "NoSession",
-        StepFault::JournalFull => "JournalFull",
-        StepFault::Not(Why::PoolFull) => "PoolFull",
-        StepFault::Not(Why::NameTaken) => "NameTaken",
+        CatalogFault::BadName => "BadName",
+        CatalogFault::BadArity => "BadArity",
+        CatalogFault::Declared => "Declared",
+        CatalogFault::CatalogFull => "CatalogFull",
+        CatalogFault::NoMemory => "NoMemory",
     }
 }
 
-/// The reply to a refused command.
+/// The reply to a relation that is not declared.
+pub(crate) fn catalog_line<A: Allocator>(
+    alloc: A,
+    fault: CatalogFault,
+) -> Result<String<A>, AllocError>
+    ensures { IfOk result (λ text. string_bytes text ≡ catalog_line fault) }
+{
+    word_line(alloc, catalog_word(fault))
+}
+
+fn answer_words(part: Part) -> &'static str
+    ensures { result.now ≡ codes "NotAnswer " ++ part_word part }
+{
+    match part {
+        Part::Posts => "NotAnswer posts",
+        Part::Heads => "NotAnswer heads",
+        Part::Body => "NotAnswer body",
+    }
+}
+
+/// The reply to an edit that the pool refuses.
+fn why_line<A: Allocator>(alloc: A, reason: Why) -> Result<String<A>, AllocError>
+    ensures { IfOk result (λ text. string_bytes text ≡ refused_line (why_words reason)) }
+{
+    match reason {
+        Why::PoolFull => word_line(alloc, "PoolFull"),
+        Why::NameTaken => word_line(alloc, "NameTaken"),
+        Why::NotAnswer { part, place } => place_line(alloc, answer_words(part), place),
+        Why::UnknownRelation { place } => place_line(alloc, "UnknownRelation", place),
+        Why::Arity { place } => place_line(alloc, "Arity", place),
+        Why::NoSuchName => word_line(alloc, "NoSuchName"),
+        Why::RowPresent => word_line(alloc, "RowPresent"),
+        Why::RowAbsent => word_line(alloc, "RowAbsent"),
+    }
+}
+
+/// The reply to an event that is refused.
 pub(crate) fn refusal_line<A: Allocator>(
     alloc: A,
     fault: StepFault<Why>,
 ) -> Result<String<A>, AllocError>
     ensures { IfOk result (λ text. string_bytes text ≡ refusal_line fault) }
 {
-    let word = refusal_word(fault);
-    format!(in alloc; "refused {word}\n")
+    match fault {
+        StepFault::NoSession => word_line(alloc, "NoSession"),
+        StepFault::JournalFull => word_line(alloc, "JournalFull"),
+        StepFault::Not(reason) => why_line(alloc, reason),
+    }
 }
 
 /// The reply to an accepted edit.

@@ -1,8 +1,8 @@
 //! Whole scripts, and what is written for them.
 
-use crate::{POOL_LIMIT, run};
+use crate::run;
 use cq_text::Counted;
-use std::alloc::{AllocError, Global};
+use std::alloc::Global;
 use std::test::Fail;
 
 /// What is written for the script.
@@ -24,14 +24,18 @@ show
 ok 2
 published 2
 show 2
-query kramer
+query kramer matched
   text {R(\"Jerry\", 122)} R(\"Kramer\", 122) <-
   post 0 providers 1
     jerry head 0
-query jerry
+  groundings 1 ()
+    ()
+query jerry matched
   text {R(\"Kramer\", 122)} R(\"Jerry\", 122) <-
   post 0 providers 1
     kramer head 0
+  groundings 1 ()
+    ()
 end
 ";
     assert_eq!(rt; written(rt.alloc(), script)?.as_slice(), wanted.as_slice());
@@ -45,8 +49,8 @@ insert T(1)
 post a {} R(1) <-
 post a {} R(1) <-
 ";
-    let wanted = b"refused Shape at 18
-refused Shape at 0
+    let wanted = b"refused UnknownRelation 0
+refused UnknownRelation 0
 ok 1
 refused NameTaken
 ";
@@ -67,16 +71,22 @@ ok 2
 ok 3
 published 3
 show 3
-query w
+query w matched
   text {R(1)} Q(1) <-
   post 0 providers 2 crowded
     h1 head 0
     h2 head 0
-query h1
+  groundings 1 ()
+    ()
+query h1 matched
   text {} R(1) <-
-query h2
+  groundings 1 ()
+    ()
+query h2 waiting
   text {Z(1)} R(1) <-
   post 0 providers 0
+  groundings 1 ()
+    ()
 end
 ";
     assert_eq!(rt; written(rt.alloc(), script)?.as_slice(), wanted.as_slice());
@@ -92,12 +102,14 @@ show
     let wanted = b"ok 1
 published 1
 show 1
-query s
+query s waiting
   text {S(1), R(1)} R(2), R(1), R(1) <-
   post 0 providers 0
   post 1 providers 2 crowded
     s head 1
     s head 2
+  groundings 1 ()
+    ()
 end
 ";
     assert_eq!(rt; written(rt.alloc(), script)?.as_slice(), wanted.as_slice());
@@ -122,30 +134,39 @@ end
 published 1
 ok 2
 show 1
-query a
+query a matched
   text {} R(1) <-
+  groundings 1 ()
+    ()
 end
 ";
     assert_eq!(rt; written(rt.alloc(), script)?.as_slice(), wanted.as_slice());
     Ok(())
 }
 
-/// Posts queries until the pool is full, and then a name that is taken.
-fn posts_past_the_pool(alloc: Global) -> Result<String, AllocError> {
-    let mut script = String::new(alloc);
-    for place in 0..POOL_LIMIT {
-        let line = format!(in alloc; "post q{place} {{}} R({place}) <-\n")?;
-        script.push_str(line.as_str())?;
-    }
-    script.push_str("post q0 {} R(1) <-\npublish\n")?;
-    Ok(script)
-}
-
 #[test]
 fn limits(rt: HostRuntime) -> Result<(), Fail> {
-    let script = posts_past_the_pool(rt.alloc())?;
-    let replies = written(rt.alloc(), script.as_bytes())?;
-    let wanted = b"ok 1000\nrefused PoolFull\npublished 1000\n";
-    assert!(rt; replies.as_slice().ends_with(wanted.as_slice()));
+    let script = b"limits 10 2
+post a {} R(1) <-
+post b {} R(2) <-
+post a {} R(3) <-
+publish
+";
+    let wanted = b"ok
+ok 1
+ok 2
+refused JournalFull
+published 2
+";
+    assert_eq!(rt; written(rt.alloc(), script)?.as_slice(), wanted.as_slice());
+    let script = b"limits 1 9
+post a {} R(1) <-
+post a {} R(1) <-
+";
+    let wanted = b"ok
+ok 1
+refused PoolFull
+";
+    assert_eq!(rt; written(rt.alloc(), script)?.as_slice(), wanted.as_slice());
     Ok(())
 }

@@ -1,57 +1,41 @@
 //! What serves a script, line by line.
 
-ghost use Rattle.std.specs.Prelude.{◌≡◌, ◌<◌, ◌^◌, ℕ, List, [], length, Option, Some, None, OnOk, OnErr, IfOk, IfErr};
-ghost use Rattle.cq_atom.specs.Query.{QueryRecord};
-ghost use Rattle.cq_board.specs.declared.edit.EditKind.{EditKind};
-ghost use Rattle.cq_board.specs.Pool.{PendingQuery};
-ghost use Rattle.cq_board.specs.Edits.{Edit, is_taken};
+ghost use Rattle.std.specs.Prelude.{◌≡◌, ◌<◌, ◌^◌, OnOk, IfErr};
 ghost use Rattle.cq_desk.specs.declared.event.Event.{Event};
-ghost use Rattle.cq_desk.specs.Floor.{FloorRecord, refusal, floor_with, published_pool};
-ghost use Rattle.cq_report.specs.Reading.{Reading, IsReading};
-ghost use Rattle.cq_report.specs.Reply.{show_block};
-ghost use Rattle.cq_report.specs.Machine.{setting, begin_state, event_of, state_with, reply_with, next, reply};
+ghost use Rattle.cq_board.specs.Edits.{Edit};
+ghost use Rattle.cq_report.specs.Reading.{Reading, Reads, IsReading};
+ghost use Rattle.cq_report.specs.Machine.{begin_state, declare, limit, happen, next, reply};
 ghost use Rattle.cq_report.specs.Written.{Puts, Breaks, Fails};
 ghost use Rattle.cq_report.specs.Steps.Put.{Put};
 
 use crate::fault::RunFault;
-use crate::limits::{JOURNAL_LIMIT, POOL_LIMIT};
 use crate::output::Output;
-use crate::reply::{entered_line, fault_line, published_line, refusal_line, show_line};
-use crate::report::{Posted, put_line, put_report};
-use cq_atom::{Name, Query};
-use cq_board::{Pending, Why};
-use cq_desk::StepFault;
+use crate::reply::{catalog_line, fault_line};
+use crate::reporting::put_line;
+use crate::serving::Serving;
+use crate::setup::Setup;
+use crate::stage::Stage;
+use cq_board::{Edit, EditKind, Limits};
+use cq_desk::Event;
+use cq_rel::CatalogFault;
 use cq_text::{Command, CommandKind, Sink, TextFault, read_command};
-use std::alloc::{AllocError, Allocator};
+use std::alloc::Allocator;
 use std::marker::Model;
+use std::mem;
 
-/// The pending queries, those of the last publish, and how many entries the journal has and how many
-/// of these are published. Contracts see the floor machine's state.
+/// What serves the next line. Contracts see the machine's state.
 #[derive(Drop)]
 pub(crate) struct Service<A: Allocator> {
     alloc: A,
-    pending: Vec<Posted<A>, A>,
-    published: Vec<Posted<A>, A>,
-    entries: u64,
-    published_count: u64,
+    stage: Stage<Setup<A>, Serving<A>>,
 }
 
 impl<A: Allocator> Model for Service<A> {
     ghost use Rattle.cq_report.specs.Machine.{State};
-    ghost use Rattle.cq_report.specs.Steps.Pools.{journal_of, Keeps};
 
     ghost Value = { State };
 
-    ghost view = { λ s. record { journal = journal_of s.pending.items; published = s.published_count } };
-
-    ghost invariant = { λ s. Keeps s.pending.items s.published.items s.entries s.published_count };
-}
-
-/// Whether a query of that name is pending.
-fn is_taken<A: Allocator>(name: &str, pending: &[Posted<A>]) -> bool
-    ensures { result ≡ is_taken name.now pending.now }
-{
-    pending.iter().any(|posted| name == posted.name.as_str())
+    ghost view = { λ s. s.stage };
 }
 
 impl<A: Allocator + Copy> Service<A> {
@@ -61,77 +45,84 @@ impl<A: Allocator + Copy> Service<A> {
     {
         Service {
             alloc,
-            pending: Vec::new(alloc),
-            published: Vec::new(alloc),
-            entries: 0,
-            published_count: 0,
+            stage: Stage::Setup(Setup::begin(alloc)),
         }
     }
 
-    /// Why a post under the name is refused.
-    fn refusal(&self, name: &str) -> Option<StepFault<Why>>
-        ensures { (query : QueryRecord) → result ≡ refusal setting self.now (Event.Enter 0 (EditKind.Post name.now query)) }
-    {
-        if self.entries >= JOURNAL_LIMIT as u64 {
-            return Some(StepFault::JournalFull);
-        }
-        if self.pending.len() >= POOL_LIMIT {
-            return Some(StepFault::Not(Why::PoolFull));
-        }
-        if is_taken(name, &self.pending) {
-            return Some(StepFault::Not(Why::NameTaken));
-        }
-        None
-    }
-
-    /// Makes the query pending, and counts the entry. It answers the entry's number.
-    fn enter(&mut self, name: Name<A>, query: Query<A>) -> Result<u64, AllocError>
-        requires { refusal setting self.old (Event.Enter 0 (EditKind.Post name query)) ≡ None }
-        ensures entered { OnOk result (self.new ≡ floor_with self.old (Event.Enter 0 (EditKind.Post name query))) }
-        ensures number { IfOk result (λ entry. entry ≡ length self.new.journal) }
-        ensures err { OnErr result (self.new ≡ self.old) }
-    {
-        self.pending.push(Pending { name, query })?;
-        self.entries += 1;
-        Ok(self.entries)
-    }
-
-    /// Answers a post. A refused one changes nothing.
-    fn post<W: Sink>(
+    /// Answers a line that declares a relation.
+    fn declare<W: Sink>(
         &mut self,
-        name: Name<A>,
-        query: Query<A>,
+        name: &str,
+        arity: usize,
         output: &mut Output<'_, W, A>,
     ) -> Result<(), RunFault>
         requires { W.write_failures output.old.sink.now < 2 ^ 62 }
-        ensures state { OnOk result (self.new ≡ state_with self.old (Some (Event.Enter 0 (EditKind.Post name query)))) }
-        ensures put { Put W.taken W.write_failures output.old output.new (reply_with self.old (Some (Event.Enter 0 (EditKind.Post name query)))) result }
+        ensures state { OnOk result (self.new ≡ (declare self.old name.now arity).0) }
+        ensures put { Put W.taken W.write_failures output.old output.new (declare self.old name.now arity).1 result }
     {
-        if let Some(fault) = self.refusal(name.as_str()) {
-            return put_line(refusal_line(self.alloc, fault), output);
+        let declared = match &mut self.stage {
+            Stage::Setup(setup) => setup.declare(name, arity),
+            Stage::Serving(_) => return output.put(b"refused Late\n"),
+        };
+        let Err(fault) = declared else {
+            return output.put(b"ok\n");
+        };
+        match fault {
+            CatalogFault::NoMemory => Err(RunFault::NoMemory),
+            _ => put_line(catalog_line(self.alloc, fault), output),
         }
-        let entry = self.enter(name, query)?;
-        put_line(entered_line(self.alloc, entry), output)
     }
 
-    /// Publishes all entries: what is pending is copied first, so that nothing changes without memory.
-    fn publish(&mut self) -> Result<(), AllocError>
-        ensures ok { OnOk result (self.new ≡ floor_with self.old Event.Publish) }
-        ensures err { OnErr result (self.new ≡ self.old) }
-    {
-        self.published = self.pending.clone()?;
-        self.published_count = self.entries;
-        Ok(())
-    }
-
-    /// Puts what a look shows.
-    fn show<W: Sink>(&self, output: &mut Output<'_, W, A>) -> Result<(), RunFault>
+    /// Answers a line of limits.
+    fn limit<W: Sink>(
+        &mut self,
+        limits: Limits,
+        output: &mut Output<'_, W, A>,
+    ) -> Result<(), RunFault>
         requires { W.write_failures output.old.sink.now < 2 ^ 62 }
-        ensures { Put W.taken W.write_failures output.old output.new (show_block self.now.published (published_pool setting self.now)) result }
+        ensures state { OnOk result (self.new ≡ (limit self.old limits).0) }
+        ensures put { Put W.taken W.write_failures output.old output.new (limit self.old limits).1 result }
     {
-        put_line(show_line(self.alloc, self.published_count), output)?;
-        put_report(self.alloc, &self.published, output)?;
-        output.put(b"end\n")
+        match &mut self.stage {
+            Stage::Setup(setup) => setup.limit(limits),
+            Stage::Serving(_) => return output.put(b"refused Late\n"),
+        }
+        output.put(b"ok\n")
+    }
+
+    /// Answers an event. Where the setup lasts, it ends.
+    fn happen<W: Sink>(
+        &mut self,
+        event: Event<Edit<A>>,
+        output: &mut Output<'_, W, A>,
+    ) -> Result<(), RunFault>
+        requires { W.write_failures output.old.sink.now < 2 ^ 62 }
+        ensures state { OnOk result (self.new ≡ (happen self.old event).0) }
+        ensures put { Put W.taken W.write_failures output.old output.new (happen self.old event).1 result }
+    {
+        match &mut self.stage {
+            Stage::Setup(setup) => {
+                let setup = mem::replace(setup, Setup::begin(self.alloc));
+                let mut serving = Serving::open(self.alloc, setup)?;
+                serving.answer(event, output)?;
+                self.stage = Stage::Serving(serving);
+                Ok(())
+            }
+            Stage::Serving(serving) => serving.answer(event, output),
+        }
+    }
+
+    /// Answers an edit.
+    fn enter<W: Sink>(
+        &mut self,
+        edit: Edit<A>,
+        output: &mut Output<'_, W, A>,
+    ) -> Result<(), RunFault>
+        requires { W.write_failures output.old.sink.now < 2 ^ 62 }
+        ensures state { OnOk result (self.new ≡ (happen self.old (Event.Enter 0 edit)).0) }
+        ensures put { Put W.taken W.write_failures output.old output.new (happen self.old (Event.Enter 0 edit)).1 result }
+    {
+        self.happen(Event::Enter { author: 0, edit }, output)
     }
 
     /// Answers a command.
@@ -141,17 +132,19 @@ impl<A: Allocator + Copy> Service<A> {
         output: &mut Output<'_, W, A>,
     ) -> Result<(), RunFault>
         requires { W.write_failures output.old.sink.now < 2 ^ 62 }
-        ensures state { OnOk result (self.new ≡ state_with self.old (event_of command)) }
-        ensures put { Put W.taken W.write_failures output.old output.new (reply_with self.old (event_of command)) result }
+        ensures state { OnOk result (self.new ≡ next self.old (Reads command)) }
+        ensures put { Put W.taken W.write_failures output.old output.new (reply self.old (Reads command)) result }
     {
         match command {
-            CommandKind::Post { name, query } => self.post(name, query, output),
-            CommandKind::Publish => {
-                self.publish()?;
-                put_line(published_line(self.alloc, self.published_count), output)
-            }
-            CommandKind::Show => self.show(output),
-            _ => Ok(()),
+            CommandKind::Blank => Ok(()),
+            CommandKind::Relation { name, arity } => self.declare(name.as_str(), arity, output),
+            CommandKind::Limits { pool, journal } => self.limit(Limits { pool, journal }, output),
+            CommandKind::Post { name, query } => self.enter(EditKind::Post { name, query }, output),
+            CommandKind::Withdraw { name } => self.enter(EditKind::Withdraw { name }, output),
+            CommandKind::Insert { row } => self.enter(EditKind::Insert { row }, output),
+            CommandKind::Delete { row } => self.enter(EditKind::Delete { row }, output),
+            CommandKind::Publish => self.happen(Event::Publish, output),
+            CommandKind::Show => self.happen(Event::Look { session: 0 }, output),
         }
     }
 

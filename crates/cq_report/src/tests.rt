@@ -88,6 +88,81 @@ fn empty_input_and_failing_devices(rt: HostRuntime) -> Result<(), Fail> {
     Ok(())
 }
 
+/// Gives at most so many bytes at a read.
+#[derive(Drop)]
+struct Pieces<'a> {
+    rest: &'a [u8],
+    most: usize,
+}
+
+impl<'a> Read for Pieces<'a> {
+    fn read(&mut self, buf: &mut [u8]) -> io::Result<usize> {
+        let count = self.rest.len().min(buf.len()).min(self.most);
+        let (front, rest) = self.rest.split_at(count);
+        buf[..count].copy_from_slice(front);
+        self.rest = rest;
+        Ok(count)
+    }
+}
+
+const TRAVEL: &[u8] = b"relation Flights 2
+insert Flights(122, Paris)
+post kramer {R(Jerry, x)} R(Kramer, x) <- Flights(x, Paris)
+post jerry {R(Kramer, y)} R(Jerry, y) <- Flights(y, Paris)
+publish
+show
+";
+
+const ANSWERS: &[u8] = b"ok
+ok 1
+ok 2
+ok 3
+published 3
+show 3
+relation Flights 2 rows 1
+query kramer matched
+  text {R(\"Jerry\", x)} R(\"Kramer\", x) <- Flights(x, \"Paris\")
+  post 0 providers 1
+    jerry head 0
+  groundings 1 (x)
+    (122)
+query jerry matched
+  text {R(\"Kramer\", y)} R(\"Jerry\", y) <- Flights(y, \"Paris\")
+  post 0 providers 1
+    kramer head 0
+  groundings 1 (y)
+    (122)
+end
+";
+
+#[test]
+fn kramer_and_jerry(rt: HostRuntime) -> Result<(), Fail> {
+    let alloc = rt.alloc();
+    for most in [1usize, 2, 3, 4_096] {
+        let mut reader = Counted::new(Pieces { rest: TRAVEL, most });
+        let mut writer = Counted::new(Vec::new(alloc));
+        assert_eq!(rt; run(alloc, &mut reader, &mut writer), Ok(()));
+        assert_eq!(rt; writer.into_inner().as_slice(), ANSWERS);
+    }
+    Ok(())
+}
+
+#[test]
+fn a_line_at_its_limit(rt: HostRuntime) -> Result<(), Fail> {
+    let alloc = rt.alloc();
+    let mut script = Vec::new(alloc);
+    script.resize(131_072, b'x')?;
+    script.extend_from_slice(b"\n#")?;
+    script.resize(262_146, b'x')?;
+    script.extend_from_slice(b"\n")?;
+    let mut reader = Counted::new(script.as_slice());
+    let mut writer = Counted::new(Vec::new(alloc));
+    assert_eq!(rt; run(alloc, &mut reader, &mut writer), Ok(()));
+    let wanted = b"refused Shape at 0\nrefused Limit at 131072\n";
+    assert_eq!(rt; writer.into_inner().as_slice(), wanted.as_slice());
+    Ok(())
+}
+
 #[test]
 fn too_long_a_line_is_skipped(rt: HostRuntime) -> Result<(), Fail> {
     let alloc = rt.alloc();

@@ -1,7 +1,7 @@
 use Rattle.std.proofs.Common.{◌≡◌, ◌∷◌, ◌++◌, ◌∙◌, ◌+◌, ◌<◌, ap, ℕ, List, length, take, drop, get_or, sym, subst, take-append-drop, drop-cons, add-one}
 use Rattle.std.proofs.lemmas.Result.{err_from_is_err_and}
 use Rattle.cq_report.specs.Steps.Serving.{StopsOn}
-use Rattle.cq_report.proofs.Serving.{StopsOn-then}
+use Rattle.cq_report.proofs.Served.{StopsOn-then}
 use Rattle.cq_report.proofs.running.feed.Goals as goal
 
 whole_at : (i : ℕ) (l : List ℕ) → i < length l → take i l ++ (get_or l i 0 ∷ drop (i + 1) l) ≡ l

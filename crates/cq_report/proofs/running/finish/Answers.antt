@@ -1,6 +1,6 @@
 use Rattle.std.proofs.Common.{◌≡◌, arith, ◌<◌, length, append-nil}
 use Rattle.std.proofs.lemmas.Result.{err_from_is_err_and}
-use Rattle.cq_report.proofs.Serving.{Finished-whole, Finished-last, Finished-passed, Stopped-passing, Stopped-last, Stopped-finished}
+use Rattle.cq_report.proofs.Served.{Finished-whole, Finished-last, Finished-passed, Stopped-passing, Stopped-last, Stopped-finished}
 use Rattle.cq_report.proofs.running.finish.Goals as goal
 
 pub returns-in_err-finish-clause-err : goal.returns-in_err-finish-clause-err

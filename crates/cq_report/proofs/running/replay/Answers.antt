@@ -2,7 +2,7 @@ use Rattle.std.proofs.Common.{◌++◌, [], ◌∙◌, arith, take, refl}
 use Rattle.cq_report.proofs.Ending.{Consumes-none}
 use Rattle.std.proofs.KnownBytes.{Consumes-nil, Consumes-trans, Consumes-kept}
 use Rattle.std.proofs.lemmas.Result.{err_from_is_err_and}
-use Rattle.cq_report.proofs.Serving.{Served-nothing, Served-passed, Stopped-passing, Stopped-reading, IsSound-nothing, IsSound-then, IsSound-puts}
+use Rattle.cq_report.proofs.Served.{Served-nothing, Served-passed, Stopped-passing, Stopped-reading, IsSound-nothing, IsSound-then, IsSound-puts}
 use Rattle.cq_report.proofs.running.replay.Goals as goal
 
 pub loop-i-init : goal.loop-i-init

@@ -1,6 +1,6 @@
 use Rattle.std.proofs.Common.{◌≡◌, ◌==◌, ◌∷◌, arith, false}
 use Rattle.std.proofs.lemmas.Result.{err_from_is_err_and}
-use Rattle.cq_report.proofs.Serving.{Served-byte, Served-line, Stopped-line, Stopped-starved}
+use Rattle.cq_report.proofs.Served.{Served-byte, Served-line, Stopped-line, Stopped-starved}
 use Rattle.cq_report.proofs.running.serve_byte.Goals as goal
 
 pub returns-in_err-push-clause-err : goal.returns-in_err-push-clause-err

@@ -1,6 +1,6 @@
 use Rattle.std.proofs.Common.{◌+◌, ℕ, [], ◌∙◌, ap}
 use Rattle.std.proofs.lemmas.Result.{err_from_is_err_and}
-use Rattle.cq_report.proofs.Writing.{Breaks-more, Passes-behind, Passes-front}
+use Rattle.cq_report.specs.Steps.Writing.{Breaks-more, Passes-behind, Passes-front}
 use Rattle.cq_report.proofs.output.Output.put.Goals as goal
 
 pub returns-in_err-write_out-clause-err : goal.returns-in_err-write_out-clause-err

@@ -1,12 +1,11 @@
-use Rattle.std.proofs.Common.{refl}
-use Rattle.cq_report.proofs.Writing.{Puts-nothing}
-use Rattle.cq_report.proofs.Answering.{no_event}
+use Rattle.std.proofs.Common.{sym, subst}
+use Rattle.cq_text.specs.Grammar.{CommandContent}
+use Rattle.cq_report.specs.Reading.{Reads}
+use Rattle.cq_report.specs.Machine.{serve}
+use Rattle.cq_report.specs.Steps.Put.{Put}
 use Rattle.cq_report.proofs.service.Service.serve.Goals as goal
 
-pub returns : goal.returns
-returns g c =
-    let none = no_event c.args.command c.in_default.not-Post c.in_default.not-Publish c.in_default.not-Show in
-    record {
-      state = rw none refl;
-      put = rw none (Puts-nothing _ _ c.args.output.now);
-    }
+pub returns-in-Publish-clause-put : goal.returns-in-Publish-clause-put
+returns-in-Publish-clause-put g c =
+    subst (λ (command : CommandContent). Put g.W.Sink.taken g.W.Sink.write_failures c.args.output.now c.happen.new.output (serve c.args.self.now (Reads command)).1 c.happen.result)
+    (sym c.in-Publish.is) c.happen.ensures.put

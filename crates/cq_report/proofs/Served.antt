@@ -1,0 +1,307 @@
+-- Lines answered one after another.
+use Rattle.std.proofs.Common.{◌≡◌, ◌==◌, ℕ, ◌<◌, ◌+◌, List, [], ◌∷◌, ◌++◌, length, Option, refl, sym, ap, subst, ◌∙◌, false, append_assoc, append-nil, arith}
+use Rattle.std.proofs.lemmas.List.{nil_from_length}
+use Rattle.cq_report.specs.declared.output.Output.{Output}
+use Rattle.cq_report.specs.declared.fault.RunFault.{RunFault}
+use Rattle.cq_report.specs.declared.fault.RunFault.TheVariants as faults
+use Rattle.cq_report.specs.Lines.{lines_of}
+use Rattle.cq_report.specs.Reading.{Reading, IsReading}
+use Rattle.cq_report.specs.Machine.{State, next, reply}
+use Rattle.cq_report.specs.Output.{AreReadings, state_after, output_from}
+use Rattle.cq_report.specs.Written.{Puts, Breaks, Fails, IsOfRead, failures_of}
+use Rattle.cq_report.specs.Steps.Kept.{kept}
+use Rattle.cq_report.specs.Steps.Serving.{HaveNoEnd, ended, Answered, Served, Finished, Stopped, ServesOn, StopsOn, IsSound}
+use Rattle.cq_report.proofs.Cutting.{kept_nil, kept_again, kept_none, kept_some, lines_of_all_ended, lines_of_ended, lines_of_open, HasNoEnd-more, HaveNoEnd-more, ended-more}
+use Rattle.cq_report.proofs.Kept.{IsReading-kept, IsReading-whole}
+use Rattle.cq_report.specs.Steps.Writing.{Puts-nothing, Puts-then, Puts-breaks, Breaks-more, Puts-cut, Puts-starved}
+
+-- ---- readings of one list of lines behind another
+
+pub record Parted (lines more : List (List ℕ)) (rs : List Reading) : Type 0 where
+  pub front : List Reading
+  pub rest : List Reading
+  pub whole : rs ≡ front ++ rest
+  pub are : AreReadings lines front
+  pub follow : AreReadings more rest
+
+pub part : (lines more : List (List ℕ)) (rs : List Reading) → AreReadings (lines ++ more) rs → Parted lines more rs
+part [] more rs h = record { front = []; rest = rs; whole = refl; are = tt; follow = h }
+part (line ∷ lines) more [] h = absurd h
+part (line ∷ lines) more (r ∷ rs) h = let p = part lines more rs h.1 in record {
+  front = r ∷ p.front;
+  rest = p.rest;
+  whole = ap (λ (l : List Reading). r ∷ l) p.whole;
+  are = (h.0, p.are);
+  follow = p.follow;
+}
+
+pub join : (lines more : List (List ℕ)) (rs qs : List Reading) → AreReadings lines rs → AreReadings more qs → AreReadings (lines ++ more) (rs ++ qs)
+join [] more [] qs h k = k
+join [] more (r ∷ rs) qs h k = absurd h
+join (line ∷ lines) more [] qs h k = absurd h
+join (line ∷ lines) more (r ∷ rs) qs h k = (h.0, join lines more rs qs h.1 k)
+
+pub output_from-append : (state : State) (rs qs : List Reading) → output_from state (rs ++ qs) ≡ output_from state rs ++ output_from (state_after state rs) qs
+output_from-append state [] qs = refl
+output_from-append state (r ∷ rs) qs =
+    ap (λ (l : List ℕ). reply state r ++ l) (output_from-append (next state r) rs qs) ∙ sym (append_assoc (reply state r) (output_from (next state r) rs) (output_from (state_after (next state r) rs) qs))
+
+pub state_after-append : (state : State) (rs qs : List Reading) → state_after state (rs ++ qs) ≡ state_after (state_after state rs) qs
+state_after-append state [] qs = refl
+state_after-append state (r ∷ rs) qs = state_after-append (next state r) rs qs
+
+-- the readings of one line
+pub record First (line : List ℕ) (more : List (List ℕ)) (rs : List Reading) : Type 0 where
+  pub reading : Reading
+  pub rest : List Reading
+  pub whole : rs ≡ reading ∷ rest
+  pub is : IsReading line reading
+  pub follow : AreReadings more rest
+
+pub first_of_them : (line : List ℕ) (more : List (List ℕ)) (rs : List Reading) → AreReadings (line ∷ more) rs → First line more rs
+first_of_them line more [] h = absurd h
+first_of_them line more (r ∷ rs) h = record { reading = r; rest = rs; whole = refl; is = h.0; follow = h.1 }
+
+pub none_of_them : (rs : List Reading) → AreReadings [] rs → rs ≡ []
+none_of_them [] h = refl
+none_of_them (r ∷ rs) h = absurd h
+
+-- the replies to some lines, and to others
+output_from-split : (state : State) (rs front rest : List Reading) → rs ≡ front ++ rest → output_from state front ++ output_from (state_after state front) rest ≡ output_from state rs
+output_from-split state rs front rest e = rw e (sym (output_from-append state front rest))
+
+-- the replies to some lines, one more, and others
+output_from-parted : (state here : State) (rs front : List Reading) (r : Reading) (rest : List Reading) → rs ≡ front ++ (r ∷ rest) → here ≡ state_after state front
+    → (output_from state front ++ reply here r) ++ output_from (next here r) rest ≡ output_from state rs
+output_from-parted state here rs front r rest e h =
+    rw h (append_assoc (output_from state front) (reply (state_after state front) r) (output_from (next (state_after state front) r) rest)) ∙ output_from-split state rs front (r ∷ rest) e
+
+-- the state behind some lines and one more
+state_after-one : (state here : State) (rs front : List Reading) (r : Reading) → rs ≡ front ++ (r ∷ []) → here ≡ state_after state front → next here r ≡ state_after state rs
+state_after-one state here rs front r e h = rw (h, e) (sym (state_after-append state front (r ∷ [])))
+
+-- the lines of whole lines, and of what stands behind them
+lines_of_behind : (lines : List (List ℕ)) (pending bytes rest : List ℕ) → bytes ≡ ended lines ++ pending → HaveNoEnd lines → lines_of (bytes ++ rest) ≡ lines ++ lines_of (pending ++ rest)
+lines_of_behind lines pending bytes rest e h = rw (e, append_assoc (ended lines) pending rest) (lines_of_all_ended lines (pending ++ rest) h)
+
+module _ {W A : Type 0} (taken : W → Option (List ℕ)) (failures : W → ℕ) (first : Output W A) (opening : State) where
+  abbrev Put : Output W A → List ℕ → Type 0
+  Put now bytes = Puts taken failures first now bytes
+
+  answered_none : Answered taken failures first opening [] first opening
+  answered_none rs h = rw (none_of_them rs h) (refl, Puts-nothing taken failures first)
+
+  -- one more line was answered
+  answered_more : (lines : List (List ℕ)) (line : List ℕ) (now now' : Output W A) (state state' : State) → Answered taken failures first opening lines now state
+      → ((reading : Reading) → IsReading line reading → (state' ≡ next state reading) × Puts taken failures now now' (reply state reading))
+      → Answered taken failures first opening (lines ++ line ∷ []) now' state'
+  answered_more lines line now now' state state' a answer rs h =
+      let p = part lines (line ∷ []) rs h in
+      let f = first_of_them line [] p.rest p.follow in
+      let e : rs ≡ p.front ++ (f.reading ∷ []) = p.whole ∙ ap (λ (l : List Reading). p.front ++ l) (f.whole ∙ ap (λ (l : List Reading). f.reading ∷ l) (none_of_them f.rest f.follow)) in
+      let before = a p.front p.are in
+      let here = answer f.reading f.is in
+      let out : output_from opening p.front ++ reply state f.reading ≡ output_from opening rs =
+      sym (append-nil (output_from opening p.front ++ reply state f.reading)) ∙ output_from-parted opening state rs p.front f.reading [] e before.0 in
+      (here.0 ∙ state_after-one opening state rs p.front f.reading e before.0, subst (Put now') out (Puts-then taken failures first now now' (output_from opening p.front) (reply state f.reading) before.1 here.1))
+
+  -- nothing has been read
+  pub Served-nothing : Served taken failures first opening first opening [] []
+  Served-nothing = record {
+    lines = [];
+    pending = [];
+    cut = refl;
+    no_end = tt;
+    open_end = tt;
+    keeps = sym kept_nil;
+    readings = [];
+    are = tt;
+    answered = answered_none;
+  }
+
+  -- a byte that ends no line
+  pub Served-byte : (now : Output W A) (state : State) (line line' bytes : List ℕ) (b : ℕ) → Served taken failures first opening now state line bytes → (b == 10) ≡ false → line' ≡ kept (line ++ b ∷ []) → Served taken failures first opening now state line' (bytes ++ b ∷ [])
+  Served-byte now state line line' bytes b s e k = record {
+    lines = s.lines;
+    pending = s.pending ++ b ∷ [];
+    cut = ap (λ (l : List ℕ). l ++ b ∷ []) s.cut ∙ append_assoc (ended s.lines) s.pending (b ∷ []);
+    no_end = s.no_end;
+    open_end = HasNoEnd-more s.pending b s.open_end e;
+    keeps = k ∙ ap (λ (l : List ℕ). kept (l ++ b ∷ [])) s.keeps ∙ kept_again s.pending b;
+    readings = s.readings;
+    are = s.are;
+    answered = s.answered;
+  }
+
+  -- what holds of each reading of what is kept holds of each reading of the line
+  of_kept : (line pending : List ℕ) (P : Reading → Type 0) → line ≡ kept pending → ((reading : Reading) → IsReading line reading → P reading) → (reading : Reading) → IsReading pending reading → P reading
+  of_kept line pending P e h r i = h r (subst (λ (l : List ℕ). IsReading l r) (sym e) (IsReading-kept pending r i))
+
+  -- LF, behind which the line is answered
+  pub Served-line : (now now' : Output W A) (state state' : State) (line bytes : List ℕ) → Served taken failures first opening now state line bytes
+      → (reading : Reading) × IsReading line reading
+      → ((reading : Reading) → IsReading line reading → (state' ≡ next state reading) × Puts taken failures now now' (reply state reading))
+      → Served taken failures first opening now' state' [] (bytes ++ 10 ∷ [])
+  Served-line now now' state state' line bytes s (r, read) answer = record {
+    lines = s.lines ++ s.pending ∷ [];
+    pending = [];
+    cut = ap (λ (l : List ℕ). l ++ 10 ∷ []) s.cut ∙ append_assoc (ended s.lines) s.pending (10 ∷ []) ∙ ended-more s.lines s.pending ∙ sym (append-nil (ended (s.lines ++ s.pending ∷ [])));
+    no_end = HaveNoEnd-more s.lines s.pending s.no_end s.open_end;
+    open_end = tt;
+    keeps = sym kept_nil;
+    readings = s.readings ++ r ∷ [];
+    are = join s.lines (s.pending ∷ []) s.readings (r ∷ []) s.are (IsReading-whole s.pending r (subst (λ (l : List ℕ). IsReading l r) s.keeps read), tt);
+    answered = answered_more s.lines s.pending now now' state state' s.answered (of_kept line s.pending (λ r'. (state' ≡ next state r') × Puts taken failures now now' (reply state r')) s.keeps answer);
+  }
+
+  -- what waited was passed on
+  pub Served-passed : (now now' : Output W A) (state : State) (line bytes : List ℕ) → Served taken failures first opening now state line bytes → Puts taken failures now now' [] → Served taken failures first opening now' state line bytes
+  Served-passed now now' state line bytes s p = record {
+    lines = s.lines;
+    pending = s.pending;
+    cut = s.cut;
+    no_end = s.no_end;
+    open_end = s.open_end;
+    keeps = s.keeps;
+    readings = s.readings;
+    are = s.are;
+    answered = λ rs h. ((s.answered rs h).0, subst (Put now') (append-nil (output_from opening rs)) (Puts-then taken failures first now now' (output_from opening rs) [] (s.answered rs h).1 p));
+  }
+
+  -- a fault in the answer to a line that others follow
+  stopped_at : (lines : List (List ℕ)) (line : List ℕ) (more : List (List ℕ)) (now now' : Output W A) (state : State) (bytes : List ℕ) (fault : RunFault) → Answered taken failures first opening lines now state
+      → lines_of bytes ≡ lines ++ (line ∷ more)
+      → ((reading : Reading) → IsReading line reading → Breaks taken failures now now' (reply state reading) fault)
+      → Stopped taken failures first opening now' bytes fault
+  stopped_at lines line more now now' state bytes fault a cut breaks rs h =
+      let p = part lines (line ∷ more) rs (subst (λ (ls : List (List ℕ)). AreReadings ls rs) cut h) in
+      let f = first_of_them line more p.rest p.follow in
+      let e : rs ≡ p.front ++ (f.reading ∷ f.rest) = p.whole ∙ ap (λ (l : List Reading). p.front ++ l) f.whole in
+      let before = a p.front p.are in
+      let here = Puts-breaks taken failures first now now' (output_from opening p.front) (reply state f.reading) fault before.1 (breaks f.reading f.is) in
+      let others = output_from (next state f.reading) f.rest in
+      subst (λ (l : List ℕ). Breaks taken failures first now' l fault) (output_from-parted opening state rs p.front f.reading f.rest e before.0) (Breaks-more taken failures first now' (output_from opening p.front ++ reply state f.reading) others fault here)
+
+  -- a fault in the answer to the line that LF ends
+  pub Stopped-line : (now now' : Output W A) (state : State) (line bytes rest : List ℕ) (fault : RunFault) → Served taken failures first opening now state line bytes
+      → ((reading : Reading) → IsReading line reading → Breaks taken failures now now' (reply state reading) fault)
+      → Stopped taken failures first opening now' (bytes ++ (10 ∷ rest)) fault
+  Stopped-line now now' state line bytes rest fault s breaks =
+      stopped_at s.lines s.pending (lines_of rest) now now' state (bytes ++ (10 ∷ rest)) fault s.answered
+      (lines_of_behind s.lines s.pending bytes (10 ∷ rest) s.cut s.no_end ∙ ap (λ (ls : List (List ℕ)). s.lines ++ ls) (lines_of_ended s.pending rest s.open_end))
+      (of_kept line s.pending (λ r. Breaks taken failures now now' (reply state r) fault) s.keeps breaks)
+
+  -- a fault that has nothing to do with a line
+  stopped_between : (now now' : Output W A) (state : State) (line bytes rest : List ℕ) (fault : RunFault) → Served taken failures first opening now state line bytes
+      → ((x y : List ℕ) → Put now x → Breaks taken failures first now' (x ++ y) fault)
+      → Stopped taken failures first opening now' (bytes ++ rest) fault
+  stopped_between now now' state line bytes rest fault s breaks rs h =
+      let cut = lines_of_behind s.lines s.pending bytes rest s.cut s.no_end in
+      let p = part s.lines (lines_of (s.pending ++ rest)) rs (subst (λ (ls : List (List ℕ)). AreReadings ls rs) cut h) in
+      let others = output_from (state_after opening p.front) p.rest in
+      subst (λ (l : List ℕ). Breaks taken failures first now' l fault) (output_from-split opening rs p.front p.rest p.whole) (breaks (output_from opening p.front) others (s.answered p.front p.are).1)
+
+  -- no memory for a byte
+  pub Stopped-starved : (now : Output W A) (state : State) (line bytes rest : List ℕ) → Served taken failures first opening now state line bytes → Stopped taken failures first opening now (bytes ++ rest) faults.NoMemory
+  Stopped-starved now state line bytes rest s = stopped_between now now state line bytes rest faults.NoMemory s (λ x y p. Puts-starved taken failures first now x y p)
+
+  -- a read failed, or was not made
+  pub Stopped-reading : (now : Output W A) (state : State) (line bytes : List ℕ) (turn : ℕ) → Served taken failures first opening now state line bytes → Stopped taken failures first opening now bytes (faults.Read turn)
+  Stopped-reading now state line bytes turn s =
+      subst (λ (l : List ℕ). Stopped taken failures first opening now l (faults.Read turn)) (append-nil bytes)
+      (stopped_between now now state line bytes [] (faults.Read turn) s (λ x y p. Puts-cut taken failures first now x y (faults.Read turn) refl p))
+
+  -- what waited was not passed on
+  pub Stopped-passing : (now now' : Output W A) (state : State) (line bytes : List ℕ) (fault : RunFault) → Served taken failures first opening now state line bytes → Breaks taken failures now now' [] fault → Stopped taken failures first opening now' bytes fault
+  Stopped-passing now now' state line bytes fault s b =
+      subst (λ (l : List ℕ). Stopped taken failures first opening now' l fault) (append-nil bytes)
+      (stopped_between now now' state line bytes [] fault s (λ x y p. subst (λ (l : List ℕ). Breaks taken failures first now' l fault) (ap (λ (l : List ℕ). l ++ y) (append-nil x)) (Breaks-more taken failures first now' (x ++ []) y fault (Puts-breaks taken failures first now now' x [] fault p b))))
+
+  -- ---- the end
+
+  -- no line is left open
+  lines_all : (now : Output W A) (state : State) (line bytes : List ℕ) (s : Served taken failures first opening now state line bytes) → length line ≡ 0 → lines_of bytes ≡ s.lines
+  lines_all now state line bytes s n =
+      let none : length s.pending ≡ 0 = kept_none s.pending (ap length (sym s.keeps) ∙ n) in
+      ap lines_of (s.cut ∙ ap (λ (l : List ℕ). ended s.lines ++ l) (nil_from_length s.pending none)) ∙ lines_of_all_ended s.lines [] s.no_end ∙ append-nil s.lines
+
+  pub Finished-whole : (now : Output W A) (state : State) (line bytes : List ℕ) → Served taken failures first opening now state line bytes → length line ≡ 0 → Finished taken failures first opening now bytes
+  Finished-whole now state line bytes s n =
+      let e = lines_all now state line bytes s n in
+      record {
+        readings = s.readings;
+        are = subst (λ (ls : List (List ℕ)). AreReadings ls s.readings) (sym e) s.are;
+        all = λ rs h. (s.answered rs (subst (λ (ls : List (List ℕ)). AreReadings ls rs) e h)).1;
+      }
+
+  -- the last line, which no LF ends
+  lines_last : (now : Output W A) (state : State) (line bytes : List ℕ) (s : Served taken failures first opening now state line bytes) → 0 < length line → lines_of bytes ≡ s.lines ++ s.pending ∷ []
+  lines_last now state line bytes s n =
+      ap lines_of s.cut ∙ lines_of_all_ended s.lines s.pending s.no_end ∙ ap (λ (ls : List (List ℕ)). s.lines ++ ls) (lines_of_open s.pending s.open_end (kept_some s.pending (subst (λ (l : List ℕ). 0 < length l) s.keeps n)))
+
+  pub Finished-last : (now now' : Output W A) (state state' : State) (line bytes : List ℕ) → Served taken failures first opening now state line bytes → 0 < length line
+      → (reading : Reading) × IsReading line reading
+      → ((reading : Reading) → IsReading line reading → (state' ≡ next state reading) × Puts taken failures now now' (reply state reading))
+      → Finished taken failures first opening now' bytes
+  unfolding Served-line
+  Finished-last now now' state state' line bytes s n read answer =
+      let e = lines_last now state line bytes s n in
+      let t = Served-line now now' state state' line bytes s read answer in
+      let f : s.lines ++ s.pending ∷ [] ≡ t.lines = refl in
+      record {
+        readings = t.readings;
+        are = subst (λ (ls : List (List ℕ)). AreReadings ls t.readings) (sym (e ∙ f)) t.are;
+        all = λ rs h. (t.answered rs (subst (λ (ls : List (List ℕ)). AreReadings ls rs) (e ∙ f) h)).1;
+      }
+
+  pub Stopped-last : (now now' : Output W A) (state : State) (line bytes : List ℕ) (fault : RunFault) → Served taken failures first opening now state line bytes → 0 < length line
+      → ((reading : Reading) → IsReading line reading → Breaks taken failures now now' (reply state reading) fault)
+      → Stopped taken failures first opening now' bytes fault
+  Stopped-last now now' state line bytes fault s n breaks =
+      stopped_at s.lines s.pending [] now now' state bytes fault s.answered (lines_last now state line bytes s n)
+      (of_kept line s.pending (λ r. Breaks taken failures now now' (reply state r) fault) s.keeps breaks)
+
+  pub Finished-passed : (now now' : Output W A) (bytes : List ℕ) → Finished taken failures first opening now bytes → Puts taken failures now now' [] → Finished taken failures first opening now' bytes
+  Finished-passed now now' bytes f p = record {
+    readings = f.readings;
+    are = f.are;
+    all = λ rs h. subst (Put now') (append-nil (output_from opening rs)) (Puts-then taken failures first now now' (output_from opening rs) [] (f.all rs h) p);
+  }
+
+  pub Stopped-finished : (now now' : Output W A) (bytes : List ℕ) (fault : RunFault) → Finished taken failures first opening now bytes → Breaks taken failures now now' [] fault → Stopped taken failures first opening now' bytes fault
+  Stopped-finished now now' bytes fault f b rs h = subst (λ (l : List ℕ). Breaks taken failures first now' l fault) (append-nil (output_from opening rs)) (Puts-breaks taken failures first now now' (output_from opening rs) [] fault (f.all rs h) b)
+
+module _ {W A : Type 0} (taken : W → Option (List ℕ)) (failures : W → ℕ) where
+  pub ServesOn-nothing : (old : Output W A) (state : State) (line : List ℕ) → ServesOn taken failures old old state state line line []
+  ServesOn-nothing old state line first opening bytes s = rw (append-nil bytes) s
+
+  pub ServesOn-then : (a b c : Output W A) (r s t : State) (k l m x y : List ℕ) → ServesOn taken failures a b r s k l x → ServesOn taken failures b c s t l m y → ServesOn taken failures a c r t k m (x ++ y)
+  ServesOn-then a b c r s t k l m x y p q first opening bytes h =
+      subst (λ (bs : List ℕ). Served taken failures first opening c t m bs) (append_assoc bytes x y) (q first opening (bytes ++ x) (p first opening bytes h))
+
+  pub StopsOn-then : (a b c : Output W A) (r s : State) (k l x y : List ℕ) (fault : RunFault) → ServesOn taken failures a b r s k l x → StopsOn taken failures b c s l y fault → StopsOn taken failures a c r k (x ++ y) fault
+  StopsOn-then a b c r s k l x y fault p q first opening bytes h =
+      subst (λ (bs : List ℕ). Stopped taken failures first opening c bs fault) (append_assoc bytes x y) (q first opening (bytes ++ x) (p first opening bytes h))
+
+  pub IsSound-nothing : (old : Output W A) → IsSound failures old old
+  IsSound-nothing old = record { writer = refl; failed = refl }
+
+  pub IsSound-then : (a b c : Output W A) → IsSound failures a b → IsSound failures b c → IsSound failures a c
+  IsSound-then a b c p q = record { writer = q.writer ∙ p.writer; failed = q.failed ∙ p.failed }
+
+  pub IsSound-fails : (a b c : Output W A) (fault : RunFault) → IsSound failures a b → Fails failures b c fault → Fails failures a c fault
+  IsSound-fails a b c fault p q = record { writer = q.writer ∙ p.writer; failed = q.failed ∙ ap (λ (n : ℕ). n + failures_of fault) p.failed; no_read = q.no_read }
+
+  pub IsSound-puts : (a b : Output W A) (bytes : List ℕ) → Puts taken failures a b bytes → IsSound failures a b
+  IsSound-puts a b bytes p = record { writer = p.writer; failed = p.failed }
+
+  -- an answer, whatever the line is read as
+  pub IsSound-answer : (a b : Output W A) (state state' : State) (line : List ℕ) → (reading : Reading) × IsReading line reading
+      → ((reading : Reading) → IsReading line reading → (state' ≡ next state reading) × Puts taken failures a b (reply state reading)) → IsSound failures a b
+  IsSound-answer a b state state' line (r, i) answer = IsSound-puts a b (reply state r) (answer r i).1
+
+  pub Fails-write : (a b : Output W A) (bytes : List ℕ) (fault : RunFault) → Breaks taken failures a b bytes fault → fault ≡ faults.Write → Fails failures a b fault
+  Fails-write a b bytes fault p e = record { writer = p.writer; failed = p.failed; no_read = subst (λ (f : RunFault). IsOfRead f → ⊥) (sym e) (λ h. h) }
+
+  pub Fails-memory : (a : Output W A) → Fails failures a a faults.NoMemory
+  Fails-memory a = record { writer = refl; failed = omega arith; no_read = λ h. h }

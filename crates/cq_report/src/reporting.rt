@@ -1,0 +1,358 @@
+//! The report on a board, put line by line.
+//!
+//! The edges of a board are listed by the waiter and then by the postcondition. So each postcondition
+//! finds its edges in front of those that are left, and each edge is looked at a few times alone.
+
+ghost use Rattle.std.specs.Prelude.{◌≡◌, ◌<◌, ◌==◌, ◌++◌, ◌^◌, ℕ, List, length, string_bytes, IfOk, OnOk, map, Some};
+ghost use Rattle.std.specs.List.{flat_map, enumerate_from, slice_get, prefix_len};
+ghost use Rattle.cq_atom.specs.Query.{variables_of};
+ghost use Rattle.cq_rel.specs.Tables.{declaration, rows_in};
+ghost use Rattle.cq_board.specs.Board.{is_matched_at, name_at, name_or_none};
+ghost use Rattle.cq_report.specs.Report.{relation_line, state_word, name_line, text_line, provider_line, crowd_word, count_line, post_lines, groundings_line, values_line, query_lines, report};
+ghost use Rattle.cq_report.specs.Steps.Put.{Put};
+ghost use Rattle.cq_report.specs.Steps.Left.{edges_at};
+
+use crate::fault::RunFault;
+use crate::output::Output;
+use crate::page::Page;
+use cq_atom::{Query, Value};
+use cq_board::{Board, Posted};
+use cq_ground::Groundings;
+use cq_match::Edge;
+use cq_rel::Tables;
+use cq_text::{Sink, print_query, print_values};
+use std::alloc::{AllocError, Allocator};
+
+/// Puts a line that was made, or tells that there was no memory for it.
+fn put_made<P: Page, A: Allocator>(
+    page: &mut P,
+    line: Result<String<A>, AllocError>,
+) -> Result<(), RunFault>
+    requires { P.is_ready page.old }
+    ensures put { (bytes : List ℕ) → IfOk line (λ text. string_bytes text ≡ bytes) → P.puts page.old page.new bytes result }
+    ensures ready { OnOk result (P.is_ready page.new) }
+{
+    let line = line?;
+    page.put_text(line.as_str())
+}
+
+/// Puts a line that was made, or tells that there was no memory for it.
+pub(crate) fn put_line<W: Sink, A: Allocator>(
+    line: Result<String<A>, AllocError>,
+    output: &mut Output<'_, W, A>,
+) -> Result<(), RunFault>
+    requires { W.write_failures output.old.sink.now < 2 ^ 62 }
+    ensures { (bytes : List ℕ) → IfOk line (λ text. string_bytes text ≡ bytes) → Put W.taken W.write_failures output.old output.new bytes result }
+{
+    put_made(output, line)
+}
+
+/// How many rows the relation has; none where it is not declared.
+fn row_count<A: Allocator>(tables: &Tables<A>, relation: &str) -> usize
+    ensures { result ≡ length (rows_in relation.now tables.now) }
+{
+    match tables.rows_of(relation) {
+        Some(rows) => rows.len(),
+        None => 0,
+    }
+}
+
+fn relation_line<A: Allocator>(
+    alloc: A,
+    tables: &Tables<A>,
+    relation: &str,
+    arity: usize,
+) -> Result<String<A>, AllocError>
+    ensures { IfOk result (λ text. string_bytes text ≡ relation_line tables.now (declaration relation.now arity)) }
+{
+    let count = row_count(tables, relation);
+    format!(in alloc; "relation {relation} {arity} rows {count}\n")
+}
+
+fn state_word(matched: bool) -> &'static str
+    ensures { result.now ≡ state_word matched }
+{
+    if matched { "matched" } else { "waiting" }
+}
+
+fn name_line<A: Allocator>(alloc: A, name: &str, matched: bool) -> Result<String<A>, AllocError>
+    ensures { IfOk result (λ text. string_bytes text ≡ name_line name.now matched) }
+{
+    let state = state_word(matched);
+    format!(in alloc; "query {name} {state}\n")
+}
+
+fn text_line<A: Allocator + Copy>(alloc: A, query: &Query<A>) -> Result<String<A>, AllocError>
+    ensures { IfOk result (λ text. string_bytes text ≡ text_line query.now) }
+{
+    let printed = print_query(alloc, query)?;
+    let printed = printed.as_str();
+    format!(in alloc; "  text {printed}\n")
+}
+
+/// The name of the query at that place, or nothing where there is none.
+fn name_or_none<A: Allocator>(board: &Board<A>, place: usize) -> &str
+    ensures { result.now ≡ name_or_none (name_at board.now.pending place) }
+{
+    match board.name_at(place) {
+        Some(name) => name.as_str(),
+        None => "",
+    }
+}
+
+fn provider_line<A: Allocator>(
+    alloc: A,
+    board: &Board<A>,
+    edge: &Edge,
+) -> Result<String<A>, AllocError>
+    ensures { IfOk result (λ text. string_bytes text ≡ provider_line board.now.pending edge.now) }
+{
+    let name = name_or_none(board, edge.provider);
+    let head = edge.head;
+    format!(in alloc; "    {name} head {head}\n")
+}
+
+fn crowd_word(count: usize) -> &'static str
+    ensures { result.now ≡ crowd_word count }
+{
+    if count >= 2 { " crowded" } else { "" }
+}
+
+fn count_line<A: Allocator>(alloc: A, post: usize, count: usize) -> Result<String<A>, AllocError>
+    ensures { IfOk result (λ text. string_bytes text ≡ count_line post count) }
+{
+    let crowd = crowd_word(count);
+    format!(in alloc; "  post {post} providers {count}{crowd}\n")
+}
+
+fn groundings_line<A: Allocator + Copy>(
+    alloc: A,
+    query: &Query<A>,
+    count: usize,
+) -> Result<String<A>, AllocError>
+    ensures { IfOk result (λ text. string_bytes text ≡ groundings_line (variables_of query.now.body) count) }
+{
+    let names = query.variables().join(alloc, ", ")?;
+    let names = names.as_str();
+    format!(in alloc; "  groundings {count} ({names})\n")
+}
+
+fn values_line<A: Allocator + Copy>(alloc: A, values: &[Value<A>]) -> Result<String<A>, AllocError>
+    ensures { IfOk result (λ text. string_bytes text ≡ values_line values.now) }
+{
+    let printed = print_values(alloc, values)?;
+    let printed = printed.as_str();
+    format!(in alloc; "    {printed}\n")
+}
+
+/// How many edges in front lead to the query at that place.
+fn count_to_waiter(edges: &[Edge], waiter: usize) -> usize
+    ensures { result ≡ prefix_len (λ edge. edge.waiter == waiter) edges.now }
+{
+    edges
+        .iter()
+        .take_while(|edge| edge.waiter == waiter)
+        .count()
+}
+
+/// How many edges in front lead to a postcondition at that place.
+fn count_to_post(edges: &[Edge], post: usize) -> usize
+    ensures { result ≡ prefix_len (λ edge. edge.post == post) edges.now }
+{
+    edges
+        .iter()
+        .take_while(|edge| edge.post as usize == post)
+        .count()
+}
+
+/// Puts a line for each declared relation.
+fn put_relations<P: Page, A: Allocator + Copy>(
+    alloc: A,
+    tables: &Tables<A>,
+    page: &mut P,
+) -> Result<(), RunFault>
+    requires { P.is_ready page.old }
+    ensures put { P.puts page.old page.new (flat_map (relation_line tables.now) tables.now.catalog) result }
+    ensures ready { OnOk result (P.is_ready page.new) }
+{
+    let catalog = tables.catalog();
+    for place in 0..catalog.len() {
+        let (relation, arity) = match catalog.entry(place) {
+            Some(entry) => entry,
+            None => unreachable!(),
+        };
+        put_made(page, relation_line(alloc, tables, relation, arity))?;
+    }
+    Ok(())
+}
+
+/// Puts the providers of a postcondition.
+fn put_providers<P: Page, A: Allocator + Copy>(
+    alloc: A,
+    board: &Board<A>,
+    providers: &[Edge],
+    page: &mut P,
+) -> Result<(), RunFault>
+    requires { P.is_ready page.old }
+    ensures put { P.puts page.old page.new (flat_map (provider_line board.now.pending) providers.now) result }
+    ensures ready { OnOk result (P.is_ready page.new) }
+{
+    for edge in providers {
+        put_made(page, provider_line(alloc, board, edge))?;
+    }
+    Ok(())
+}
+
+/// Puts how many providers a postcondition has, and each of them.
+fn put_post<P: Page, A: Allocator + Copy>(
+    alloc: A,
+    board: &Board<A>,
+    post: usize,
+    providers: &[Edge],
+    page: &mut P,
+) -> Result<(), RunFault>
+    requires { P.is_ready page.old }
+    ensures put { P.puts page.old page.new (count_line post (length providers.now) ++ flat_map (provider_line board.now.pending) providers.now) result }
+    ensures ready { OnOk result (P.is_ready page.new) }
+{
+    put_made(page, count_line(alloc, post, providers.len()))?;
+    put_providers(alloc, board, providers, page)
+}
+
+/// Puts what is told of each postcondition of the query at that place, to which the edges lead.
+fn put_posts<P: Page, A: Allocator + Copy>(
+    alloc: A,
+    board: &Board<A>,
+    waiter: usize,
+    posted: &Posted<A>,
+    edges: &[Edge],
+    page: &mut P,
+) -> Result<(), RunFault>
+    requires ready { P.is_ready page.old }
+    requires posted { slice_get board.now.pending waiter ≡ Some posted.now }
+    requires edges { edges.now ≡ edges_at board.now.pending (waiter, posted.now) }
+    ensures put { P.puts page.old page.new (flat_map (λ post. post_lines board.now.pending waiter post.0) (enumerate_from 0 posted.now.query.posts)) result }
+    ensures ready { OnOk result (P.is_ready page.new) }
+{
+    let mut left = edges;
+    for post in 0..posted.query.posts().len() {
+        let (providers, others) = left.split_at(count_to_post(left, post));
+        put_post(alloc, board, post, providers, page)?;
+        left = others;
+    }
+    Ok(())
+}
+
+/// Puts a line for each list of values.
+fn put_values<P: Page, A: Allocator + Copy>(
+    alloc: A,
+    lists: &[Vec<Value<A>, A>],
+    page: &mut P,
+) -> Result<(), RunFault>
+    requires { P.is_ready page.old }
+    ensures put { P.puts page.old page.new (flat_map values_line (map (λ values. values.items) lists.now)) result }
+    ensures ready { OnOk result (P.is_ready page.new) }
+{
+    for values in lists {
+        put_made(page, values_line(alloc, values))?;
+    }
+    Ok(())
+}
+
+/// Puts the groundings of a query.
+fn put_groundings<P: Page, A: Allocator + Copy>(
+    alloc: A,
+    query: &Query<A>,
+    groundings: &Groundings<A>,
+    page: &mut P,
+) -> Result<(), RunFault>
+    requires { P.is_ready page.old }
+    ensures put { P.puts page.old page.new (groundings_line (variables_of query.now.body) (length groundings.now) ++ flat_map values_line groundings.now) result }
+    ensures ready { OnOk result (P.is_ready page.new) }
+{
+    put_made(page, groundings_line(alloc, query, groundings.count()))?;
+    put_values(alloc, groundings.list(), page)
+}
+
+/// Puts what is told of the query at that place, to which the edges lead.
+fn put_query<P: Page, A: Allocator + Copy>(
+    alloc: A,
+    board: &Board<A>,
+    waiter: usize,
+    posted: &Posted<A>,
+    edges: &[Edge],
+    page: &mut P,
+) -> Result<(), RunFault>
+    requires ready { P.is_ready page.old }
+    requires posted { slice_get board.now.pending waiter ≡ Some posted.now }
+    requires edges { edges.now ≡ edges_at board.now.pending (waiter, posted.now) }
+    ensures put { P.puts page.old page.new (query_lines board.now (waiter, posted.now)) result }
+    ensures ready { OnOk result (P.is_ready page.new) }
+{
+    let matched = board.is_matched_at(waiter);
+    put_made(page, name_line(alloc, posted.name.as_str(), matched))?;
+    put_made(page, text_line(alloc, &posted.query))?;
+    put_posts(alloc, board, waiter, posted, edges, page)?;
+    match board.groundings_at(waiter) {
+        Some(groundings) => put_groundings(alloc, &posted.query, groundings, page),
+        None => Ok(()),
+    }
+}
+
+/// Puts what is told of each pending query.
+fn put_queries<P: Page, A: Allocator + Copy>(
+    alloc: A,
+    board: &Board<A>,
+    page: &mut P,
+) -> Result<(), RunFault>
+    requires { P.is_ready page.old }
+    ensures put { P.puts page.old page.new (flat_map (query_lines board.now) (enumerate_from 0 board.now.pending)) result }
+    ensures ready { OnOk result (P.is_ready page.new) }
+{
+    let mut left = board.edges_by_place();
+    for (waiter, posted) in board.pending().iter().enumerate() {
+        let (edges, others) = left.split_at(count_to_waiter(left, waiter));
+        put_query(alloc, board, waiter, posted, edges, page)?;
+        left = others;
+    }
+    Ok(())
+}
+
+/// Puts the report.
+fn put_all<P: Page, A: Allocator + Copy>(
+    alloc: A,
+    board: &Board<A>,
+    page: &mut P,
+) -> Result<(), RunFault>
+    requires { P.is_ready page.old }
+    ensures { P.puts page.old page.new (report board.now) result }
+{
+    put_relations(alloc, board.tables(), page)?;
+    put_queries(alloc, board, page)
+}
+
+/// Puts the report on a board. Only lines are made in memory, one at a time.
+pub(crate) fn put_report<W: Sink, A: Allocator + Copy>(
+    alloc: A,
+    board: &Board<A>,
+    output: &mut Output<'_, W, A>,
+) -> Result<(), RunFault>
+    requires { W.write_failures output.old.sink.now < 2 ^ 62 }
+    ensures { Put W.taken W.write_failures output.old output.new (report board.now) result }
+{
+    put_all(alloc, board, output)
+}
+
+/// The report on a board as one text.
+///
+/// # Errors
+/// `AllocError` where a growth was refused.
+pub fn report<A: Allocator + Copy>(alloc: A, board: &Board<A>) -> Result<String<A>, AllocError>
+    ensures { IfOk result (λ text. string_bytes text ≡ report board.now) }
+{
+    let mut text = String::new(alloc);
+    let Ok(()) = put_all(alloc, board, &mut text) else {
+        return Err(AllocError);
+    };
+    Ok(text)
+}
