@@ -15,13 +15,22 @@ const ABOUT: &str =
     replies and reports.";
 
 const LINES: &str = "Lines of a script:
-  post NAME {POSTCONDITIONS} HEADS <-   a query becomes pending
-  publish                               what was entered is published
-  show                                  prints the board of the last publish
-  # ..                                  a comment
+  relation NAME ARITY                        declares a database relation (setup)
+  limits POOL JOURNAL                        the most pending queries and entries (setup)
+  post NAME {POSTCONDITIONS} HEADS <- BODY   a query becomes pending
+  withdraw NAME                              the query is pending no more
+  insert ROW                                 adds a row
+  delete ROW                                 takes a row out
+  publish                                    what was entered is published
+  show                                       prints the board of the last publish
+  # ..                                       a comment
 
 Example:
-  post kramer {R(Jerry, 122)} R(Kramer, 122) <-
+  relation Flights 2
+  insert Flights(122, Paris)
+  post kramer {R(Jerry, x)} R(Kramer, x) <- Flights(x, Paris)
+  publish
+  show
 
 Exit status: 0 done (refused lines included), 1 a device failed, 2 usage, 3 out of memory.";
 
