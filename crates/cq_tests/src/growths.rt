@@ -9,7 +9,7 @@ use std::alloc::Allocator;
 use std::test::Fail;
 
 /// More growths than any call here makes.
-const ENOUGH: u64 = 200;
+const ENOUGH: u64 = 400;
 
 #[test]
 fn refused_growth_in_constructors(rt: HostRuntime) -> Result<(), Fail> {
@@ -93,19 +93,26 @@ fn refused_growth_in_bind(rt: HostRuntime) -> Result<(), Fail> {
     Ok(())
 }
 
-/// Posts, a refused post, a publish and a look.
-const SCRIPT: &[u8] =
-    b"post a {S(2)} S(1) <-\npost b {S(1)} S(2) <-\npost b {} S(3) <-\npublish\nshow\n";
+/// Setup, every kind of edit, a refused post, a publish and a look.
+const SCRIPT: &[u8] = b"relation T 1\nlimits 9 9\ninsert T(1)\ninsert T(2)\ndelete T(2)
+post a {S(2)} S(1) <-\npost b {S(1)} S(2) <- T(x)\npost b {} S(3) <-
+post c {} S(3) <-\nwithdraw c\npublish\nshow\n";
 
-const ANSWERS: &[u8] = b"ok 1\nok 2\nrefused NameTaken\npublished 2\nshow 2
-query a
+const ANSWERS: &[u8] = b"ok\nok\nok 1\nok 2\nok 3\nok 4\nok 5\nrefused NameTaken
+ok 6\nok 7\npublished 7\nshow 7
+relation T 1 rows 1
+query a matched
   text {S(2)} S(1) <-
   post 0 providers 1
     b head 0
-query b
-  text {S(1)} S(2) <-
+  groundings 1 ()
+    ()
+query b matched
+  text {S(1)} S(2) <- T(x)
   post 0 providers 1
     a head 0
+  groundings 1 (x)
+    (1)
 end
 ";
 

@@ -5,6 +5,8 @@
 #[cfg(test)]
 mod atoms;
 #[cfg(test)]
+mod boards;
+#[cfg(test)]
 mod groundings;
 #[cfg(test)]
 mod growths;
