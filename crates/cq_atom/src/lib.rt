@@ -29,7 +29,7 @@ pub use fault::{Bad, Part};
 pub use limits::{MAX_ARITY, MAX_ATOMS, MAX_NAME, MAX_TEXT};
 pub use meter::Meter;
 pub use name::Name;
-pub use query::Query;
+pub use query::{Query, binds, binds_all};
 pub use row::Row;
 pub use term::{Term, TermKind};
 pub use unification::unify;
