@@ -4,6 +4,7 @@ pub mod Meets
 pub mod Glue
 pub mod Closes
 pub mod Bindings
+pub mod Bound
 pub mod Names
 pub mod Variables
 pub mod Finite

@@ -33,6 +33,6 @@ pub use query::{Query, binds, binds_all};
 pub use row::Row;
 pub use term::{Term, TermKind};
 pub use unification::unify;
-pub use valuation::Valuation;
+pub use valuation::{Valuation, value_place};
 pub use value::{Content, Value};
 pub use word::is_relation_text;
