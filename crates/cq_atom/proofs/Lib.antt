@@ -1,3 +1,4 @@
+pub mod CallerLemmas
 pub mod Shows
 pub mod Merges
 pub mod Meets
