@@ -12,6 +12,7 @@
 #![tactic(auto)]
 
 mod atom;
+mod bytes;
 mod fault;
 mod limits;
 mod meter;
