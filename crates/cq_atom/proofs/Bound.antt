@@ -1,5 +1,5 @@
 -- Names that are bound to values in order: the value of a name stands at the name's first place.
-use Rattle.std.proofs.Common.{◌≡◌, ℕ, suc, ◌+◌, ◌<◌, ◌≤◌, Bool, true, false, cond, List, [], ◌∷◌, length, map, get_or, drop, drop-cons, add-one, Some, None, Option, refl, sym, ap, ◌∙◌, arith, inl, inr, bytes_eq}
+use Rattle.std.proofs.Common.{◌≡◌, ℕ, ◌+◌, ◌≤◌, Bool, true, false, List, [], ◌∷◌, length, map, get_or, drop, drop-cons, add-one, None, Option, refl, sym, ap, ◌∙◌, arith, inl, inr, bytes_eq}
 use Rattle.std.specs.Prelude.{zip, pos, position}
 use Rattle.std.specs.List.{slice_get, position_from}
 use Rattle.std.specs.Option.{option_and_then}
