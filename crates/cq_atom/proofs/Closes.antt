@@ -1,5 +1,5 @@
 -- The labels that both lists tie, and what the agreement of their constants says.
-use Rattle.std.proofs.Common.{◌≡◌, ℕ, zero, suc, ◌<◌, ◌≤◌, Bool, true, List, [], ◌∷◌, length, refl, sym, ap, ◌∙◌, arith, get_or}
+use Rattle.std.proofs.Common.{◌≡◌, ℕ, ◌<◌, ◌≤◌, Bool, true, List, length, sym, ap, ◌∙◌, arith}
 use Rattle.cq_atom.specs.Value.{ValueContent}
 use Rattle.cq_atom.specs.Atom.{TermContent}
 use Rattle.cq_atom.specs.Steps.Labels.{AreOwn, Respects, Ties, EndsBelow, Agree, AreValid}

@@ -12,6 +12,7 @@
 #![tactic(auto)]
 
 mod atom;
+mod bytes;
 mod fault;
 mod limits;
 mod meter;
@@ -29,10 +30,10 @@ pub use fault::{Bad, Part};
 pub use limits::{MAX_ARITY, MAX_ATOMS, MAX_NAME, MAX_TEXT};
 pub use meter::Meter;
 pub use name::Name;
-pub use query::Query;
+pub use query::{Query, binds, binds_all};
 pub use row::Row;
 pub use term::{Term, TermKind};
 pub use unification::unify;
-pub use valuation::Valuation;
+pub use valuation::{Valuation, value_place};
 pub use value::{Content, Value};
 pub use word::is_relation_text;

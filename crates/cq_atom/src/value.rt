@@ -6,27 +6,29 @@ ghost use Rattle.cq_atom.specs.Answer.{Answers};
 ghost use Rattle.cq_atom.specs.Text.{is_text};
 ghost use Rattle.cq_atom.specs.Value.{IsValue, is_before, number_of, text_of};
 
+use crate::bytes::Bytes;
 use crate::fault::Bad;
 use crate::word::is_text_content;
 use std::alloc::{AllocError, Allocator, Global};
-use std::cmp::Ordering;
-use std::hash::{Hash, Hasher};
 use std::marker::Model;
 
 #[derive(Drop)]
+#[derive_where(PartialEq, Eq, PartialOrd, Ord, Hash)]
 pub struct Text<A: Allocator = Global> {
-    text: String<A>,
+    text: Bytes<A>,
 }
 
 impl<A: Allocator> Model for Text<A> {
-    ghost use Rattle.std.specs.Prelude.{List, ℕ, IsTrue, string_bytes};
+    ghost use Rattle.std.specs.Prelude.{List, ℕ, IsTrue};
     ghost use Rattle.cq_atom.specs.Text.{is_text};
 
     ghost Value = { List ℕ };
 
-    ghost view = { λ t. string_bytes t.text };
+    ghost view = { λ t. t.text };
 
-    ghost invariant = { λ t. IsTrue (is_text (string_bytes t.text)) };
+    ghost inverse = { λ bytes. record { text = bytes } };
+
+    ghost invariant = { λ t. IsTrue (is_text t.text) };
 }
 
 /// What a value is, over what holds the bytes of a text. Contracts see a value as
@@ -82,7 +84,7 @@ impl<A: Allocator> Value<A> {
         if !is_text_content(text) {
             return Err(Bad::BadText);
         }
-        let text = String::from_str(alloc, text)?;
+        let text = Bytes::from_str(alloc, text)?;
         Ok(Value {
             content: Content::Text(Text { text }),
         })
@@ -146,76 +148,6 @@ impl<A: Allocator> Text<A> {
         ensures { IsTrue result ↔ (self.now ≡ other.now) }
     {
         self == other
-    }
-}
-
-impl<A: Allocator> PartialEq for Text<A> {
-    ghost use Rattle.std.specs.Prelude.{nat_eq};
-    ghost use Rattle.std.specs.Cmp.Lexicographic.{pointwise};
-    ghost use Rattle.std.specs.Cmp.{partial_equiv_from_equiv};
-    ghost use Rattle.std.proofs.lemmas.Cmp.{nat_list_eq_equiv};
-
-    ghost eq = { pointwise nat_eq };
-
-    ghost laws = { partial_equiv_from_equiv nat_list_eq_equiv };
-
-    fn eq(&self, other: &Text<A>) -> bool {
-        self.text == other.text
-    }
-}
-
-impl<A: Allocator> Eq for Text<A> {
-    ghost use Rattle.std.proofs.lemmas.Cmp.{nat_list_eq_equiv};
-
-    ghost laws = { nat_list_eq_equiv };
-}
-
-impl<A: Allocator> PartialOrd for Text<A> {
-    ghost use Rattle.std.specs.Ordering.{nat_cmp, as_partial_cmp};
-    ghost use Rattle.std.specs.Cmp.{partial_order_from_own_ties};
-    ghost use Rattle.std.specs.Cmp.Lexicographic.{slice_cmp};
-    ghost use Rattle.std.specs.Cmp.Rules.{comparing};
-    ghost use Rattle.std.proofs.Common.{rules};
-
-    ghost partial_cmp = { as_partial_cmp (slice_cmp nat_cmp) };
-
-    ghost laws = { partial_order_from_own_ties (Prim.search (comparing, rules)) (Prim.search (comparing, rules)) };
-
-    fn partial_cmp(&self, other: &Text<A>) -> Option<Ordering> {
-        Some(self.cmp(other))
-    }
-}
-
-impl<A: Allocator> Ord for Text<A> {
-    ghost use Rattle.std.specs.Ordering.{nat_cmp};
-    ghost use Rattle.std.specs.Cmp.Lexicographic.{slice_cmp};
-    ghost use Rattle.std.specs.Cmp.Rules.{comparing};
-    ghost use Rattle.std.proofs.Common.{rules};
-
-    ghost cmp = { slice_cmp nat_cmp };
-
-    ghost total = { Prim.search (comparing, rules) };
-
-    ghost matches_partial_cmp = { Prim.search (comparing, rules) };
-
-    ghost matches_eq = { Prim.search (comparing, rules) };
-
-    fn cmp(&self, other: &Text<A>) -> Ordering {
-        self.text.as_str().cmp(other.text.as_str())
-    }
-}
-
-impl<A: Allocator> Hash for Text<A> {
-    ghost use Rattle.std.specs.Hash as fed;
-    ghost use Rattle.std.specs.Cmp.Rules.{comparing, hashing};
-    ghost use Rattle.std.proofs.Common.{rules};
-
-    ghost hash_input = { fed.str };
-
-    ghost respects_eq = { Prim.search (hashing, rules) };
-
-    fn hash<H: Hasher>(&self, state: &mut H) {
-        self.text.as_str().hash(state);
     }
 }
 

@@ -1,6 +1,5 @@
 pub mod Counting
 pub mod Dropping
-pub mod Graphs
 pub mod Grouped
 pub mod Linked
 pub mod Ranks

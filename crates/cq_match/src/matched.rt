@@ -159,6 +159,3 @@ pub fn greatest<A: Allocator + Copy>(
     let standing = settled(alloc, ranked.len(), &slots.owners, &links)?;
     standing_numbers(alloc, &ranked, &standing)
 }
-
-#[cfg(test)]
-mod tests;
