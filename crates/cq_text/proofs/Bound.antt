@@ -19,7 +19,8 @@ use Rattle.cq_text.specs.Token.{TokenContent, LexemeContent, flaw, tokens_of}
 use Rattle.cq_text.specs.Grammar.{Separated, IsTermText, IsAtomText, AreAtomsIfAny, AreBound, IsRestricted}
 use Rattle.cq_text.specs.Fault.{Place, is_over, behind_token, is_unbound, first_unbound_at}
 use Rattle.cq_text.specs.Steps.Binding.{has_unbound, have_unbound}
-use Rattle.cq_text.specs.Steps.Reading.{Ahead, fault, first_unbound_of, first_unbound_from, query_record, bound_query}
+use Rattle.cq_text.specs.Steps.Lexemes.{Ahead, fault}
+use Rattle.cq_text.specs.Steps.Lists.{first_unbound_of, first_unbound_from, query_record, bound_query}
 use Rattle.cq_text.proofs.Machine.{Symbol, take_token}
 use Rattle.cq_text.proofs.Scan.{on_token, after_flaw, scan}
 use Rattle.cq_text.proofs.Runs.{QueryParts}

@@ -5,7 +5,7 @@ use Rattle.std.proofs.lemmas.List.{drop-drop, length-drop}
 use Rattle.std.proofs.Common.{None, Some}
 use Rattle.cq_text.specs.declared.token.Token.TheVariants.{Finish}
 use Rattle.cq_text.specs.Token.{TokenContent, LexemeContent, flaw}
-use Rattle.cq_text.specs.Steps.Reading.{Ahead, next_of, next_at, fault}
+use Rattle.cq_text.specs.Steps.Lexemes.{Ahead, next_of, next_at, fault}
 use Rattle.cq_text.specs.Steps.Lexing.{front_of}
 use Rattle.cq_text.specs.declared.fault.Kind.{Kind}
 use Rattle.std.specs.Prelude.{◌==◌}

@@ -7,7 +7,8 @@ use Rattle.cq_atom.specs.declared.fault.Part.{Part}
 use Rattle.cq_atom.specs.declared.fault.Part.TheVariants.{Posts, Heads}
 use Rattle.cq_atom.specs.Atom.{AtomRecord}
 use Rattle.cq_atom.specs.Query.{QueryRecord, is_bound, unbound_term, first_unbound, query_fault}
-use Rattle.cq_text.specs.Steps.Reading.{Ahead, query_record, bound_query}
+use Rattle.cq_text.specs.Steps.Lexemes.{Ahead}
+use Rattle.cq_text.specs.Steps.Lists.{query_record, bound_query}
 use Rattle.cq_text.specs.Steps.Binding.{has_unbound, have_unbound}
 
 less_suc : (m n : ℕ) → nat_lt (1 + m) (suc n) ≡ nat_lt m n
