@@ -1,5 +1,5 @@
 -- Reading terms, atoms, rows and queries from left to right, as the reader's methods do.
-use Rattle.std.specs.Prelude.{ℕ, zero, suc, List, [], ◌∷◌, Bool, true, false, Option, Some, None, Result, Ok, if◌then◌else◌, ◌||◌}
+use Rattle.std.specs.Prelude.{ℕ, zero, suc, List, [], ◌∷◌, Bool, true, false, Option, Some, None, Result, Ok, if◌then◌else◌}
 use Rattle.cq_atom.specs.declared.limits.TheConstants.{MAX_ARITY, MAX_ATOMS}
 use Rattle.cq_atom.specs.Value.{ValueContent}
 use Rattle.cq_atom.specs.Atom.{TermContent, AtomRecord, RowRecord}
@@ -11,7 +11,7 @@ use Rattle.cq_text.specs.declared.token.Close.{Close}
 use Rattle.cq_text.specs.declared.token.Close.TheVariants.{By, End}
 use Rattle.cq_text.specs.Token.{LexemeContent, flaw}
 use Rattle.cq_text.specs.Fault.{is_unbound}
-use Rattle.cq_text.specs.Steps.Binding.{have_unbound}
+use Rattle.cq_text.specs.Steps.Binding.{binds_both}
 use Rattle.cq_text.specs.Steps.Lexemes.{Ahead, ◌>>=◌, fault, unless_flawed, next_at, is_finish, relation_in, term_in, value_in, sign_at, end_at, is_close, goes_on_at}
 
 -- What an item of a list gives: the item, whether more come, and what is ahead. It takes whether there is room for it.
@@ -106,10 +106,14 @@ first_unbound_from body a = first_unbound_of body a.lexemes a.end
 abbrev pub query_record : List AtomRecord → List AtomRecord → List AtomRecord → QueryRecord
 query_record posts heads body = record { posts = posts; heads = heads; body = body }
 
+-- The fault of a query that has an unbound variable.
+abbrev pub unbound_fault : List AtomRecord → Ahead → Result QueryRecord TextFault
+unbound_fault body a = first_unbound_from body a >>= λ at. fault Unbound at
+
 -- The query, or where its first unbound variable stands if it has one.
 abbrev pub bound_query : List AtomRecord → List AtomRecord → List AtomRecord → Ahead → Result QueryRecord TextFault
 bound_query posts heads body a =
-    if have_unbound body posts || have_unbound body heads then (first_unbound_from body a >>= λ at. fault Unbound at) else Ok (query_record posts heads body)
+    if binds_both body posts heads then Ok (query_record posts heads body) else unbound_fault body a
 
 -- A query, up to the end.
 unfoldable pub query_at : Ahead → Result QueryRecord TextFault

@@ -5,9 +5,11 @@ ghost use Rattle.cq_atom.specs.Text.{is_relation_name};
 ghost use Rattle.cq_atom.specs.Atom.{is_arity};
 ghost use Rattle.cq_text.specs.Steps.Lists.{value_at, values_at, row_record, row_at, next_unbound_at};
 ghost use Rattle.cq_text.specs.Steps.Lexemes.{Gives};
-ghost use Rattle.cq_text.specs.Steps.Lists.{atom_record, term_at, terms_at, applied_at, atom_at, atoms_at, atoms_if_any_at, unbound_at, first_unbound_from, bound_query, query_at, next_unbound_at};
+ghost use Rattle.cq_text.specs.Steps.Lists.{atom_record, term_at, terms_at, applied_at, atom_at, atoms_at, atoms_if_any_at, unbound_at, first_unbound_from, query_record, unbound_fault, bound_query, query_at, next_unbound_at};
+ghost use Rattle.cq_text.specs.Steps.Binding.{binds_both};
+ghost use Rattle.cq_text.specs.Steps.Lexemes.{Fails};
 
-use crate::binding::{have_unbound, is_unbound};
+use crate::binding::{binds_both, is_unbound};
 use crate::fault::{Kind, TextFault};
 use crate::reading::Reader;
 use crate::reading::lexemes::{is_finish, limit, shape, term_in, value_in};
@@ -42,6 +44,26 @@ fn new_atom<A: Allocator>(
 {
     match Atom::new(alloc, relation, terms) {
         Ok(atom) => Ok(atom),
+        Err(Bad::NoMemory) => Err(TextFault::NoMemory),
+        Err(_) => unreachable!(),
+    }
+}
+
+fn new_query<A: Allocator + Copy>(
+    alloc: A,
+    posts: Vec<Atom<A>, A>,
+    heads: Vec<Atom<A>, A>,
+    body: Vec<Atom<A>, A>,
+) -> Result<Query<A>, TextFault>
+    requires posts { length posts.items ≤ MAX_ATOMS }
+    requires some { 1 ≤ length heads.items }
+    requires heads { length heads.items ≤ MAX_ATOMS }
+    requires body { length body.items ≤ MAX_ATOMS }
+    requires bound { IsTrue (binds_both body.items posts.items heads.items) }
+    ensures { Gives (λ query. query) result (Ok (query_record posts.items heads.items body.items)) }
+{
+    match Query::new(alloc, posts, heads, body) {
+        Ok(query) => Ok(query),
         Err(Bad::NoMemory) => Err(TextFault::NoMemory),
         Err(_) => unreachable!(),
     }
@@ -212,10 +234,23 @@ impl<'a, A: Allocator + Copy> Reader<'a, A> {
         }
     }
 
+    /// The fault of a query that has an unbound variable behind this place.
+    fn unbound_fault(&mut self, body: &[Atom<A>]) -> TextFault
+        ensures { Fails result (unbound_fault body.now self.old) }
+    {
+        match self.first_unbound(body) {
+            Ok(offset) => TextFault::At {
+                kind: Kind::Unbound,
+                offset,
+            },
+            Err(fault) => fault,
+        }
+    }
+
     /// The query whose atoms were read behind this place. Where the body lacks a variable of the
     /// postconditions or heads, the first such one is at fault.
     fn bound_query(
-        mut self,
+        &mut self,
         posts: Vec<Atom<A>, A>,
         heads: Vec<Atom<A>, A>,
         body: Vec<Atom<A>, A>,
@@ -224,19 +259,12 @@ impl<'a, A: Allocator + Copy> Reader<'a, A> {
         requires some { 1 ≤ length heads.items }
         requires heads { length heads.items ≤ MAX_ATOMS }
         requires body { length body.items ≤ MAX_ATOMS }
-        ensures { Gives (λ query. query) result (bound_query posts.items heads.items body.items self.entry) }
+        ensures { Gives (λ query. query) result (bound_query posts.items heads.items body.items self.old) }
     {
-        if have_unbound(&body, &posts) || have_unbound(&body, &heads) {
-            let offset = self.first_unbound(&body)?;
-            return Err(TextFault::At {
-                kind: Kind::Unbound,
-                offset,
-            });
-        }
-        match Query::new(self.alloc, posts, heads, body) {
-            Ok(query) => Ok(query),
-            Err(Bad::NoMemory) => Err(TextFault::NoMemory),
-            Err(_) => unreachable!(),
+        if binds_both(&body, &posts, &heads) {
+            new_query(self.alloc, posts, heads, body)
+        } else {
+            Err(self.unbound_fault(&body))
         }
     }
 
@@ -246,7 +274,7 @@ impl<'a, A: Allocator + Copy> Reader<'a, A> {
         ensures { Gives (λ query. query) result (query_at self.old) }
     {
         self.sign(Sign::OpenBrace)?;
-        let behind = self.again();
+        let mut behind = self.again();
         let posts = self.atoms_if_any(Close::By(Sign::CloseBrace))?;
         let heads = self.atoms(Close::By(Sign::Arrow))?;
         let body = self.atoms_if_any(Close::End)?;
