@@ -18,7 +18,6 @@ use Rattle.cq_text.specs.declared.token.Token.TheVariants.{Mark, Word}
 use Rattle.cq_text.specs.Token.{TokenContent, LexemeContent, flaw, tokens_of}
 use Rattle.cq_text.specs.Grammar.{Separated, IsTermText, IsAtomText, AreAtomsIfAny, AreBound, IsRestricted}
 use Rattle.cq_text.specs.Fault.{Place, is_over, behind_token, is_unbound, first_unbound_at}
-use Rattle.cq_text.specs.Steps.Binding.{binds_both}
 use Rattle.cq_text.specs.Steps.Lexemes.{Ahead, fault}
 use Rattle.cq_text.specs.Steps.Lists.{first_unbound_of, first_unbound_from, query_record, bound_query}
 use Rattle.cq_text.proofs.Refusals.{has_unbound, have_unbound, bound_both}

@@ -1,16 +1,17 @@
 -- What stands behind a name that was read.
-use Rattle.std.proofs.Common.{◌≡◌, ℕ, Bool, true, List, Ok, refl, sym, ap, ◌∙◌}
-use Rattle.cq_atom.specs.Atom.{AtomRecord}
+use Rattle.std.proofs.Common.{◌≡◌, ℕ, Bool, true, List, Ok, refl, sym, ap, ◌∙◌, Result, Err}
+use Rattle.cq_atom.specs.Atom.{TermContent, AtomRecord}
 use Rattle.cq_atom.specs.Query.{QueryRecord}
 use Rattle.cq_atom.specs.Value.{ValueContent}
 use Rattle.cq_text.specs.declared.command.CommandKind.TheVariants.{Relation, Post}
 use Rattle.cq_atom.specs.declared.limits.TheConstants.{MAX_ARITY}
 use Rattle.cq_text.specs.declared.token.Close.{Close}
 use Rattle.cq_text.specs.declared.token.Sign.TheVariants.{OpenParen}
-use Rattle.cq_text.specs.Steps.Lexemes.{Ahead, ◌>>=◌, sign_at, end_at, goes_on_at, name_at, relation_name_at}
-use Rattle.cq_text.specs.Steps.Lists.{applied_at, atom_at, values_at, row_record, row_at, query_at}
+use Rattle.cq_text.specs.Steps.Lexemes.{Ahead, ◌>>=◌, sign_at, end_at, goes_on_at, name_at, relation_name_at, Gives}
+use Rattle.cq_text.specs.Steps.Lists.{applied_at, atom_at, values_at, row_record, row_at, query_at, atom_record, terms_at}
 use Rattle.cq_text.specs.Steps.Commands.{count_at, relation_at, post_at}
-use Rattle.std.proofs.Common.{Result}
+use Rattle.cq_text.specs.declared.fault.Kind.{Kind}
+use Rattle.cq_text.specs.declared.fault.TextFault.TheVariants.{At, NoMemory}
 use Rattle.cq_text.specs.declared.fault.TextFault.{TextFault}
 use Rattle.cq_text.proofs.Binds.{bind_assoc, ok_is}
 
@@ -41,3 +42,18 @@ post_by_name a = sym (simp bind_assoc)
 
 pub post_read : (a b : Ahead) (w : List ℕ) (q : QueryRecord) → name_at a ≡ Ok (w, b) → query_at b ≡ Ok q → post_at a ≡ Ok (Post w q)
 post_read a b w q n r = post_by_name a ∙ rw (n, r) refl
+
+applied_by : (w : List ℕ) (a b c : Ahead) (terms : List TermContent) → sign_at OpenParen a ≡ Ok b → terms_at b ≡ Ok (terms, c) → applied_at w a ≡ Ok (atom_record w terms, c)
+unfolding applied_at
+applied_by w a b c terms s t = rw (s, t) refl
+
+with_rest : {A B : Type 0} (r : Result A TextFault) (x : A) (c : B) → Gives (λ (y : A). y) r (Ok x) → Gives {Y = A × B} (λ (y : A). (y, c)) r (Ok (x, c))
+with_rest {A} (Ok y) x c e = ap (λ (z : Result A TextFault). z >>= λ v. Ok (v, c)) e
+with_rest (Err NoMemory) x c e = tt
+with_rest (Err (At kind offset)) x c e = absurd (never_err kind offset x e)
+  where
+    never_err : {A : Type 0} (kind : Kind) (offset : ℕ) (x : A) → ◌≡◌ {A = Result A TextFault} (Ok x) (Err (At kind offset)) → ⊥
+    never_err kind offset x e = cc
+
+pub applied_read : (w : List ℕ) (a b c : Ahead) (terms : List TermContent) (r : Result AtomRecord TextFault) → sign_at OpenParen a ≡ Ok b → terms_at b ≡ Ok (terms, c) → Gives (λ (atom : AtomRecord). atom) r (Ok (atom_record w terms)) → Gives (λ (atom : AtomRecord). (atom, c)) r (applied_at w a)
+applied_read w a b c terms r s t g = rw (applied_by w a b c terms s t) (with_rest r (atom_record w terms) c g)

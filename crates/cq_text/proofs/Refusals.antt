@@ -1,15 +1,12 @@
 -- Atoms that make a query: few enough, and each variable bound.
 use Rattle.std.proofs.Common.{◌≡◌, ℕ, suc, ◌+◌, ◌<◌, ◌≤◌, Bool, true, false, List, [], ◌∷◌, length, None, refl, sym, ◌∙◌, arith, inl, inr}
-use Rattle.std.specs.Prelude.{not, nat_lt, ◌||◌}
-use Rattle.std.specs.List.{list_any, position_or_len}
+use Rattle.std.specs.Prelude.{not, nat_lt, ◌||◌, ◌&&◌}
+use Rattle.std.specs.List.{list_any, position_or_len, list_all}
 use Rattle.std.proofs.lemmas.Bool.{cases_lt, lt-ltb, le-ltb, le-leb}
 use Rattle.cq_atom.specs.declared.fault.Part.{Part}
 use Rattle.cq_atom.specs.declared.fault.Part.TheVariants.{Posts, Heads}
-use Rattle.cq_atom.specs.Atom.{AtomRecord}
-use Rattle.cq_atom.specs.Atom.{TermContent}
+use Rattle.cq_atom.specs.Atom.{AtomRecord, TermContent}
 use Rattle.cq_atom.specs.Query.{is_bound, binds_all, unbound_term, first_unbound, query_fault}
-use Rattle.std.specs.List.{list_all}
-use Rattle.std.specs.Prelude.{◌&&◌}
 use Rattle.cq_text.specs.Steps.Binding.{binds_both}
 
 -- some term of the atom is a variable that the body lacks

@@ -24,10 +24,9 @@ use Rattle.cq_text.specs.declared.token.Token.TheVariants.{Mark, Word, Literal, 
 use Rattle.cq_text.specs.Token.{TokenContent, LexemeContent, flaw}
 use Rattle.cq_text.specs.Grammar.{CommandContent, count_of}
 use Rattle.cq_text.specs.Fault.{Place, opening, most_behind, behind_token, is_over}
-use Rattle.cq_text.specs.Steps.Commands.{command_word, bytes_of}
+use Rattle.cq_text.specs.Steps.Commands.{command_word, bytes_of, count_in, count_at, relation_at, limits_at, withdraw_at, insert_at, delete_at, command_of, command_word_in, post_at, word_alone, command_from, command_at}
 use Rattle.cq_text.specs.Steps.Lexemes.{value_in, Ahead, fault, unless_flawed, ◌>>=◌, next_of, next_at, is_sign, is_finish, name_in, relation_in, term_in, sign_at, end_at, goes_on_at}
 use Rattle.cq_text.specs.Steps.Lists.{value_at, values_at, row_at, Item, listed_at, term_at, terms_at, applied_at, atom_at, atoms_at, atoms_if_any_at, bound_query, query_at}
-use Rattle.cq_text.specs.Steps.Commands.{count_in, count_at, relation_at, limits_at, withdraw_at, insert_at, delete_at, command_of, command_word_in, post_at, word_alone, command_from, command_at}
 use Rattle.cq_text.proofs.Binds.{bind_assoc, bind_same, bind_cond, bind_never, bind_ok_same}
 use Rattle.cq_text.proofs.Commands.{bytes_eq-true, command_word-is}
 use Rattle.cq_text.proofs.Loops.{NeedsRoom, term_needs, value_needs, atom_needs, atoms_to_end}

@@ -23,10 +23,9 @@ use Rattle.cq_text.specs.declared.token.Close.TheVariants.{By, End}
 use Rattle.cq_text.specs.declared.token.Token.TheVariants.{Mark, Word, Literal, Bad, Finish}
 use Rattle.cq_text.specs.Token.{TokenContent, LexemeContent, flaw, tokens_of}
 use Rattle.cq_text.specs.Grammar.{count_of, IsConstant, FitsRowGrammar, IsRestrictedCommand, CommandContent, Separated, IsTermText, IsAtomText, AreAtomsIfAny, IsShort, FewTerms, FitsQuery, FitsGrammar, FitsQueryGrammar}
-use Rattle.cq_text.specs.Steps.Commands.{command_word, bytes_of}
+use Rattle.cq_text.specs.Steps.Commands.{command_word, bytes_of, count_in, count_at, relation_at, limits_at, withdraw_at, insert_at, delete_at, word_alone, command_word_in}
 use Rattle.cq_text.specs.Steps.Lexemes.{value_in, Ahead, fault, unless_flawed, ◌>>=◌, next_of, next_at, is_sign, is_finish, short_word, name_in, relation_in, term_in, sign_at, end_at, is_close, goes_on_at}
 use Rattle.cq_text.specs.Steps.Lists.{value_at, values_at, row_record, row_at, Item, listed_at, term_at, terms_at, applied_at, atom_record, atom_at, atoms_at, atoms_if_any_at, query_record}
-use Rattle.cq_text.specs.Steps.Commands.{count_in, count_at, relation_at, limits_at, withdraw_at, insert_at, delete_at, word_alone, command_word_in}
 use Rattle.cq_text.proofs.Binds.{bind_ok, guard_ok, guard_not, chosen, ok_is, never_ok}
 use Rattle.cq_text.proofs.Loops.{NeedsRoom, term_needs, value_needs, atom_needs}
 use Rattle.cq_text.proofs.Words.{and_parts}

@@ -7,9 +7,8 @@ ghost use Rattle.cq_text.specs.declared.fault.Kind.{Kind};
 ghost use Rattle.cq_text.specs.Grammar.{CommandContent, StandsFor, StandsForQuery, StandsForRow};
 ghost use Rattle.cq_text.specs.Fault.{FirstFault, FirstQueryFault, FirstRowFault, HasOneReading};
 ghost use Rattle.cq_text.specs.Views.{OrNoMemory, IfFault};
-ghost use Rattle.cq_text.specs.Steps.Lists.{row_at};
+ghost use Rattle.cq_text.specs.Steps.Lists.{row_at, query_at};
 ghost use Rattle.cq_text.specs.Steps.Lexemes.{Gives, ahead_of_text};
-ghost use Rattle.cq_text.specs.Steps.Lists.{query_at};
 ghost use Rattle.cq_text.specs.Steps.Commands.{command_at};
 
 mod commands;

@@ -2,9 +2,8 @@
 
 ghost use Rattle.std.specs.Prelude.{◌≡◌};
 ghost use Rattle.cq_text.specs.Grammar.{count_of};
-ghost use Rattle.cq_text.specs.Steps.Commands.{number_in, count_in, count_at, relation_at, limits_at, withdraw_at, insert_at, delete_at, command_word_in, command_word_at};
+ghost use Rattle.cq_text.specs.Steps.Commands.{number_in, count_in, count_at, relation_at, limits_at, withdraw_at, insert_at, delete_at, command_word_in, command_word_at, post_at, word_alone, command_of, command_at};
 ghost use Rattle.cq_text.specs.Steps.Lexemes.{Gives};
-ghost use Rattle.cq_text.specs.Steps.Commands.{post_at, word_alone, command_of, command_at, command_word_at};
 
 use crate::command::{Command, CommandKind, CommandWord};
 use crate::fault::TextFault;

@@ -7,8 +7,7 @@ ghost use Rattle.cq_atom.specs.declared.value.Content.{Content};
 ghost use Rattle.cq_text.specs.Token.{flaw};
 ghost use Rattle.cq_text.specs.declared.fault.Kind.{Kind};
 ghost use Rattle.cq_text.specs.Steps.Words.{is_identifier};
-ghost use Rattle.cq_text.specs.Steps.Lexemes.{word_value, value_in};
-ghost use Rattle.cq_text.specs.Steps.Lexemes.{Gives, is_sign, is_finish, is_close, short_word, word_in, name_in, relation_in, term_in, word_term};
+ghost use Rattle.cq_text.specs.Steps.Lexemes.{word_value, value_in, Gives, is_sign, is_finish, is_close, short_word, word_in, name_in, relation_in, term_in, word_term};
 
 use crate::fault::{Kind, TextFault};
 use crate::token::{Close, Lexeme, Sign, TextLexeme, TextToken, Token};

@@ -3,11 +3,9 @@
 ghost use Rattle.std.specs.Prelude.{◌≤◌, Ok, IfOk, IsTrue, length};
 ghost use Rattle.cq_atom.specs.Text.{is_relation_name};
 ghost use Rattle.cq_atom.specs.Atom.{is_arity};
-ghost use Rattle.cq_text.specs.Steps.Lists.{value_at, values_at, row_record, row_at, next_unbound_at};
-ghost use Rattle.cq_text.specs.Steps.Lexemes.{Gives};
-ghost use Rattle.cq_text.specs.Steps.Lists.{atom_record, term_at, terms_at, applied_at, atom_at, atoms_at, atoms_if_any_at, unbound_at, first_unbound_from, query_record, unbound_fault, bound_query, query_at, next_unbound_at};
+ghost use Rattle.cq_text.specs.Steps.Lists.{value_at, values_at, row_record, row_at, next_unbound_at, atom_record, term_at, terms_at, applied_at, atom_at, atoms_at, atoms_if_any_at, unbound_at, first_unbound_from, query_record, unbound_fault, bound_query, query_at};
+ghost use Rattle.cq_text.specs.Steps.Lexemes.{Gives, Fails};
 ghost use Rattle.cq_text.specs.Steps.Binding.{binds_both};
-ghost use Rattle.cq_text.specs.Steps.Lexemes.{Fails};
 
 use crate::binding::{binds_both, is_unbound};
 use crate::fault::{Kind, TextFault};

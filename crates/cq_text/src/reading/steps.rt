@@ -2,8 +2,7 @@
 
 ghost use Rattle.std.specs.Prelude.{◌≡◌, Ok, IfOk, IsTrue};
 ghost use Rattle.cq_atom.specs.Text.{is_relation_name};
-ghost use Rattle.cq_text.specs.Steps.Lexemes.{next_is_at, passes_at, next_in_list_at, name_at, relation_name_at};
-ghost use Rattle.cq_text.specs.Steps.Lexemes.{Gives, ahead_of_text, next_at, sign_at, end_at, goes_on_at, next_is_at, passes_at, next_in_list_at, name_at, relation_name_at};
+ghost use Rattle.cq_text.specs.Steps.Lexemes.{next_is_at, passes_at, next_in_list_at, name_at, relation_name_at, Gives, ahead_of_text, next_at, sign_at, end_at, goes_on_at};
 
 use crate::fault::TextFault;
 use crate::lexing::{front, spaces_len};
