@@ -22,7 +22,9 @@ use Rattle.cq_text.specs.declared.token.Close.TheVariants.{By, End}
 use Rattle.cq_text.specs.declared.token.Token.TheVariants.{Mark, Word, Literal, Finish}
 use Rattle.cq_text.specs.Token.{TokenContent, LexemeContent, flaw, tokens_of}
 use Rattle.cq_text.specs.Grammar.{count_of, IsConstant, IsRowText, CommandContent, Separated, IsTermText, IsAtomText, AreAtomsIfAny, IsQueryText, FewTerms, FitsQuery, FitsGrammar}
-use Rattle.cq_text.specs.Steps.Reading.{value_in, value_at, values_at, row_at, count_at, relation_at, limits_at, withdraw_at, insert_at, delete_at, word_alone, Ahead, fault, ◌>>=◌, next_of, next_at, is_sign, is_finish, relation_in, term_in, sign_at, end_at, has_more_at, Item, listed_at, term_at, terms_at, applied_at, atom_at, atoms_at, atoms_if_any_at, is_close, goes_on_at}
+use Rattle.cq_text.specs.Steps.Lexemes.{value_in, Ahead, fault, ◌>>=◌, next_of, next_at, is_sign, is_finish, relation_in, term_in, sign_at, end_at, is_close, goes_on_at}
+use Rattle.cq_text.specs.Steps.Lists.{value_at, values_at, row_at, Item, listed_at, term_at, terms_at, applied_at, atom_at, atoms_at, atoms_if_any_at}
+use Rattle.cq_text.specs.Steps.Commands.{count_at, relation_at, limits_at, withdraw_at, insert_at, delete_at, word_alone}
 use Rattle.cq_text.proofs.Derive.{is_sign-same}
 use Rattle.cq_text.proofs.Runs.{parts_at, posted, whole, post_parts, command_parts}
 use Rattle.cq_text.proofs.Taken.{AreShort, ahead, closing}
@@ -102,10 +104,10 @@ listed_again P Q close item n xs inner rest a one e p h le fits =
 record IsClose (close : Sign) : Type 0 where
   pub apart : is_sign Comma (Mark close) ≡ false
 
-has_more_again : (close : Sign) (a : Ahead) (more : Bool) (ts : List TokenContent) → IsClose close → ahead a ≡ Mark (cond more Comma close) ∷ ts → (b : Ahead) × (has_more_at close a ≡ Ok (more, b)) × (ahead b ≡ ts)
+goes_on_again : (close : Sign) (a : Ahead) (more : Bool) (ts : List TokenContent) → IsClose close → ahead a ≡ Mark (cond more Comma close) ∷ ts → (b : Ahead) × (goes_on_at (By close) a ≡ Ok (more, b)) × (ahead b ≡ ts)
 unfolding goes_on_at
-has_more_again close a true ts k e = let n = next_is a (Mark Comma) ts e refl in (n.rest, rw (n.reads, n.is) refl, n.left)
-has_more_again close a false ts k e = let n = next_is a (Mark close) ts e refl in (n.rest, rw (n.reads, n.is, k.apart, is_sign-same close) refl, n.left)
+goes_on_again close a true ts k e = let n = next_is a (Mark Comma) ts e refl in (n.rest, rw (n.reads, n.is) refl, n.left)
+goes_on_again close a false ts k e = let n = next_is a (Mark close) ts e refl in (n.rest, rw (n.reads, n.is, k.apart, is_sign-same close) refl, n.left)
 
 -- what closes a list is no comma
 abbrev Closable : Close → Type 0
@@ -131,7 +133,7 @@ next_nothing a e = over a.lexemes refl e
 
 goes_on_last : (close : Close) (a : Ahead) (ts : List TokenContent) → Closable close → ahead a ≡ closing close ts → (b : Ahead) × (goes_on_at close a ≡ Ok (false, b)) × (ahead b ≡ left_by close ts)
 unfolding goes_on_at
-goes_on_last (By close) a ts k e = has_more_again close a false ts k e
+goes_on_last (By close) a ts k e = goes_on_again close a false ts k e
 goes_on_last End a ts k e = let n = next_nothing a e in (n.1, rw (n.2, n.3) refl, n.4)
 
 -- ---- terms
@@ -165,7 +167,7 @@ unfolding term_at
 term_again a front ts x more e p h fits =
     let o = term_is front x p h in
     let n = next_is a o.token (Mark (cond more Comma CloseParen) ∷ ts) (e ∙ ap (λ (i : List TokenContent). i ++ (Mark (cond more Comma CloseParen) ∷ ts)) o.is) o.good in
-    let m = has_more_again CloseParen n.rest more ts (record { apart = refl }) n.left in
+    let m = goes_on_again CloseParen n.rest more ts (record { apart = refl }) n.left in
     (m.0, rw (n.reads, n.is, o.gives n.lexeme.at, m.1) refl, m.2)
 
 all_terms : (xs : List TermContent) → AllByRecursion AnyTerm xs
@@ -200,7 +202,7 @@ unfolding value_at
 value_again a front ts v more e p h fits =
     let o = value_is front v p h in
     let n = next_is a o.token (Mark (cond more Comma CloseParen) ∷ ts) (e ∙ ap (λ (i : List TokenContent). i ++ (Mark (cond more Comma CloseParen) ∷ ts)) o.is) o.good in
-    let m = has_more_again CloseParen n.rest more ts (record { apart = refl }) n.left in
+    let m = goes_on_again CloseParen n.rest more ts (record { apart = refl }) n.left in
     (m.0, rw (n.reads, n.is, o.gives n.lexeme.at, m.1) refl, m.2)
 
 all_values : (vs : List ValueContent) → AllByRecursion AnyValue vs

@@ -2,7 +2,7 @@
 use Rattle.std.proofs.Common.{◌≡◌, ℕ, Bool, true, false, cond, Result, Ok, Err, refl, inl, inr, ◌⊎◌}
 use Rattle.cq_text.specs.declared.fault.Kind.{Kind}
 use Rattle.cq_text.specs.declared.fault.TextFault.{TextFault}
-use Rattle.cq_text.specs.Steps.Reading.{fault, ◌>>=◌}
+use Rattle.cq_text.specs.Steps.Lexemes.{fault, ◌>>=◌}
 
 pub bind_assoc : {A B C : Type 0} (r : Result A TextFault) (f : A → Result B TextFault) (g : B → Result C TextFault) → ((r >>= f) >>= g) ≡ (r >>= λ x. f x >>= g)
 bind_assoc (Ok x) f g = refl

@@ -18,8 +18,9 @@ use Rattle.cq_text.specs.declared.token.Token.TheVariants.{Mark, Word}
 use Rattle.cq_text.specs.Token.{TokenContent, LexemeContent, flaw, tokens_of}
 use Rattle.cq_text.specs.Grammar.{Separated, IsTermText, IsAtomText, AreAtomsIfAny, AreBound, IsRestricted}
 use Rattle.cq_text.specs.Fault.{Place, is_over, behind_token, is_unbound, first_unbound_at}
-use Rattle.cq_text.specs.Steps.Binding.{has_unbound, have_unbound}
-use Rattle.cq_text.specs.Steps.Reading.{Ahead, fault, first_unbound_of, first_unbound_from, query_record, bound_query}
+use Rattle.cq_text.specs.Steps.Lexemes.{Ahead, fault}
+use Rattle.cq_text.specs.Steps.Lists.{first_unbound_of, first_unbound_from, query_record, bound_query}
+use Rattle.cq_text.proofs.Refusals.{has_unbound, have_unbound, bound_both}
 use Rattle.cq_text.proofs.Machine.{Symbol, take_token}
 use Rattle.cq_text.proofs.Scan.{on_token, after_flaw, scan}
 use Rattle.cq_text.proofs.Runs.{QueryParts}
@@ -201,11 +202,11 @@ pub record SomeUnbound (q : QueryParts) : Type 0 where
 all_bound : (q : QueryParts) → any q.2 (ahead q.3) ≡ some_lack q → some_lack q ≡ false → AllBound q
 all_bound q e b =
     let n = or_none (have_unbound q.2 q.0) (have_unbound q.2 q.1) b in
-    record { read = rw b refl; restricted = (are_bound q.2 q.0 n.0, are_bound q.2 q.1 n.1); nowhere = walk_none q.2 q.3.lexemes (e ∙ b) }
+    record { read = rw (bound_both q.2 q.0 q.1, b) refl; restricted = (are_bound q.2 q.0 n.0, are_bound q.2 q.1 n.1); nowhere = walk_none q.2 q.3.lexemes (e ∙ b) }
 
 unbound_read : (q : QueryParts) (offset : ℕ) → some_lack q ≡ true → first_unbound_of q.2 q.3.lexemes q.3.end ≡ Ok offset → bound_query q.0 q.1 q.2 q.3 ≡ fault Unbound offset
 unfolding first_unbound_from
-unbound_read q offset b w = rw (b, w) refl
+unbound_read q offset b w = rw (bound_both q.2 q.0 q.1, b, w) refl
 
 contradiction : (q : QueryParts) → some_lack q ≡ true → have_unbound q.2 q.0 ≡ false → have_unbound q.2 q.1 ≡ false → ⊥
 contradiction q b x y = true_false (sym b ∙ rw (x, y) refl)

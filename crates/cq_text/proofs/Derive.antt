@@ -18,7 +18,7 @@ use Rattle.cq_text.specs.Token.{TokenContent, flaw}
 use Rattle.cq_text.specs.Grammar.{CommandContent, IsConstant, IsTermText, IsAtomText, AreAtomsIfAny, IsSentence, count_of, Separated}
 use Rattle.cq_text.specs.Fault.{IsCommandText, IsLoneQuery, IsLoneRow}
 use Rattle.cq_text.specs.Steps.Commands.{command_word, bytes_of}
-use Rattle.cq_text.specs.Steps.Reading.{code, is_sign, is_finish}
+use Rattle.cq_text.specs.Steps.Lexemes.{code, is_sign, is_finish}
 use Rattle.cq_text.proofs.Commands.{command_word-is}
 use Rattle.cq_text.proofs.Machine.{upper, number, value, values_end, row_symbols, after_command, first_upper, first_number, first_value, Symbol, mark, name, term, terms_end, atom, posts_end, heads_end, posts, command, atom_symbols, query_symbols, when, first_of_atom, first_term, first_name, first_in_list, first_command, first, take_token, Closed, Tail, Is, Expects, Expects-append, Expects-split, body_end, body, is_nullable, Rest, Holds, OnlyLast, Ordered, is_last}
 

@@ -16,7 +16,9 @@ use Rattle.cq_text.specs.Lexing.{is_space, is_blank, front, lexemes, lexemes_of}
 use Rattle.cq_text.specs.Grammar.{FitsRowGrammar, StandsForRow, CommandContent, IsSentence, FitsGrammar, FitsQueryGrammar, StandsFor, StandsForQuery, IsRestricted, IsRestrictedCommand}
 use Rattle.cq_text.specs.Fault.{IsLoneRow, UnboundInRow, FirstRowFault, IsCommandText, IsLoneQuery, opening, place_behind, FirstTokenFault, first_unbound_at, behind_brace, UnboundInCommand, UnboundInQuery, FirstFault, FirstQueryFault}
 use Rattle.cq_text.specs.Views.{OrNoMemory, IfFault}
-use Rattle.cq_text.specs.Steps.Reading.{row_at, Ahead, Gives, fault, ◌>>=◌, ahead_of_text, bound_query, query_at, command_at}
+use Rattle.cq_text.specs.Steps.Lists.{row_at, bound_query, query_at}
+use Rattle.cq_text.specs.Steps.Lexemes.{Ahead, Gives, fault, ◌>>=◌, ahead_of_text}
+use Rattle.cq_text.specs.Steps.Commands.{command_at}
 use Rattle.cq_text.proofs.Binds.{bind_ok, ok_is, never_ok}
 use Rattle.cq_text.proofs.Machine.{command, row_symbols, query_symbols}
 use Rattle.cq_text.proofs.Derive.{row_expected, row_from_expected, query_expected, query_from_expected, Is-from_one, Expects-one}

@@ -1,11 +1,10 @@
 -- The lexemes of a text, a step at a time.
-use Rattle.std.proofs.Common.{◌≡◌, ℕ, zero, suc, ◌+◌, ◌-◌, ◌<◌, ◌≤◌, Bool, true, false, cond, List, [], ◌∷◌, length, drop, Ok, refl, sym, ap, ◌∙◌, arith}
+use Rattle.std.proofs.Common.{◌≡◌, ℕ, zero, suc, ◌+◌, ◌-◌, ◌<◌, ◌≤◌, Bool, true, false, cond, List, [], ◌∷◌, length, drop, Ok, refl, sym, ap, ◌∙◌, arith, None, Some}
 use Rattle.std.specs.List.{prefix_len}
 use Rattle.std.proofs.lemmas.List.{drop-drop, length-drop}
-use Rattle.std.proofs.Common.{None, Some}
 use Rattle.cq_text.specs.declared.token.Token.TheVariants.{Finish}
 use Rattle.cq_text.specs.Token.{TokenContent, LexemeContent, flaw}
-use Rattle.cq_text.specs.Steps.Reading.{Ahead, next_of, next_at, fault}
+use Rattle.cq_text.specs.Steps.Lexemes.{Ahead, next_of, next_at, fault}
 use Rattle.cq_text.specs.Steps.Lexing.{front_of}
 use Rattle.cq_text.specs.declared.fault.Kind.{Kind}
 use Rattle.std.specs.Prelude.{◌==◌}

@@ -9,6 +9,7 @@ pub mod Laws
 pub mod Lexemes
 pub mod Loops
 pub mod Machine
+pub mod Names
 pub mod Numbers
 pub mod OneReading
 pub mod Quotes

@@ -6,7 +6,8 @@ use Rattle.cq_text.specs.declared.fault.Kind.TheVariants.{Limit, Shape}
 use Rattle.cq_text.specs.declared.fault.Kind.{Kind}
 use Rattle.cq_text.specs.declared.fault.TextFault.{TextFault}
 use Rattle.cq_text.specs.declared.fault.TextFault.TheVariants.{At, NoMemory}
-use Rattle.cq_text.specs.Steps.Reading.{Ahead, Fails, Item, ◌>>=◌, next_at, term_in, value_in, relation_in, listed_at, term_at, value_at, atom_at, unless_flawed, next_of, is_sign, is_finish, goes_on_at, applied_at, atoms_at, atoms_if_any_at}
+use Rattle.cq_text.specs.Steps.Lexemes.{Ahead, Fails, ◌>>=◌, next_at, term_in, value_in, relation_in, unless_flawed, next_of, is_sign, is_finish, goes_on_at}
+use Rattle.cq_text.specs.Steps.Lists.{Item, listed_at, term_at, value_at, atom_at, applied_at, atoms_at, atoms_if_any_at}
 use Rattle.cq_text.proofs.Binds.{bind_never, bind_ok, never_ok, ok_is, guard_ok, chosen}
 use Rattle.cq_text.specs.declared.token.Close.{Close}
 use Rattle.cq_text.specs.declared.token.Close.TheVariants.{End}

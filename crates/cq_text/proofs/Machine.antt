@@ -15,7 +15,8 @@ use Rattle.cq_text.specs.declared.token.Token.TheVariants.{Mark, Word, Literal, 
 use Rattle.cq_text.specs.Token.{TokenContent}
 use Rattle.cq_text.specs.Grammar.{Separated, IsConstant, IsTermText, IsAtomText, AreAtomsIfAny}
 use Rattle.cq_text.specs.Fault.{IsCommandText}
-use Rattle.cq_text.specs.Steps.Reading.{is_sign, command_word_in, is_finish}
+use Rattle.cq_text.specs.Steps.Lexemes.{is_sign, is_finish}
+use Rattle.cq_text.specs.Steps.Commands.{command_word_in}
 
 pub data Symbol : Type 0 where
   mark : Sign → Symbol

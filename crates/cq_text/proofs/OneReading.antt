@@ -16,7 +16,9 @@ use Rattle.cq_text.specs.Lexing.{is_blank}
 use Rattle.cq_text.specs.Grammar.{CommandContent, StandsFor, StandsForQuery, StandsForRow}
 use Rattle.cq_text.specs.Fault.{Place, opening, is_over, behind_token, FirstFault, FirstQueryFault, FirstRowFault, HasOneReading}
 use Rattle.cq_text.specs.Views.{OrNoMemory, IfFault}
-use Rattle.cq_text.specs.Steps.Reading.{Ahead, Gives, fault, ◌>>=◌, ahead_of_text, query_at, row_at, command_at}
+use Rattle.cq_text.specs.Steps.Lexemes.{Ahead, Gives, fault, ◌>>=◌, ahead_of_text}
+use Rattle.cq_text.specs.Steps.Lists.{query_at, row_at}
+use Rattle.cq_text.specs.Steps.Commands.{command_at}
 use Rattle.cq_text.proofs.Machine.{is_nullable, Symbol, command, row_symbols, query_symbols, take_token}
 use Rattle.cq_text.proofs.Scan.{on_token, at_end, after_flaw, scan}
 use Rattle.cq_text.proofs.Runs.{QueryParts, parts_at, query_by_parts, run_query, Parts, posted, whole, command_of_parts, command_parts, command_by_parts, run_command, run_row}

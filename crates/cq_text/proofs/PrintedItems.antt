@@ -26,3 +26,14 @@ module _ {X : Type 0} (f : X → List ℕ) where
       let two : (start ++ join (take i xs)) ++ separator_at i ≡ start ++ (join (take i xs) ++ separator_at i) = append_assoc start (join (take i xs)) (separator_at i) in
       g ∙ ap (λ o. o ++ f x) (b ∙ ap (λ o. o ++ separator_at i) e ∙ two) ∙ append_assoc start (join (take i xs) ++ separator_at i) (f x) ∙ ap (λ y. start ++ ((join (take i xs) ++ separator_at i) ++ f y)) at
       ∙ ap (λ l. start ++ l) (behind xs i x lt ∙ ap (λ k. join (take k xs)) next)
+
+-- parts that are written one after another
+more : (o x y s : List ℕ) → s ≡ o ++ x → s ++ y ≡ o ++ (x ++ y)
+more o x y s e = ap (λ z. z ++ y) e ∙ append_assoc o x y
+
+pub four_parts : (o a b c d : List ℕ) → (((o ++ a) ++ b) ++ c) ++ d ≡ o ++ (((a ++ b) ++ c) ++ d)
+four_parts o a b c d = more o ((a ++ b) ++ c) d (((o ++ a) ++ b) ++ c) (more o (a ++ b) c ((o ++ a) ++ b) (append_assoc o a b))
+
+pub six_parts : (o a b c d e f : List ℕ) → (((((o ++ a) ++ b) ++ c) ++ d) ++ e) ++ f ≡ o ++ (((((a ++ b) ++ c) ++ d) ++ e) ++ f)
+six_parts o a b c d e f =
+    more o ((((a ++ b) ++ c) ++ d) ++ e) f (((((o ++ a) ++ b) ++ c) ++ d) ++ e) (more o (((a ++ b) ++ c) ++ d) e ((((o ++ a) ++ b) ++ c) ++ d) (four_parts o a b c d))

@@ -24,8 +24,9 @@ use Rattle.cq_text.specs.declared.token.Token.TheVariants.{Mark, Word, Literal, 
 use Rattle.cq_text.specs.Token.{TokenContent, LexemeContent, flaw}
 use Rattle.cq_text.specs.Grammar.{CommandContent, count_of}
 use Rattle.cq_text.specs.Fault.{Place, opening, most_behind, behind_token, is_over}
-use Rattle.cq_text.specs.Steps.Commands.{command_word, bytes_of}
-use Rattle.cq_text.specs.Steps.Reading.{value_in, value_at, values_at, row_at, count_in, count_at, relation_at, limits_at, withdraw_at, insert_at, delete_at, command_of, command_word_in, Ahead, fault, unless_flawed, ◌>>=◌, next_of, next_at, is_sign, is_finish, name_in, relation_in, term_in, sign_at, end_at, has_more_at, Item, listed_at, term_at, terms_at, applied_at, atom_at, atoms_at, atoms_if_any_at, bound_query, query_at, post_at, word_alone, command_from, command_at, goes_on_at}
+use Rattle.cq_text.specs.Steps.Commands.{command_word, bytes_of, count_in, count_at, relation_at, limits_at, withdraw_at, insert_at, delete_at, command_of, command_word_in, post_at, word_alone, command_from, command_at}
+use Rattle.cq_text.specs.Steps.Lexemes.{value_in, Ahead, fault, unless_flawed, ◌>>=◌, next_of, next_at, is_sign, is_finish, name_in, relation_in, term_in, sign_at, end_at, goes_on_at}
+use Rattle.cq_text.specs.Steps.Lists.{value_at, values_at, row_at, Item, listed_at, term_at, terms_at, applied_at, atom_at, atoms_at, atoms_if_any_at, bound_query, query_at}
 use Rattle.cq_text.proofs.Binds.{bind_assoc, bind_same, bind_cond, bind_never, bind_ok_same}
 use Rattle.cq_text.proofs.Commands.{bytes_eq-true, command_word-is}
 use Rattle.cq_text.proofs.Loops.{NeedsRoom, term_needs, value_needs, atom_needs, atoms_to_end}
@@ -242,7 +243,7 @@ meet_in_list item again x close ss p t at r false false f apart e g = rw (list_n
 -- behind an item
 run_in_list : (item again x : Symbol) (close : Sign) (ss : List Symbol) (p next done : Place) (a : Ahead)
     → ((u : TokenContent) → first x u ≡ first_in_list item again close u) → is_sign Comma (Mark close) ≡ false → behind_token p (Mark Comma) ≡ next → behind_token p (Mark close) ≡ done
-    → run (x ∷ ss) p a ≡ (has_more_at close a >>= λ m. cond m.0 (run (item ∷ again ∷ ss) next m.1) (run ss done m.1))
+    → run (x ∷ ss) p a ≡ (goes_on_at (By close) a >>= λ m. cond m.0 (run (item ∷ again ∷ ss) next m.1) (run ss done m.1))
 unfolding goes_on_at
 run_in_list item again x close ss p next done a f apart n d =
     run_by x ss p a (λ s. cond (is_sign Comma s.0.token) (run (item ∷ again ∷ ss) next s.1) (cond (is_sign close s.0.token) (run ss done s.1) (fault Shape s.0.at)))

@@ -9,7 +9,7 @@ use Rattle.cq_text.specs.declared.fault.TextFault.TheVariants.{At, NoMemory}
 use Rattle.cq_text.specs.declared.token.Token.TheVariants.{Mark, Word, Literal, Bad, Finish}
 use Rattle.cq_text.specs.Token.{TokenContent, LexemeContent, flaw}
 use Rattle.cq_text.specs.Fault.{IsViable, Place, opening, behind_token, place_behind, is_over, IsFault, FirstTokenFault}
-use Rattle.cq_text.specs.Steps.Reading.{fault}
+use Rattle.cq_text.specs.Steps.Lexemes.{fault}
 use Rattle.cq_text.proofs.Machine.{Symbol, mark, name, upper, number, value, values_end, term, terms_end, atom, posts_end, heads_end, posts, command, take_token, Expects, first, body_end, body, is_nullable, Holds, Ordered, Ordered-step}
 use Rattle.cq_text.proofs.Derive.{take_token-from_expects, expects_from_take_token, completion, Is-nothing, Leaves-from_is, nothing_after}
 

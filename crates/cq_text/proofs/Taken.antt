@@ -23,8 +23,9 @@ use Rattle.cq_text.specs.declared.token.Close.TheVariants.{By, End}
 use Rattle.cq_text.specs.declared.token.Token.TheVariants.{Mark, Word, Literal, Bad, Finish}
 use Rattle.cq_text.specs.Token.{TokenContent, LexemeContent, flaw, tokens_of}
 use Rattle.cq_text.specs.Grammar.{count_of, IsConstant, FitsRowGrammar, IsRestrictedCommand, CommandContent, Separated, IsTermText, IsAtomText, AreAtomsIfAny, IsShort, FewTerms, FitsQuery, FitsGrammar, FitsQueryGrammar}
-use Rattle.cq_text.specs.Steps.Commands.{command_word, bytes_of}
-use Rattle.cq_text.specs.Steps.Reading.{value_in, value_at, values_at, row_record, row_at, count_in, count_at, relation_at, limits_at, withdraw_at, insert_at, delete_at, word_alone, command_word_in, Ahead, fault, unless_flawed, ◌>>=◌, next_of, next_at, is_sign, is_finish, short_word, name_in, relation_in, term_in, sign_at, end_at, has_more_at, Item, listed_at, term_at, terms_at, applied_at, atom_record, atom_at, atoms_at, atoms_if_any_at, query_record, is_close, goes_on_at}
+use Rattle.cq_text.specs.Steps.Commands.{command_word, bytes_of, count_in, count_at, relation_at, limits_at, withdraw_at, insert_at, delete_at, word_alone, command_word_in}
+use Rattle.cq_text.specs.Steps.Lexemes.{value_in, Ahead, fault, unless_flawed, ◌>>=◌, next_of, next_at, is_sign, is_finish, short_word, name_in, relation_in, term_in, sign_at, end_at, is_close, goes_on_at}
+use Rattle.cq_text.specs.Steps.Lists.{value_at, values_at, row_record, row_at, Item, listed_at, term_at, terms_at, applied_at, atom_record, atom_at, atoms_at, atoms_if_any_at, query_record}
 use Rattle.cq_text.proofs.Binds.{bind_ok, guard_ok, guard_not, chosen, ok_is, never_ok}
 use Rattle.cq_text.proofs.Loops.{NeedsRoom, term_needs, value_needs, atom_needs}
 use Rattle.cq_text.proofs.Words.{and_parts}
@@ -142,9 +143,6 @@ goes_on_ok End a m e =
           next_end a p.0.0 p.0.1 p.1 g.0 ∙ ap (λ (n : Bool × Ahead). after End n.0 (ahead n.1)) g.1
     ]
 
-has_more_ok : (close : Sign) (a : Ahead) (m : Bool × Ahead) → has_more_at close a ≡ Ok m → ahead a ≡ Mark (cond m.0 Comma close) ∷ ahead m.1
-has_more_ok close a m e = goes_on_ok (By close) a m e
-
 -- ---- words and terms
 
 short_ok : (w v : List ℕ) (at : ℕ) → short_word w at ≡ Ok v → (length w ≤ 32) × (w ≡ v)
@@ -219,7 +217,7 @@ term_in_ok Finish at x e = absurd (never_ok Shape at x e)
 -- ---- lists
 
 -- an item that was read, with what stands behind it
-pub record ItemReadTo {A : Type 0} (P : List TokenContent → A → Type 0) (Q : A → Type 0) (close : Close) (a : Ahead) (i : A × Bool × Ahead) : Type 0 where
+pub record ItemRead {A : Type 0} (P : List TokenContent → A → Type 0) (Q : A → Type 0) (close : Close) (a : Ahead) (i : A × Bool × Ahead) : Type 0 where
   pub front : List TokenContent
   pub parts : ahead a ≡ front ++ after close i.1 (ahead i.2)
   pub is : P front i.0
@@ -227,7 +225,7 @@ pub record ItemReadTo {A : Type 0} (P : List TokenContent → A → Type 0) (Q :
   pub fits : Q i.0
 
 -- the items that were read, up to what closes the list
-pub record ListedTo {A : Type 0} (P : List TokenContent → A → Type 0) (Q : A → Type 0) (close : Close) (n : ℕ) (a : Ahead) (r : List A × Ahead) : Type 0 where
+pub record Listed {A : Type 0} (P : List TokenContent → A → Type 0) (Q : A → Type 0) (close : Close) (n : ℕ) (a : Ahead) (r : List A × Ahead) : Type 0 where
   pub inner : List TokenContent
   pub parts : ahead a ≡ inner ++ closing close (ahead r.1)
   pub separated : Separated P inner r.0
@@ -235,7 +233,7 @@ pub record ListedTo {A : Type 0} (P : List TokenContent → A → Type 0) (Q : A
   pub few : length r.0 ≤ n
   pub fits : AllByRecursion Q r.0
 
-one_item : {A : Type 0} (P : List TokenContent → A → Type 0) (Q : A → Type 0) (close : Close) (n : ℕ) (a : Ahead) (i : A × Bool × Ahead) → ItemReadTo P Q close a i → i.1 ≡ false → ListedTo P Q close (suc n) a (i.0 ∷ [], i.2)
+one_item : {A : Type 0} (P : List TokenContent → A → Type 0) (Q : A → Type 0) (close : Close) (n : ℕ) (a : Ahead) (i : A × Bool × Ahead) → ItemRead P Q close a i → i.1 ≡ false → Listed P Q close (suc n) a (i.0 ∷ [], i.2)
 one_item P Q close n a i r e = record {
   inner = r.front;
   parts = r.parts ∙ ap (λ (b : Bool). r.front ++ after close b (ahead i.2)) e ∙ ap (λ (m : List TokenContent). r.front ++ m) (after_last close (ahead i.2));
@@ -245,7 +243,7 @@ one_item P Q close n a i r e = record {
   fits = (r.fits, tt);
 }
 
-more_items : {A : Type 0} (P : List TokenContent → A → Type 0) (Q : A → Type 0) (close : Close) (n : ℕ) (a : Ahead) (i : A × Bool × Ahead) (xs : List A) (b : Ahead) → ItemReadTo P Q close a i → i.1 ≡ true → ListedTo P Q close n i.2 (xs, b) → ListedTo P Q close (suc n) a (i.0 ∷ xs, b)
+more_items : {A : Type 0} (P : List TokenContent → A → Type 0) (Q : A → Type 0) (close : Close) (n : ℕ) (a : Ahead) (i : A × Bool × Ahead) (xs : List A) (b : Ahead) → ItemRead P Q close a i → i.1 ≡ true → Listed P Q close n i.2 (xs, b) → Listed P Q close (suc n) a (i.0 ∷ xs, b)
 more_items P Q close n a i [] b r e l = absurd l.separated
 more_items P Q close n a i (y ∷ ys) b r e l = record {
   inner = r.front ++ (Mark Comma ∷ l.inner);
@@ -256,50 +254,39 @@ more_items P Q close n a i (y ∷ ys) b r e l = record {
   fits = (r.fits, l.fits);
 }
 
-listed_to_ok : {A : Type 0} (P : List TokenContent → A → Type 0) (Q : A → Type 0) (close : Close) (item : Item A) (n : ℕ) (a : Ahead) (r : List A × Ahead)
-    → ((b : Ahead) (i : A × Bool × Ahead) → item true b ≡ Ok i → ItemReadTo P Q close b i) → NeedsRoom item → listed_at item n a ≡ Ok r → ListedTo P Q close n a r
+listed_ok : {A : Type 0} (P : List TokenContent → A → Type 0) (Q : A → Type 0) (close : Close) (item : Item A) (n : ℕ) (a : Ahead) (r : List A × Ahead)
+    → ((b : Ahead) (i : A × Bool × Ahead) → item true b ≡ Ok i → ItemRead P Q close b i) → NeedsRoom item → listed_at item n a ≡ Ok r → Listed P Q close n a r
 unfolding listed_at
-listed_to_ok P Q close item zero a r one needs e = let p = bind_ok (item false a) _ r e in absurd (needs a p.0 p.1)
-listed_to_ok {A} P Q close item (suc n) a r one needs e =
+listed_ok P Q close item zero a r one needs e = let p = bind_ok (item false a) _ r e in absurd (needs a p.0 p.1)
+listed_ok {A} P Q close item (suc n) a r one needs e =
     let p = bind_ok (item true a) _ r e in
     elim (chosen p.0.1 _ _ r p.2) [
       | inl (h, m) ↦
           let q = bind_ok (listed_at item n p.0.2) _ r m in
-          subst (λ (z : List A × Ahead). ListedTo P Q close (suc n) a z) (ok_is (p.0.0 ∷ q.0.0, q.0.1) r q.2)
-          (more_items P Q close n a p.0 q.0.0 q.0.1 (one a p.0 p.1) h (listed_to_ok P Q close item n p.0.2 q.0 one needs q.1))
-      | inr (h, m) ↦ subst (λ (z : List A × Ahead). ListedTo P Q close (suc n) a z) (ok_is (p.0.0 ∷ [], p.0.2) r m) (one_item P Q close n a p.0 (one a p.0 p.1) h)
+          subst (λ (z : List A × Ahead). Listed P Q close (suc n) a z) (ok_is (p.0.0 ∷ q.0.0, q.0.1) r q.2)
+          (more_items P Q close n a p.0 q.0.0 q.0.1 (one a p.0 p.1) h (listed_ok P Q close item n p.0.2 q.0 one needs q.1))
+      | inr (h, m) ↦ subst (λ (z : List A × Ahead). Listed P Q close (suc n) a z) (ok_is (p.0.0 ∷ [], p.0.2) r m) (one_item P Q close n a p.0 (one a p.0 p.1) h)
     ]
-
--- the same where a sign closes
-abbrev pub ItemRead : {A : Type 0} → (List TokenContent → A → Type 0) → (A → Type 0) → Sign → Ahead → A × Bool × Ahead → Type 0
-ItemRead P Q close a i = ItemReadTo P Q (By close) a i
-
-abbrev pub Listed : {A : Type 0} → (List TokenContent → A → Type 0) → (A → Type 0) → Sign → ℕ → Ahead → List A × Ahead → Type 0
-Listed P Q close n a r = ListedTo P Q (By close) n a r
-
-listed_ok : {A : Type 0} (P : List TokenContent → A → Type 0) (Q : A → Type 0) (close : Sign) (item : Item A) (n : ℕ) (a : Ahead) (r : List A × Ahead)
-    → ((b : Ahead) (i : A × Bool × Ahead) → item true b ≡ Ok i → ItemRead P Q close b i) → NeedsRoom item → listed_at item n a ≡ Ok r → Listed P Q close n a r
-listed_ok P Q close item n a r one needs e = listed_to_ok P Q (By close) item n a r one needs e
 
 abbrev AnyTerm : TermContent → Type 0
 AnyTerm x = Unit {0}
 
 abbrev TermRead : Ahead → TermContent × Bool × Ahead → Type 0
-TermRead a i = ItemRead IsTermText AnyTerm CloseParen a i
+TermRead a i = ItemRead IsTermText AnyTerm (By CloseParen) a i
 
 term_ok : (a : Ahead) (i : TermContent × Bool × Ahead) → term_at true a ≡ Ok i → TermRead a i
 unfolding term_at
 term_ok a i e =
     let p = bind_ok (next_at a) _ i e in
     let q = bind_ok (term_in p.0.0.token p.0.0.at) _ i p.2 in
-    let m = bind_ok (has_more_at CloseParen p.0.1) _ i q.2 in
+    let m = bind_ok (goes_on_at (By CloseParen) p.0.1) _ i q.2 in
     let t = term_in_ok p.0.0.token p.0.0.at q.0 q.1 in
     subst (λ (z : TermContent × Bool × Ahead). TermRead a z) (ok_is (q.0, m.0.0, m.0.1) i m.2)
-    (record { front = p.0.0.token ∷ []; parts = next_token a p.0.0 p.0.1 p.1 t.no_end ∙ ap (λ (ts : List TokenContent). p.0.0.token ∷ ts) (has_more_ok CloseParen p.0.1 m.0 m.1); is = t.is; short = t.short; fits = tt })
+    (record { front = p.0.0.token ∷ []; parts = next_token a p.0.0 p.0.1 p.1 t.no_end ∙ ap (λ (ts : List TokenContent). p.0.0.token ∷ ts) (goes_on_ok (By CloseParen) p.0.1 m.0 m.1); is = t.is; short = t.short; fits = tt })
 
-terms_ok : (a : Ahead) (r : List TermContent × Ahead) → terms_at a ≡ Ok r → Listed IsTermText AnyTerm CloseParen 8 a r
+terms_ok : (a : Ahead) (r : List TermContent × Ahead) → terms_at a ≡ Ok r → Listed IsTermText AnyTerm (By CloseParen) 8 a r
 unfolding terms_at
-terms_ok a r e = listed_ok IsTermText AnyTerm CloseParen term_at 8 a r term_ok term_needs e
+terms_ok a r e = listed_ok IsTermText AnyTerm (By CloseParen) term_at 8 a r term_ok term_needs e
 
 -- ---- ground atoms
 
@@ -330,21 +317,21 @@ abbrev AnyValue : ValueContent → Type 0
 AnyValue v = Unit {0}
 
 abbrev ValueRead : Ahead → ValueContent × Bool × Ahead → Type 0
-ValueRead a i = ItemRead IsConstant AnyValue CloseParen a i
+ValueRead a i = ItemRead IsConstant AnyValue (By CloseParen) a i
 
 value_ok : (a : Ahead) (i : ValueContent × Bool × Ahead) → value_at true a ≡ Ok i → ValueRead a i
 unfolding value_at
 value_ok a i e =
     let p = bind_ok (next_at a) _ i e in
     let q = bind_ok (value_in p.0.0.token p.0.0.at) _ i p.2 in
-    let m = bind_ok (has_more_at CloseParen p.0.1) _ i q.2 in
+    let m = bind_ok (goes_on_at (By CloseParen) p.0.1) _ i q.2 in
     let v = value_in_ok p.0.0.token p.0.0.at q.0 q.1 in
     subst (λ (z : ValueContent × Bool × Ahead). ValueRead a z) (ok_is (q.0, m.0.0, m.0.1) i m.2)
-    (record { front = p.0.0.token ∷ []; parts = next_token a p.0.0 p.0.1 p.1 v.no_end ∙ ap (λ (ts : List TokenContent). p.0.0.token ∷ ts) (has_more_ok CloseParen p.0.1 m.0 m.1); is = v.is; short = v.short; fits = tt })
+    (record { front = p.0.0.token ∷ []; parts = next_token a p.0.0 p.0.1 p.1 v.no_end ∙ ap (λ (ts : List TokenContent). p.0.0.token ∷ ts) (goes_on_ok (By CloseParen) p.0.1 m.0 m.1); is = v.is; short = v.short; fits = tt })
 
-values_ok : (a : Ahead) (r : List ValueContent × Ahead) → values_at a ≡ Ok r → Listed IsConstant AnyValue CloseParen 8 a r
+values_ok : (a : Ahead) (r : List ValueContent × Ahead) → values_at a ≡ Ok r → Listed IsConstant AnyValue (By CloseParen) 8 a r
 unfolding values_at
-values_ok a r e = listed_ok IsConstant AnyValue CloseParen value_at 8 a r value_ok value_needs e
+values_ok a r e = listed_ok IsConstant AnyValue (By CloseParen) value_at 8 a r value_ok value_needs e
 
 pub row_ok : (a : Ahead) (row : RowRecord) → row_at a ≡ Ok row → FitsRowGrammar a.lexemes row
 unfolding row_at
@@ -423,7 +410,7 @@ applied_ok w a x e =
     (record { inner = l.inner; parts = sign_ok OpenParen a p.0 p.1 ∙ ap (λ (ts : List TokenContent). Mark OpenParen ∷ ts) l.parts; relation = refl; separated = l.separated; short = l.short; few = l.few })
 
 abbrev AtomRead : Close → Ahead → AtomRecord × Bool × Ahead → Type 0
-AtomRead close a i = ItemReadTo IsAtomText FewTerms close a i
+AtomRead close a i = ItemRead IsAtomText FewTerms close a i
 
 atom_ok : (close : Close) (a : Ahead) (i : AtomRecord × Bool × Ahead) → atom_at close true a ≡ Ok i → AtomRead close a i
 unfolding atom_at
@@ -448,11 +435,11 @@ atom_ok close a i e =
     })
 
 abbrev pub AtomsRead : Close → Ahead → List AtomRecord × Ahead → Type 0
-AtomsRead close a r = ListedTo IsAtomText FewTerms close 8 a r
+AtomsRead close a r = Listed IsAtomText FewTerms close 8 a r
 
 pub atoms_ok : (close : Close) (a : Ahead) (r : List AtomRecord × Ahead) → atoms_at close a ≡ Ok r → AtomsRead close a r
 unfolding atoms_at
-atoms_ok close a r e = listed_to_ok IsAtomText FewTerms close (atom_at close) 8 a r (atom_ok close) (atom_needs close) e
+atoms_ok close a r e = listed_ok IsAtomText FewTerms close (atom_at close) 8 a r (atom_ok close) (atom_needs close) e
 
 -- atoms, if any
 pub record AtomsIfAnyRead (close : Close) (a : Ahead) (r : List AtomRecord × Ahead) : Type 0 where

@@ -8,7 +8,8 @@ use Rattle.cq_text.specs.declared.fault.TextFault.TheVariants.{At, NoMemory}
 use Rattle.cq_text.specs.declared.token.Token.TheVariants.{Mark, Word, Literal, Bad, Finish}
 use Rattle.cq_text.specs.Token.{TokenContent, LexemeContent, flaw}
 use Rattle.cq_text.specs.Fault.{is_unbound}
-use Rattle.cq_text.specs.Steps.Reading.{Ahead, Fails, fault, unless_flawed, ◌>>=◌, next_of, next_at, is_finish, unbound_at, first_unbound_of, first_unbound_from}
+use Rattle.cq_text.specs.Steps.Lexemes.{Ahead, Fails, fault, unless_flawed, ◌>>=◌, next_of, next_at, is_finish}
+use Rattle.cq_text.specs.Steps.Lists.{unbound_at, first_unbound_of, first_unbound_from}
 use Rattle.cq_text.proofs.Binds.{bind_ok, ok_is, never_ok}
 
 good_token : (t : TokenContent) → flaw t ≡ None → is_finish t ≡ false

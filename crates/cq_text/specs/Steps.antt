@@ -3,7 +3,8 @@ pub mod Words
 pub mod Commands
 pub mod Lexing
 pub mod Binding
-pub mod Reading
+pub mod Lexemes
+pub mod Lists
 pub mod Reader
 pub mod Sound
 pub mod Separators

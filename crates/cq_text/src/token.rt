@@ -5,7 +5,7 @@ use crate::word::Identifier;
 use cq_atom::Value;
 
 /// A sign.
-#[derive(Clone, Copy, Debug, PartialEq, Eq)]
+#[derive(Clone, Copy, PartialEq, Eq)]
 pub(crate) enum Sign {
     OpenBrace,
     CloseBrace,
@@ -16,7 +16,7 @@ pub(crate) enum Sign {
 }
 
 /// What stands behind the last item of a list.
-#[derive(Clone, Copy, Debug, PartialEq, Eq)]
+#[derive(Clone, Copy)]
 pub(crate) enum Close {
     /// That sign.
     By(Sign),

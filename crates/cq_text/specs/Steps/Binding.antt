@@ -1,13 +1,8 @@
--- Whether a body binds the variables of atoms.
-use Rattle.std.specs.Prelude.{List, Bool, not}
-use Rattle.std.specs.List.{list_any}
+-- Whether a body binds the variables of a query.
+use Rattle.std.specs.Prelude.{List, Bool, ◌&&◌}
 use Rattle.cq_atom.specs.Atom.{AtomRecord}
-use Rattle.cq_atom.specs.Query.{is_bound}
+use Rattle.cq_atom.specs.Query.{binds_all}
 
--- Some term of the atom is a variable that the body lacks.
-abbrev pub has_unbound : List AtomRecord → AtomRecord → Bool
-has_unbound body a = list_any (λ t. not (is_bound body t)) a.terms
-
--- The same of some of the atoms.
-abbrev pub have_unbound : List AtomRecord → List AtomRecord → Bool
-have_unbound body atoms = list_any (λ a. has_unbound body a) atoms
+-- The body has each variable of the postconditions and of the heads.
+abbrev pub binds_both : List AtomRecord → List AtomRecord → List AtomRecord → Bool
+binds_both body posts heads = binds_all body posts && binds_all body heads

@@ -1,22 +1,133 @@
--- The words that commands begin with.
-use Rattle.std.specs.Prelude.{ℕ, List, Option, Some, None, codes, if◌then◌else◌}
-use Rattle.std.specs.Str.{bytes_eq}
+-- The words that commands begin with, and reading commands from left to right, as the reader's methods do.
+use Rattle.std.specs.Prelude.{ℕ, ℤ, List, ◌&&◌, nat_le, Option, Some, None, Result, Ok, if◌then◌else◌, codes}
+use Rattle.cq_atom.specs.declared.limits.TheConstants.{MAX_ARITY}
+use Rattle.cq_atom.specs.Value.{number_of}
+use Rattle.cq_text.specs.declared.fault.Kind.TheVariants.{Shape, Limit}
+use Rattle.cq_text.specs.declared.fault.TextFault.{TextFault}
+use Rattle.cq_text.specs.declared.limits.TheConstants.{MAX_COUNT}
+use Rattle.cq_text.specs.declared.command.CommandKind.TheVariants.{Relation, Limits, Post, Withdraw, Insert, Delete, Publish, Show}
 use Rattle.cq_text.specs.declared.command.CommandWord.{CommandWord}
-use Rattle.cq_text.specs.declared.command.CommandWord.TheVariants.{Relation, Limits, Post, Withdraw, Insert, Delete, Publish, Show}
+use Rattle.cq_text.specs.declared.token.Token.TheVariants.{Mark, Word, Literal, Bad, Finish}
+use Rattle.cq_text.specs.Token.{TokenContent}
+use Rattle.cq_text.specs.Grammar.{CommandContent, count_of}
+use Rattle.std.specs.Str.{bytes_eq}
+use Rattle.cq_text.specs.declared.command.CommandWord.TheVariants as words
+use Rattle.cq_text.specs.Steps.Lexemes.{Ahead, ◌>>=◌, fault, next_at, name_in, relation_in, end_at}
+use Rattle.cq_text.specs.Steps.Lists.{row_at, query_at}
 
 -- The command word that an identifier is.
 abbrev pub command_word : List ℕ → Option CommandWord
 command_word w =
-    if bytes_eq w (codes "relation") then Some Relation else (if bytes_eq w (codes "limits") then Some Limits else (if bytes_eq w (codes "post") then Some Post else (if bytes_eq w (codes "withdraw") then Some Withdraw
-    else (if bytes_eq w (codes "insert") then Some Insert else (if bytes_eq w (codes "delete") then Some Delete else (if bytes_eq w (codes "publish") then Some Publish else (if bytes_eq w (codes "show") then Some Show else None)))))))
+    if bytes_eq w (codes "relation") then Some words.Relation else (if bytes_eq w (codes "limits") then Some words.Limits else (if bytes_eq w (codes "post") then Some words.Post else (if bytes_eq w (codes "withdraw") then Some words.Withdraw
+    else (if bytes_eq w (codes "insert") then Some words.Insert else (if bytes_eq w (codes "delete") then Some words.Delete else (if bytes_eq w (codes "publish") then Some words.Publish else (if bytes_eq w (codes "show") then Some words.Show else None)))))))
 
 -- The bytes of a command word.
 abbrev pub bytes_of : CommandWord → List ℕ
-bytes_of Relation = codes "relation"
-bytes_of Limits = codes "limits"
-bytes_of Post = codes "post"
-bytes_of Withdraw = codes "withdraw"
-bytes_of Insert = codes "insert"
-bytes_of Delete = codes "delete"
-bytes_of Publish = codes "publish"
-bytes_of Show = codes "show"
+bytes_of words.Relation = codes "relation"
+bytes_of words.Limits = codes "limits"
+bytes_of words.Post = codes "post"
+bytes_of words.Withdraw = codes "withdraw"
+bytes_of words.Insert = codes "insert"
+bytes_of words.Delete = codes "delete"
+bytes_of words.Publish = codes "publish"
+bytes_of words.Show = codes "show"
+
+-- The number that a token is.
+abbrev pub number_in : TokenContent → Option ℤ
+number_in (Literal v) = number_of v
+number_in (Word w) = None
+number_in (Mark s) = None
+number_in (Bad kind) = None
+number_in Finish = None
+
+-- A number as a count from 1 to the most.
+abbrev pub count_within : ℕ → Option ℤ → ℕ → Result ℕ TextFault
+count_within most None at = fault Shape at
+count_within most (Some n) at = if nat_le 1 (count_of n) && nat_le (count_of n) most then Ok (count_of n) else fault Limit at
+
+abbrev pub count_in : ℕ → TokenContent → ℕ → Result ℕ TextFault
+count_in most t at = count_within most (number_in t) at
+
+unfoldable pub count_at : ℕ → Ahead → Result (ℕ × Ahead) TextFault
+count_at most a = do
+  l ← next_at a
+  n ← count_in most l.0.token l.0.at
+  Ok (n, l.1)
+
+unfoldable pub relation_at : Ahead → Result CommandContent TextFault
+relation_at a = do
+  l ← next_at a
+  name ← relation_in l.0.token l.0.at
+  arity ← count_at MAX_ARITY l.1
+  rest ← end_at arity.1
+  Ok (Relation name arity.0)
+
+unfoldable pub limits_at : Ahead → Result CommandContent TextFault
+limits_at a = do
+  pool ← count_at MAX_COUNT a
+  journal ← count_at MAX_COUNT pool.1
+  rest ← end_at journal.1
+  Ok (Limits pool.0 journal.0)
+
+unfoldable pub post_at : Ahead → Result CommandContent TextFault
+post_at a = do
+  l ← next_at a
+  name ← name_in l.0.token l.0.at
+  query ← query_at l.1
+  Ok (Post name query)
+
+unfoldable pub withdraw_at : Ahead → Result CommandContent TextFault
+withdraw_at a = do
+  l ← next_at a
+  name ← name_in l.0.token l.0.at
+  rest ← end_at l.1
+  Ok (Withdraw name)
+
+unfoldable pub insert_at : Ahead → Result CommandContent TextFault
+insert_at a = do
+  row ← row_at a
+  Ok (Insert row)
+
+unfoldable pub delete_at : Ahead → Result CommandContent TextFault
+delete_at a = do
+  row ← row_at a
+  Ok (Delete row)
+
+unfoldable pub word_alone : CommandContent → Ahead → Result CommandContent TextFault
+word_alone command a = do
+  rest ← end_at a
+  Ok command
+
+-- What stands behind a command word.
+abbrev pub command_of : CommandWord → Ahead → Result CommandContent TextFault
+command_of words.Relation a = relation_at a
+command_of words.Limits a = limits_at a
+command_of words.Post a = post_at a
+command_of words.Withdraw a = withdraw_at a
+command_of words.Insert a = insert_at a
+command_of words.Delete a = delete_at a
+command_of words.Publish a = word_alone Publish a
+command_of words.Show a = word_alone Show a
+
+abbrev pub command_from : Option CommandWord → ℕ → Ahead → Result CommandContent TextFault
+command_from None at a = fault Shape at
+command_from (Some word) at a = command_of word a
+
+-- The command word that a token is.
+abbrev pub command_word_in : TokenContent → Option CommandWord
+command_word_in (Word w) = command_word w
+command_word_in (Mark s) = None
+command_word_in (Literal v) = None
+command_word_in (Bad kind) = None
+command_word_in Finish = None
+
+-- The command word that comes, if one does, and where it stands.
+unfoldable pub command_word_at : Ahead → Result (Option CommandWord × ℕ × Ahead) TextFault
+command_word_at a = do
+  l ← next_at a
+  Ok (command_word_in l.0.token, l.0.at, l.1)
+
+unfoldable pub command_at : Ahead → Result CommandContent TextFault
+command_at a = do
+  l ← next_at a
+  command_from (command_word_in l.0.token) l.0.at l.1

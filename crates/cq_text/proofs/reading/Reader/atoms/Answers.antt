@@ -1,6 +1,6 @@
 use Rattle.std.proofs.Common.{rules, ◌≡◌, length, vec_len, arith}
 use Rattle.std.proofs.lemmas.Result.{err_from_is_err_and}
-use Rattle.cq_text.specs.Steps.Reading.{atom_at, atoms_at}
+use Rattle.cq_text.specs.Steps.Lists.{atom_at, atoms_at}
 use Rattle.cq_text.proofs.Loops.{atom_needs, begins, step_fails, step_more, step_done, step_room}
 use Rattle.cq_text.proofs.reading.Reader.atoms.Goals as goal
 

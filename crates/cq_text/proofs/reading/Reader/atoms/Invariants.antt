@@ -1,5 +1,5 @@
 use Rattle.std.proofs.Common.{◌-◌, ◌≤◌, vec_len}
-use Rattle.cq_text.specs.Steps.Reading.{atom_at, atoms_at}
+use Rattle.cq_text.specs.Steps.Lists.{atom_at, atoms_at}
 use Rattle.cq_text.proofs.Loops.{SoFar}
 use Rattle.cq_text.proofs.reading.Reader.atoms.Given as goal
 

@@ -1,5 +1,5 @@
 use Rattle.std.proofs.Common.{◌≡◌, length}
-use Rattle.cq_text.specs.Steps.Reading.{first_unbound_from}
+use Rattle.cq_text.specs.Steps.Lists.{first_unbound_from}
 use Rattle.cq_text.proofs.reading.Reader.first_unbound.Given as goal
 
 abbrev pub invariant-lexemes : goal.invariant-lexemes

@@ -1,6 +1,6 @@
 use Rattle.std.proofs.Common.{rules, ◌≡◌, length, vec_len, arith}
 use Rattle.std.proofs.lemmas.Result.{err_from_is_err_and}
-use Rattle.cq_text.specs.Steps.Reading.{term_at, terms_at}
+use Rattle.cq_text.specs.Steps.Lists.{term_at, terms_at}
 use Rattle.cq_text.proofs.Loops.{term_needs, begins, step_fails, step_more, step_done, step_room, some_arity}
 use Rattle.cq_text.proofs.reading.Reader.terms.Goals as goal
 

@@ -1,5 +1,5 @@
 use Rattle.std.proofs.Common.{◌-◌, ◌≤◌, vec_len}
-use Rattle.cq_text.specs.Steps.Reading.{term_at, terms_at}
+use Rattle.cq_text.specs.Steps.Lists.{term_at, terms_at}
 use Rattle.cq_text.proofs.Loops.{SoFar}
 use Rattle.cq_text.proofs.reading.Reader.terms.Given as goal
 

@@ -1,6 +1,6 @@
 use Rattle.std.proofs.Common.{rules, ◌≡◌, length, vec_len, arith}
 use Rattle.std.proofs.lemmas.Result.{err_from_is_err_and}
-use Rattle.cq_text.specs.Steps.Reading.{value_at, values_at}
+use Rattle.cq_text.specs.Steps.Lists.{value_at, values_at}
 use Rattle.cq_text.proofs.Loops.{value_needs, begins, step_fails, step_more, step_done, step_room, some_arity}
 use Rattle.cq_text.proofs.reading.Reader.values.Goals as goal
 

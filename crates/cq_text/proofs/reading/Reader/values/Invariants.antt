@@ -1,5 +1,5 @@
 use Rattle.std.proofs.Common.{◌-◌, ◌≤◌, vec_len}
-use Rattle.cq_text.specs.Steps.Reading.{value_at, values_at}
+use Rattle.cq_text.specs.Steps.Lists.{value_at, values_at}
 use Rattle.cq_text.proofs.Loops.{SoFar}
 use Rattle.cq_text.proofs.reading.Reader.values.Given as goal
 

@@ -1,0 +1,281 @@
+//! Reads terms, atoms, rows and queries.
+
+ghost use Rattle.std.specs.Prelude.{◌≤◌, Ok, IfOk, IsTrue, length};
+ghost use Rattle.cq_atom.specs.Text.{is_relation_name};
+ghost use Rattle.cq_atom.specs.Atom.{is_arity};
+ghost use Rattle.cq_text.specs.Steps.Lists.{value_at, values_at, row_record, row_at, next_unbound_at, atom_record, term_at, terms_at, applied_at, atom_at, atoms_at, atoms_if_any_at, unbound_at, first_unbound_from, query_record, unbound_fault, bound_query, query_at};
+ghost use Rattle.cq_text.specs.Steps.Lexemes.{Gives, Fails};
+ghost use Rattle.cq_text.specs.Steps.Binding.{binds_both};
+
+use crate::binding::{binds_both, is_unbound};
+use crate::fault::{Kind, TextFault};
+use crate::reading::Reader;
+use crate::reading::lexemes::{is_finish, limit, shape, term_in, value_in};
+use crate::token::{Close, Sign};
+use cq_atom::{Atom, Bad, MAX_ARITY, MAX_ATOMS, Query, Row, Term, Value};
+use std::alloc::Allocator;
+
+fn new_row<A: Allocator>(
+    alloc: A,
+    relation: &str,
+    values: Vec<Value<A>, A>,
+) -> Result<Row<A>, TextFault>
+    requires name { IsTrue (is_relation_name relation.now) }
+    requires arity { IsTrue (is_arity (length values.items)) }
+    ensures { Gives (λ row. row) result (Ok (row_record relation.now values.items)) }
+{
+    match Row::new(alloc, relation, values) {
+        Ok(row) => Ok(row),
+        Err(Bad::NoMemory) => Err(TextFault::NoMemory),
+        Err(_) => unreachable!(),
+    }
+}
+
+fn new_atom<A: Allocator>(
+    alloc: A,
+    relation: &str,
+    terms: Vec<Term<A>, A>,
+) -> Result<Atom<A>, TextFault>
+    requires name { IsTrue (is_relation_name relation.now) }
+    requires arity { IsTrue (is_arity (length terms.items)) }
+    ensures { Gives (λ atom. atom) result (Ok (atom_record relation.now terms.items)) }
+{
+    match Atom::new(alloc, relation, terms) {
+        Ok(atom) => Ok(atom),
+        Err(Bad::NoMemory) => Err(TextFault::NoMemory),
+        Err(_) => unreachable!(),
+    }
+}
+
+fn new_query<A: Allocator + Copy>(
+    alloc: A,
+    posts: Vec<Atom<A>, A>,
+    heads: Vec<Atom<A>, A>,
+    body: Vec<Atom<A>, A>,
+) -> Result<Query<A>, TextFault>
+    requires posts { length posts.items ≤ MAX_ATOMS }
+    requires some { 1 ≤ length heads.items }
+    requires heads { length heads.items ≤ MAX_ATOMS }
+    requires body { length body.items ≤ MAX_ATOMS }
+    requires bound { IsTrue (binds_both body.items posts.items heads.items) }
+    ensures { Gives (λ query. query) result (Ok (query_record posts.items heads.items body.items)) }
+{
+    match Query::new(alloc, posts, heads, body) {
+        Ok(query) => Ok(query),
+        Err(Bad::NoMemory) => Err(TextFault::NoMemory),
+        Err(_) => unreachable!(),
+    }
+}
+
+impl<'a, A: Allocator + Copy> Reader<'a, A> {
+    /// A term, and whether more come.
+    #[tactic(auto, unfolding(crate::specs::Steps::Lists::term_at))]
+    fn term(&mut self, has_room: bool) -> Result<(Term<A>, bool), TextFault>
+        ensures { Gives (λ x. (x.0, x.1, self.new)) result (term_at has_room self.old) }
+    {
+        let lexeme = self.next()?;
+        let at = lexeme.at;
+        let term = term_in(self.alloc, lexeme)?;
+        if !has_room {
+            return Err(limit(at));
+        }
+        let has_more = self.goes_on(Close::By(Sign::CloseParen))?;
+        Ok((term, has_more))
+    }
+
+    /// Terms, and the bracket behind them.
+    fn terms(&mut self) -> Result<Vec<Term<A>, A>, TextFault>
+        ensures terms { Gives (λ v. (v.items, self.new)) result (terms_at self.old) }
+        ensures arity { IfOk result (λ v. IsTrue (is_arity (length v.items))) }
+    {
+        let mut terms = Vec::new(self.alloc);
+        'terms: loop {
+            let (term, has_more) = self.term(terms.len() < MAX_ARITY)?;
+            terms.push(term)?;
+            if !has_more {
+                return Ok(terms);
+            }
+        }
+    }
+
+    /// The atom of a relation's name that was read.
+    #[tactic(auto, unfolding(crate::specs::Steps::Lists::applied_at))]
+    fn applied(&mut self, relation: &str) -> Result<Atom<A>, TextFault>
+        requires { IsTrue (is_relation_name relation.now) }
+        ensures { Gives (λ atom. (atom, self.new)) result (applied_at relation.now self.old) }
+    {
+        self.sign(Sign::OpenParen)?;
+        let terms = self.terms()?;
+        new_atom(self.alloc, relation, terms)
+    }
+
+    /// An atom, and whether more come.
+    #[tactic(auto, unfolding(crate::specs::Steps::Lists::atom_at, crate::specs::Steps::Lexemes::relation_name_at))]
+    fn atom(&mut self, close: Close, has_room: bool) -> Result<(Atom<A>, bool), TextFault>
+        ensures { Gives (λ x. (x.0, x.1, self.new)) result (atom_at close has_room self.old) }
+    {
+        let (relation, at) = self.relation_name()?;
+        if !has_room {
+            return Err(limit(at));
+        }
+        let atom = self.applied(relation)?;
+        let has_more = self.goes_on(close)?;
+        Ok((atom, has_more))
+    }
+
+    /// Atoms, and what closes them.
+    fn atoms(&mut self, close: Close) -> Result<Vec<Atom<A>, A>, TextFault>
+        ensures atoms { Gives (λ v. (v.items, self.new)) result (atoms_at close self.old) }
+        ensures some { IfOk result (λ v. 1 ≤ length v.items) }
+        ensures few { IfOk result (λ v. length v.items ≤ MAX_ATOMS) }
+    {
+        let mut atoms = Vec::new(self.alloc);
+        'atoms: loop {
+            let (atom, has_more) = self.atom(close, atoms.len() < MAX_ATOMS)?;
+            atoms.push(atom)?;
+            if !has_more {
+                return Ok(atoms);
+            }
+        }
+    }
+
+    /// What closes, or atoms and what closes them.
+    #[tactic(auto, unfolding(crate::specs::Steps::Lists::atoms_if_any_at, crate::specs::Steps::Lexemes::passes_at))]
+    fn atoms_if_any(&mut self, close: Close) -> Result<Vec<Atom<A>, A>, TextFault>
+        ensures atoms { Gives (λ v. (v.items, self.new)) result (atoms_if_any_at close self.old) }
+        ensures few { IfOk result (λ v. length v.items ≤ MAX_ATOMS) }
+    {
+        if self.passes(close)? {
+            return Ok(Vec::new(self.alloc));
+        }
+        self.atoms(close)
+    }
+
+    /// A constant of a ground atom, and whether more come.
+    #[tactic(auto, unfolding(crate::specs::Steps::Lists::value_at))]
+    fn value(&mut self, has_room: bool) -> Result<(Value<A>, bool), TextFault>
+        ensures { Gives (λ x. (x.0, x.1, self.new)) result (value_at has_room self.old) }
+    {
+        let lexeme = self.next()?;
+        let at = lexeme.at;
+        let value = value_in(self.alloc, lexeme)?;
+        if !has_room {
+            return Err(limit(at));
+        }
+        let has_more = self.goes_on(Close::By(Sign::CloseParen))?;
+        Ok((value, has_more))
+    }
+
+    /// The constants of a ground atom, and the bracket behind them.
+    fn values(&mut self) -> Result<Vec<Value<A>, A>, TextFault>
+        ensures values { Gives (λ v. (v.items, self.new)) result (values_at self.old) }
+        ensures arity { IfOk result (λ v. IsTrue (is_arity (length v.items))) }
+    {
+        let mut values = Vec::new(self.alloc);
+        'values: loop {
+            let (value, has_more) = self.value(values.len() < MAX_ARITY)?;
+            values.push(value)?;
+            if !has_more {
+                return Ok(values);
+            }
+        }
+    }
+
+    /// A ground atom, and the end.
+    #[tactic(auto, unfolding(crate::specs::Steps::Lists::row_at, crate::specs::Steps::Lexemes::relation_name_at))]
+    pub(crate) fn row(&mut self) -> Result<Row<A>, TextFault>
+        ensures { Gives (λ row. row) result (row_at self.old) }
+    {
+        let (relation, _at) = self.relation_name()?;
+        self.sign(Sign::OpenParen)?;
+        let values = self.values()?;
+        self.end()?;
+        new_row(self.alloc, relation, values)
+    }
+
+    /// Whether the next token is an unbound variable, whether it is the end, and where it stands.
+    #[tactic(auto, unfolding(crate::specs::Steps::Lists::next_unbound_at))]
+    fn next_unbound(&mut self, body: &[Atom<A>]) -> Result<(bool, bool, usize), TextFault>
+        ensures { Gives (λ x. (x.0, x.1, x.2, self.new)) result (next_unbound_at body.now self.old) }
+    {
+        let lexeme = self.next()?;
+        Ok((
+            is_unbound(body, &lexeme.token),
+            is_finish(&lexeme.token),
+            lexeme.at,
+        ))
+    }
+
+    /// Where an unbound variable stands, if the next token is one.
+    #[tactic(auto, unfolding(crate::specs::Steps::Lists::unbound_at, crate::specs::Steps::Lists::next_unbound_at))]
+    fn unbound(&mut self, body: &[Atom<A>]) -> Result<Option<usize>, TextFault>
+        ensures { Gives (λ found. (found, self.new)) result (unbound_at body.now self.old) }
+    {
+        let (is_unbound, is_finish, at) = self.next_unbound(body)?;
+        if is_unbound {
+            Ok(Some(at))
+        } else if is_finish {
+            Err(shape(at))
+        } else {
+            Ok(None)
+        }
+    }
+
+    /// The offset of the first unbound variable, of lexemes that have one.
+    fn first_unbound(&mut self, body: &[Atom<A>]) -> Result<usize, TextFault>
+        ensures { Gives (λ at. at) result (first_unbound_from body.now self.old) }
+    {
+        'lexemes: loop {
+            if let Some(at) = self.unbound(body)? {
+                return Ok(at);
+            }
+        }
+    }
+
+    /// The fault of a query that has an unbound variable behind this place.
+    fn unbound_fault(&mut self, body: &[Atom<A>]) -> TextFault
+        ensures { Fails result (unbound_fault body.now self.old) }
+    {
+        match self.first_unbound(body) {
+            Ok(offset) => TextFault::At {
+                kind: Kind::Unbound,
+                offset,
+            },
+            Err(fault) => fault,
+        }
+    }
+
+    /// The query whose atoms were read behind this place. Where the body lacks a variable of the
+    /// postconditions or heads, the first such one is at fault.
+    fn bound_query(
+        &mut self,
+        posts: Vec<Atom<A>, A>,
+        heads: Vec<Atom<A>, A>,
+        body: Vec<Atom<A>, A>,
+    ) -> Result<Query<A>, TextFault>
+        requires posts { length posts.items ≤ MAX_ATOMS }
+        requires some { 1 ≤ length heads.items }
+        requires heads { length heads.items ≤ MAX_ATOMS }
+        requires body { length body.items ≤ MAX_ATOMS }
+        ensures { Gives (λ query. query) result (bound_query posts.items heads.items body.items self.old) }
+    {
+        if binds_both(&body, &posts, &heads) {
+            new_query(self.alloc, posts, heads, body)
+        } else {
+            Err(self.unbound_fault(&body))
+        }
+    }
+
+    /// A query, up to the end.
+    #[tactic(auto, unfolding(crate::specs::Steps::Lists::query_at))]
+    pub(crate) fn query(&mut self) -> Result<Query<A>, TextFault>
+        ensures { Gives (λ query. query) result (query_at self.old) }
+    {
+        self.sign(Sign::OpenBrace)?;
+        let mut behind = self.again();
+        let posts = self.atoms_if_any(Close::By(Sign::CloseBrace))?;
+        let heads = self.atoms(Close::By(Sign::Arrow))?;
+        let body = self.atoms_if_any(Close::End)?;
+        behind.bound_query(posts, heads, body)
+    }
+}
