@@ -1,4 +1,4 @@
-use Rattle.std.proofs.Common.{◌++◌, [], ◌∙◌, arith, take, refl}
+use Rattle.std.proofs.Common.{◌++◌, [], ◌∙◌, arith, take, refl, inl}
 use Rattle.cq_report.proofs.Ending.{Consumes-none}
 use Rattle.std.proofs.KnownBytes.{Consumes-nil, Consumes-trans, Consumes-kept}
 use Rattle.std.proofs.lemmas.Result.{err_from_is_err_and}
@@ -25,6 +25,11 @@ returns-in_default-clause-err g c =
       read = Consumes-kept _ _ _ _ i.read c.in_default.ensures.bytes;
       stopped = Stopped-reading _ _ _ _ _ _ _ _ _ i.served;
     }
+
+pub returns-in_default-clause-turn : goal.returns-in_default-clause-turn
+returns-in_default-clause-turn g c =
+    let i = c.loop-i.invariant in
+    inl (omega (arith, c.in_default.ensures.reads, i.reads), omega (arith, c.in_default.ensures.failures, i.failures))
 
 pub returns-then-len-eq0-clause-ok : goal.returns-then-len-eq0-clause-ok
 returns-then-len-eq0-clause-ok g c =
