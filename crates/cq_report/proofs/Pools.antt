@@ -15,7 +15,7 @@ use Rattle.cq_desk.specs.declared.event.StepFault.{StepFault}
 use Rattle.cq_desk.specs.declared.event.StepFault.TheVariants.{JournalFull}
 use Rattle.cq_desk.specs.Journal.{Journal, pool_left}
 use Rattle.cq_board.specs.Views.{Admits}
-use Rattle.cq_desk.specs.Floor.{FloorRecord, Setting, refusal, refusal_of, floor_with, published_pool, answer_of, answer_to}
+use Rattle.cq_desk.specs.Floor.{Setting, refusal, refusal_of, floor_with, published_pool, answer_of, answer_to}
 use Rattle.cq_report.specs.Machine.{ServingRecord, after, told}
 use Rattle.cq_report.specs.Report.{report}
 use Rattle.cq_report.specs.Reply.{published_line, show_line, show_block, end_line, reply_lines}

@@ -1,4 +1,4 @@
-use Rattle.std.proofs.Common.{◌≡◌, length, arith, subst, ◌∙◌}
+use Rattle.std.proofs.Common.{◌≡◌, length, arith, subst}
 use Rattle.cq_desk.specs.declared.event.Event.TheVariants.{Publish}
 use Rattle.cq_report.specs.Reply.{published_line}
 use Rattle.cq_report.specs.Machine.{ServingRecord, after, told}
