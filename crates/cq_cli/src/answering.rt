@@ -1,12 +1,13 @@
 //! What the program does with its words.
 
-ghost use Rattle.std.specs.Prelude.{◌≡◌, ◌<◌, ◌^◌};
+ghost use Rattle.std.specs.Prelude.{◌≡◌, ◌<◌, ◌^◌, OnOk};
+ghost use Rattle.cq_cli.specs.declared.answering.Status.{Status};
 ghost use Rattle.cq_cli.specs.Status.{code_of, status_of};
 
 use clap::error::ErrorKind;
 use clap::{Command, Error};
 use cq_report::{RunFault, run};
-use cq_text::{Sink, Source, write_all};
+use cq_text::{Failed, Sink, Source, write_all};
 use std::alloc::{Allocator, Global};
 use std::convert::AsStr;
 
@@ -71,13 +72,20 @@ fn status_of(fault: RunFault) -> Status
     }
 }
 
-/// Writes a text, and passes over a sink that fails: there is nobody left to tell.
-fn tell<W: Sink>(sink: &mut W, text: &str)
+/// Writes a text, and passes on what the sink holds back.
+fn write_text<W: Sink>(sink: &mut W, text: &str) -> Result<(), Failed>
     requires { W.write_failures sink.old < 2 ^ 62 }
+    ensures { OnOk result (W.write_failures sink.new ≡ W.write_failures sink.old) }
 {
-    if write_all(sink, text.as_bytes()).is_ok() {
-        let _ = sink.flush();
-    }
+    write_all(sink, text.as_bytes())?;
+    sink.flush()
+}
+
+/// Tells a text on the sink of errors, and passes over one that fails: there is nobody left to tell.
+fn tell<E: Sink>(errors: &mut E, text: &str)
+    requires { E.write_failures errors.old < 2 ^ 62 }
+{
+    let _ = write_text(errors, text);
 }
 
 /// Tells a fault of the run on the sink of errors.
@@ -90,7 +98,7 @@ fn tell_fault<E: Sink>(alloc: Global, fault: RunFault, errors: &mut E)
     }
 }
 
-/// Tells what is wrong with the words on the sink of errors, or the help that they ask for on the other.
+/// Tells what is wrong with the words on the sink of errors, or writes the help that they ask for to the other.
 fn tell_usage<W: Sink, E: Sink>(
     alloc: Global,
     error: &Error,
@@ -99,6 +107,7 @@ fn tell_usage<W: Sink, E: Sink>(
 ) -> Status
     requires sink { W.write_failures sink.old < 2 ^ 62 }
     requires errors { E.write_failures errors.old < 2 ^ 62 }
+    ensures { W.write_failures sink.old < W.write_failures sink.new → result ≡ Status.Failed }
 {
     let text = format!(in alloc; "{error}");
     let (Ok(text), false) = (text, error.kind() == ErrorKind::OutOfMemory) else {
@@ -109,7 +118,10 @@ fn tell_usage<W: Sink, E: Sink>(
         tell(errors, &text);
         return Status::Usage;
     }
-    tell(sink, &text);
+    let Ok(()) = write_text(sink, &text) else {
+        tell_fault(alloc, RunFault::Write, errors);
+        return Status::Failed;
+    };
     Status::Done
 }
 
@@ -137,6 +149,9 @@ pub(crate) fn answer<S: AsStr, A: Allocator + Copy, R: Source, W: Sink, E: Sink>
     requires read_failures { R.failures_met source.old < 2 ^ 62 }
     requires sink { W.write_failures sink.old < 2 ^ 62 }
     requires errors { E.write_failures errors.old < 2 ^ 62 }
+
+    // Where a write to the sink failed, of help or of replies, the status tells it.
+    ensures { W.write_failures sink.old < W.write_failures sink.new → result ≡ Status.Failed }
 {
     if let Err(error) = read_words(alloc, words) {
         return tell_usage(alloc, &error, sink, errors);

@@ -10,7 +10,7 @@ use Rattle.cq_text.specs.Views.{OrNoMemory, OfFault}
 use Rattle.cq_report.specs.declared.output.Output.{Output}
 use Rattle.cq_report.specs.declared.fault.RunFault.{RunFault}
 use Rattle.cq_report.specs.declared.fault.RunFault.TheVariants as faults
-use Rattle.cq_report.specs.Written.{Puts, Breaks, Fails}
+use Rattle.cq_report.specs.Steps.Written.{Puts, Breaks, Fails}
 use Rattle.cq_report.specs.Reading.{Reading, Reads, Faulty, IsReading}
 use Rattle.cq_report.specs.Machine.{State, next, reply}
 use Rattle.cq_report.specs.Steps.Put.{Put}

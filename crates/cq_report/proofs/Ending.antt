@@ -8,7 +8,7 @@ use Rattle.cq_report.specs.declared.fault.RunFault.TheVariants as faults
 use Rattle.cq_report.specs.Lines.{lines_of, whole_lines}
 use Rattle.cq_report.specs.Reading.{Reading}
 use Rattle.cq_report.specs.Output.{AreReadings, output}
-use Rattle.cq_report.specs.Written.{Passes}
+use Rattle.cq_report.specs.Steps.Written.{Passes}
 use Rattle.cq_report.specs.Run.{IfRead, WroteWholeLines}
 use Rattle.cq_report.specs.Steps.Replay.{Replayed, BrokeOff}
 use Rattle.cq_report.proofs.Cutting.{whole_lines_all_ended}

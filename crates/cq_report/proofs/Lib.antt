@@ -3,7 +3,7 @@ pub mod Pieces
 pub mod Left
 pub mod Onward
 pub mod Putting
-pub mod Floor
+pub mod Pools
 pub mod Answering
 pub mod Cutting
 pub mod Kept

@@ -4,7 +4,7 @@ use Rattle.std.specs.Prelude.{Result, Ok, Err}
 use Rattle.cq_report.specs.declared.output.Output.{Output}
 use Rattle.cq_report.specs.declared.fault.RunFault.{RunFault}
 use Rattle.cq_report.specs.declared.fault.RunFault.TheVariants as faults
-use Rattle.cq_report.specs.Written.{Puts, Breaks}
+use Rattle.cq_report.specs.Steps.Written.{Puts, Breaks}
 use Rattle.cq_report.specs.Steps.Put.{Put}
 use Rattle.cq_report.specs.Steps.Writing.{Puts-nothing, Puts-then, Puts-breaks, Breaks-more, Puts-starved}
 

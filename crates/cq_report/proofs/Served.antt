@@ -8,7 +8,8 @@ use Rattle.cq_report.specs.Lines.{lines_of}
 use Rattle.cq_report.specs.Reading.{Reading, IsReading}
 use Rattle.cq_report.specs.Machine.{State, next, reply}
 use Rattle.cq_report.specs.Output.{AreReadings, state_after, output_from}
-use Rattle.cq_report.specs.Written.{Puts, Breaks, Fails, IsOfRead, failures_of}
+use Rattle.cq_report.specs.Run.{IsOfRead, failures_of}
+use Rattle.cq_report.specs.Steps.Written.{Puts, Breaks, Fails}
 use Rattle.cq_report.specs.Steps.Kept.{kept}
 use Rattle.cq_report.specs.Steps.Serving.{HaveNoEnd, ended, Answered, Served, Finished, Stopped, ServesOn, StopsOn, IsSound}
 use Rattle.cq_report.proofs.Cutting.{kept_nil, kept_again, kept_none, kept_some, lines_of_all_ended, lines_of_ended, lines_of_open, HasNoEnd-more, HaveNoEnd-more, ended-more}

@@ -1,4 +1,3 @@
-pub mod Written
 pub mod Lines
 pub mod Reading
 pub mod Report

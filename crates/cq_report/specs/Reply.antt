@@ -1,5 +1,5 @@
 -- The reply to a line: whole lines, or nothing. (this project's profile)
-use Rattle.std.specs.Prelude.{ℕ, List, ◌++◌, codes, decimal, Result, Ok, Err}
+use Rattle.std.specs.Prelude.{ℕ, List, [], ◌++◌, codes, decimal, Result, Ok, Err}
 use Rattle.cq_atom.specs.declared.fault.Part.{Part}
 use Rattle.cq_atom.specs.declared.fault.Part.TheVariants.{Posts, Heads, Body}
 use Rattle.cq_rel.specs.declared.fault.CatalogFault.{CatalogFault}
@@ -39,16 +39,13 @@ ok_line = line (codes "ok")
 abbrev pub late_line : List ℕ
 late_line = refused_line (codes "Late")
 
-abbrev pub catalog_word : CatalogFault → List ℕ
-catalog_word BadName = codes "BadName"
-catalog_word BadArity = codes "BadArity"
-catalog_word Declared = codes "Declared"
-catalog_word CatalogFull = codes "CatalogFull"
-catalog_word NoMemory = codes "NoMemory"
-
--- Why a relation is not declared.
+-- Why a relation is not declared. Want of memory has no line: it ends the run.
 abbrev pub catalog_line : CatalogFault → List ℕ
-catalog_line fault = refused_line (catalog_word fault)
+catalog_line BadName = refused_line (codes "BadName")
+catalog_line BadArity = refused_line (codes "BadArity")
+catalog_line Declared = refused_line (codes "Declared")
+catalog_line CatalogFull = refused_line (codes "CatalogFull")
+catalog_line NoMemory = []
 
 abbrev pub part_word : Part → List ℕ
 part_word Posts = codes "posts"
@@ -66,14 +63,11 @@ why_words NoSuchName = codes "NoSuchName"
 why_words RowPresent = codes "RowPresent"
 why_words RowAbsent = codes "RowAbsent"
 
-abbrev pub refusal_words : StepFault Why → List ℕ
-refusal_words NoSession = codes "NoSession"
-refusal_words JournalFull = codes "JournalFull"
-refusal_words (Not reason) = why_words reason
-
--- Why an event is refused.
+-- Why an event is refused. A session that is not there has no line: the one session of a script is.
 abbrev pub refusal_line : StepFault Why → List ℕ
-refusal_line fault = refused_line (refusal_words fault)
+refusal_line NoSession = []
+refusal_line JournalFull = refused_line (codes "JournalFull")
+refusal_line (Not reason) = refused_line (why_words reason)
 
 abbrev pub entered_line : ℕ → List ℕ
 entered_line n = line (codes "ok " ++ decimal n)

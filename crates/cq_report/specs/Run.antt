@@ -15,6 +15,18 @@ IfRead (faults.Read turn) P = P turn
 IfRead faults.Write P = Unit {0}
 IfRead faults.NoMemory P = Unit {0}
 
+-- The fault is that of a read.
+abbrev pub IsOfRead : RunFault → Type 0
+IsOfRead (faults.Read turn) = Unit {0}
+IsOfRead faults.Write = ⊥
+IsOfRead faults.NoMemory = ⊥
+
+-- How much the writer's failures rise with a fault: the fault of writing is answered where the writer failed, and nowhere else.
+abbrev pub failures_of : RunFault → ℕ
+failures_of (faults.Read turn) = 0
+failures_of faults.Write = 1
+failures_of faults.NoMemory = 0
+
 -- The turn is the number of the read that failed; or all the reads that a run may make were made, and the turn is one more.
 abbrev pub FailedAtTurn : (turn reads reads' failures failures' : ℕ) → Type 0
 FailedAtTurn turn reads reads' failures failures' =

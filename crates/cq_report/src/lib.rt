@@ -10,23 +10,17 @@
 #![tactic(auto)]
 
 mod fault;
+mod floor;
 mod limits;
 mod line;
+mod machine;
 mod output;
 mod page;
 mod reply;
 mod reporting;
-#[cfg(test)]
-mod reports;
 mod running;
-#[cfg(test)]
-mod scripts;
-mod service;
-mod serving;
 mod setup;
 mod stage;
-#[cfg(test)]
-mod tests;
 
 pub use fault::RunFault;
 pub use limits::{JOURNAL_LIMIT, POOL_LIMIT};

@@ -2,7 +2,7 @@
 
 ghost use Rattle.std.specs.Prelude.{◌≡◌, ◌<◌, ◌+◌, ◌^◌, ℕ, List, ◌++◌, [], OnOk, OnErr, IfOk, IfErr, MatchResult};
 ghost use Rattle.std.specs.Io.KnownBytes.{Appends};
-ghost use Rattle.cq_report.specs.Written.{Puts, Breaks};
+ghost use Rattle.cq_report.specs.Steps.Written.{Puts, Breaks};
 
 use crate::fault::RunFault;
 use cq_text::{Sink, write_all};

@@ -1,7 +1,8 @@
 //! Reply lines.
 
 ghost use Rattle.std.specs.Prelude.{◌≡◌, ◌++◌, codes, decimal, IfOk, string_bytes};
-ghost use Rattle.cq_report.specs.Reply.{kind_word, fault_line, refused_line, catalog_word, catalog_line, part_word, why_words, refusal_line, entered_line, published_line, show_line};
+ghost use Rattle.cq_report.specs.Reply.{kind_word, fault_line, refused_line, ok_line, late_line, catalog_line, part_word, why_words, published_line, show_line, end_line};
+ghost use Rattle.cq_report.specs.Steps.Floor.{edit_line};
 
 use cq_atom::Part;
 use cq_board::Why;
@@ -49,26 +50,31 @@ fn place_line<A: Allocator>(alloc: A, words: &str, place: usize) -> Result<Strin
     format!(in alloc; "refused {words} {place}\n")
 }
 
-fn catalog_word(fault: CatalogFault) -> &'static str
-    ensures { result.now ≡ catalog_word fault }
+/// The reply to what is accepted before the floor serves.
+pub(crate) fn ok_line() -> &'static str
+    ensures { result.now ≡ ok_line }
 {
-    match fault {
-        CatalogFault::BadName => "BadName",
-        CatalogFault::BadArity => "BadArity",
-        CatalogFault::Declared => "Declared",
-        CatalogFault::CatalogFull => "CatalogFull",
-        CatalogFault::NoMemory => "NoMemory",
-    }
+    "ok\n"
 }
 
-/// The reply to a relation that is not declared.
-pub(crate) fn catalog_line<A: Allocator>(
-    alloc: A,
-    fault: CatalogFault,
-) -> Result<String<A>, AllocError>
-    ensures { IfOk result (λ text. string_bytes text ≡ catalog_line fault) }
+/// The reply to a line of the setup that comes behind it.
+pub(crate) fn late_line() -> &'static str
+    ensures { result.now ≡ late_line }
 {
-    word_line(alloc, catalog_word(fault))
+    "refused Late\n"
+}
+
+/// The reply to a relation that is not declared. Want of memory has none.
+pub(crate) fn catalog_line(fault: CatalogFault) -> &'static str
+    ensures { result.now ≡ catalog_line fault }
+{
+    match fault {
+        CatalogFault::BadName => "refused BadName\n",
+        CatalogFault::BadArity => "refused BadArity\n",
+        CatalogFault::Declared => "refused Declared\n",
+        CatalogFault::CatalogFull => "refused CatalogFull\n",
+        CatalogFault::NoMemory => "",
+    }
 }
 
 fn answer_words(part: Part) -> &'static str
@@ -97,25 +103,20 @@ fn why_line<A: Allocator>(alloc: A, reason: Why) -> Result<String<A>, AllocError
     }
 }
 
-/// The reply to an event that is refused.
-pub(crate) fn refusal_line<A: Allocator>(
+/// The reply to an edit: the number of its entry, or why it is refused. The session of a script is
+/// there.
+pub(crate) fn edit_line<A: Allocator>(
     alloc: A,
-    fault: StepFault<Why>,
+    answer: Result<u64, StepFault<Why>>,
 ) -> Result<String<A>, AllocError>
-    ensures { IfOk result (λ text. string_bytes text ≡ refusal_line fault) }
+    ensures { IfOk result (λ text. string_bytes text ≡ edit_line answer) }
 {
-    match fault {
-        StepFault::NoSession => word_line(alloc, "NoSession"),
-        StepFault::JournalFull => word_line(alloc, "JournalFull"),
-        StepFault::Not(reason) => why_line(alloc, reason),
+    match answer {
+        Ok(entry) => format!(in alloc; "ok {entry}\n"),
+        Err(StepFault::NoSession) => Ok(String::new(alloc)),
+        Err(StepFault::JournalFull) => word_line(alloc, "JournalFull"),
+        Err(StepFault::Not(reason)) => why_line(alloc, reason),
     }
-}
-
-/// The reply to an accepted edit.
-pub(crate) fn entered_line<A: Allocator>(alloc: A, entry: u64) -> Result<String<A>, AllocError>
-    ensures { IfOk result (λ text. string_bytes text ≡ entered_line entry) }
-{
-    format!(in alloc; "ok {entry}\n")
 }
 
 /// The reply to a publish.
@@ -130,4 +131,11 @@ pub(crate) fn show_line<A: Allocator>(alloc: A, count: u64) -> Result<String<A>,
     ensures { IfOk result (λ text. string_bytes text ≡ show_line count) }
 {
     format!(in alloc; "show {count}\n")
+}
+
+/// The last line of what is shown.
+pub(crate) fn end_line() -> &'static str
+    ensures { result.now ≡ end_line }
+{
+    "end\n"
 }

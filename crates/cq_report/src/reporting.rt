@@ -18,7 +18,7 @@ use crate::page::Page;
 use cq_atom::{Query, Value};
 use cq_board::{Board, Posted};
 use cq_ground::Groundings;
-use cq_match::Edge;
+use cq_match::{Edge, is_crowd};
 use cq_rel::Tables;
 use cq_text::{Sink, print_query, print_values};
 use std::alloc::{AllocError, Allocator};
@@ -115,7 +115,7 @@ fn provider_line<A: Allocator>(
 fn crowd_word(count: usize) -> &'static str
     ensures { result.now ≡ crowd_word count }
 {
-    if count >= 2 { " crowded" } else { "" }
+    if is_crowd(count) { " crowded" } else { "" }
 }
 
 fn count_line<A: Allocator>(alloc: A, post: usize, count: usize) -> Result<String<A>, AllocError>

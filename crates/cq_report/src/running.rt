@@ -1,20 +1,20 @@
 //! Runs a script.
 
-ghost use Rattle.std.specs.Prelude.{◌≡◌, ◌<◌, ◌≤◌, ◌+◌, ◌^◌, ℕ, List, ◌++◌, ◌∷◌, [], OnOk, OnErr, IfOk, IfErr, IfSome, MatchResult};
+ghost use Rattle.std.specs.Prelude.{◌≡◌, ◌<◌, ◌≤◌, ◌+◌, ◌^◌, ℕ, List, length, ◌++◌, ◌∷◌, [], OnOk, OnErr, IfOk, IfErr, IfSome, MatchResult};
 ghost use Rattle.std.specs.Io.KnownBytes.{Appends};
 ghost use Rattle.cq_report.specs.Lines.{lines_of};
 ghost use Rattle.cq_report.specs.Reading.{Reading};
 ghost use Rattle.cq_report.specs.Output.{AreReadings, output};
-ghost use Rattle.cq_report.specs.Machine.{State};
-ghost use Rattle.cq_report.specs.Written.{Fails, IsOfRead, failures_of};
-ghost use Rattle.cq_report.specs.Run.{IfRead, FailedAtTurn, WroteWholeLines, WroteFront};
+ghost use Rattle.cq_report.specs.Machine.{State, begin_state};
+ghost use Rattle.cq_report.specs.Run.{IfRead, IsOfRead, failures_of, FailedAtTurn, WroteWholeLines, WroteFront};
+ghost use Rattle.cq_report.specs.Steps.Written.{Fails};
 ghost use Rattle.cq_report.specs.Steps.Replay.{Replayed, BrokeOff, Ended};
 ghost use Rattle.cq_report.specs.Steps.Serving.{ServesOn, StopsOn, Finishes, IsSound};
 
 use crate::fault::RunFault;
 use crate::line::Line;
+use crate::machine::Machine;
 use crate::output::{Output, ROOM};
-use crate::service::Service;
 use cq_text::{Sink, Source};
 use std::alloc::Allocator;
 
@@ -26,69 +26,110 @@ const PIECE: usize = 4096;
 
 /// Serves one byte: LF has the line answered, and any other byte is kept.
 fn serve_byte<W: Sink, A: Allocator + Copy>(
-    service: &mut Service<A>,
+    machine: &mut Machine<A>,
     line: &mut Line<A>,
     output: &mut Output<'_, W, A>,
     byte: u8,
 ) -> Result<(), RunFault>
     requires { W.write_failures output.old.sink.now < 2 ^ 62 }
-    ensures ok { OnOk result (ServesOn W.taken W.write_failures output.old output.new service.old service.new line.old line.new (byte ∷ [])) }
+    ensures ok { OnOk result (ServesOn W.taken W.write_failures output.old output.new machine.old machine.new line.old line.new (byte ∷ [])) }
     ensures sound { OnOk result (IsSound W.write_failures output.old output.new) }
-    ensures err { IfErr result (λ fault. (rest : List ℕ) → StopsOn W.taken W.write_failures output.old output.new service.old line.old (byte ∷ rest) fault) }
+    ensures err { IfErr result (λ fault. (rest : List ℕ) → StopsOn W.taken W.write_failures output.old output.new machine.old line.old (byte ∷ rest) fault) }
     ensures fails { IfErr result (λ fault. Fails W.write_failures output.old output.new fault) }
 {
     if byte != b'\n' {
         line.push(byte)?;
         return Ok(());
     }
-    service.answer(line.as_bytes(), output)?;
+    machine.answer(line.as_bytes(), output)?;
     line.clear();
     Ok(())
 }
 
 /// Answers each line that the piece ends, and keeps what begins the next one.
 fn feed<W: Sink, A: Allocator + Copy>(
-    service: &mut Service<A>,
+    machine: &mut Machine<A>,
     line: &mut Line<A>,
     output: &mut Output<'_, W, A>,
     piece: &[u8],
 ) -> Result<(), RunFault>
     requires { W.write_failures output.old.sink.now < 2 ^ 62 }
-    ensures ok { OnOk result (ServesOn W.taken W.write_failures output.old output.new service.old service.new line.old line.new piece.now) }
+    ensures ok { OnOk result (ServesOn W.taken W.write_failures output.old output.new machine.old machine.new line.old line.new piece.now) }
     ensures sound { OnOk result (IsSound W.write_failures output.old output.new) }
-    ensures err { IfErr result (λ fault. StopsOn W.taken W.write_failures output.old output.new service.old line.old piece.now fault) }
+    ensures err { IfErr result (λ fault. StopsOn W.taken W.write_failures output.old output.new machine.old line.old piece.now fault) }
     ensures fails { IfErr result (λ fault. Fails W.write_failures output.old output.new fault) }
 {
     for byte in piece {
-        serve_byte(service, line, output, *byte)?;
+        serve_byte(machine, line, output, *byte)?;
     }
     Ok(())
 }
 
 /// Answers the last line, where no LF ends it, and passes on all that waits.
 fn finish<W: Sink, A: Allocator + Copy>(
-    service: &mut Service<A>,
+    machine: &mut Machine<A>,
     line: &Line<A>,
     output: &mut Output<'_, W, A>,
 ) -> Result<(), RunFault>
     requires { W.write_failures output.old.sink.now < 2 ^ 62 }
-    ensures ok { OnOk result (Finishes W.taken W.write_failures output.old output.new service.old line.now) }
+    ensures ok { OnOk result (Finishes W.taken W.write_failures output.old output.new machine.old line.now) }
     ensures held { OnOk result (output.new.held.now.items ≡ []) }
     ensures sound { OnOk result (IsSound W.write_failures output.old output.new) }
-    ensures err { IfErr result (λ fault. StopsOn W.taken W.write_failures output.old output.new service.old line.now [] fault) }
+    ensures err { IfErr result (λ fault. StopsOn W.taken W.write_failures output.old output.new machine.old line.now [] fault) }
     ensures fails { IfErr result (λ fault. Fails W.write_failures output.old output.new fault) }
 {
     if line.is_empty() {
         output.finish()?;
         return Ok(());
     }
-    service.answer(line.as_bytes(), output)?;
+    machine.answer(line.as_bytes(), output)?;
     output.finish()?;
     Ok(())
 }
 
 /// Reads pieces to the end and answers the lines: all whole lines that were read are answered, and
-/// the replies passed on, before the next read.
+/// the replies passed on, before the next read. All that it works with is
+/// lent, so that no exit has anything to let go.
+fn serve_all<A: Allocator + Copy, R: Source, W: Sink>(
+    machine: &mut Machine<A>,
+    line: &mut Line<A>,
+    piece: &mut [u8],
+    reader: &mut R,
+    output: &mut Output<'_, W, A>,
+) -> Result<(), RunFault>
+    requires machine { machine.old ≡ begin_state }
+    requires line { line.old ≡ [] }
+    requires piece { 0 < length piece.old }
+    requires reads { R.reads_made reader.old < 2 ^ 62 }
+    requires failures { R.failures_met reader.old < 2 ^ 62 }
+    requires write_failures { W.write_failures output.old.sink.now < 2 ^ 62 }
+    requires held { output.old.held.now.items ≡ [] }
+    ensures ok { OnOk result (Replayed W.taken W.write_failures (R.left reader.old) (R.left reader.new) output.old output.new) }
+    ensures read { IfErr result (λ fault. IfRead fault (λ turn. BrokeOff W.taken W.write_failures (R.left reader.old) (R.left reader.new) output.old output.new)) }
+    ensures turn { IfErr result (λ fault. IfRead fault (λ turn. FailedAtTurn turn (R.reads_made reader.old) (R.reads_made reader.new) (R.failures_met reader.old) (R.failures_met reader.new))) }
+    ensures err { IfErr result (λ fault. Ended W.taken W.write_failures (R.left reader.old) (R.left reader.new) output.old output.new fault) }
+    ensures writer { output.new.sink.ghost_name ≡ output.old.sink.ghost_name }
+    ensures write_failures { MatchResult result (λ _. W.write_failures output.new.sink.now ≡ W.write_failures output.old.sink.now) (λ fault. W.write_failures output.new.sink.now ≡ W.write_failures output.old.sink.now + failures_of fault) }
+    ensures reads { R.reads_made reader.new ≤ R.reads_made reader.old + MAX_READS }
+    ensures read_failures { MatchResult result (λ _. R.failures_met reader.new ≡ R.failures_met reader.old) (λ fault. (IsOfRead fault → ⊥) → R.failures_met reader.new ≡ R.failures_met reader.old) }
+{
+    for i in 0..MAX_READS {
+        let Ok(len) = reader.read(piece) else {
+            return Err(RunFault::Read { turn: i + 1 });
+        };
+        if len == 0 {
+            finish(machine, line, output)?;
+            return Ok(());
+        }
+        feed(machine, line, output, &piece[..len])?;
+        output.write_out()?;
+    }
+    Err(RunFault::Read {
+        turn: MAX_READS + 1,
+    })
+}
+
+/// Serves all that is read, from the first line on.
 fn replay<A: Allocator + Copy, R: Source, W: Sink>(
     alloc: A,
     reader: &mut R,
@@ -107,23 +148,10 @@ fn replay<A: Allocator + Copy, R: Source, W: Sink>(
     ensures reads { R.reads_made reader.new ≤ R.reads_made reader.old + MAX_READS }
     ensures read_failures { MatchResult result (λ _. R.failures_met reader.new ≡ R.failures_met reader.old) (λ fault. (IsOfRead fault → ⊥) → R.failures_met reader.new ≡ R.failures_met reader.old) }
 {
-    let mut service = Service::begin(alloc);
+    let mut machine = Machine::begin(alloc);
     let mut line = Line::new(alloc);
     let mut piece = [0u8; PIECE];
-    for i in 0..MAX_READS {
-        let Ok(len) = reader.read(&mut piece) else {
-            return Err(RunFault::Read { turn: i + 1 });
-        };
-        if len == 0 {
-            finish(&mut service, &line, output)?;
-            return Ok(());
-        }
-        feed(&mut service, &mut line, output, &piece[..len])?;
-        output.write_out()?;
-    }
-    Err(RunFault::Read {
-        turn: MAX_READS + 1,
-    })
+    serve_all(&mut machine, &mut line, &mut piece, reader, output)
 }
 
 /// Runs a script: reads it to its end, and writes what its lines answer.

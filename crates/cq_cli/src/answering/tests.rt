@@ -146,3 +146,28 @@ fn words_beside_a_run(rt: HostRuntime) -> Result<(), Fail> {
     }
     Ok(())
 }
+
+// Help that a device refuses is no help: the status tells it, and the sink of errors why.
+#[test]
+fn help_to_a_failing_device(rt: HostRuntime) -> Result<(), Fail> {
+    for word in ["--help", "-h"] {
+        let mut source = Counted::new(b"publish\n".as_slice());
+        let mut sink = Counted::new(Shut);
+        let mut errors = Counted::new(Vec::new(rt.alloc()));
+        let words = ["board", word];
+        let status = answer(
+            rt.alloc(),
+            rt.alloc(),
+            &words,
+            &mut source,
+            &mut sink,
+            &mut errors,
+        );
+        assert_eq!(rt; status.code(), 1, "{word}");
+        assert!(rt;
+            is_text(&errors.into_inner(), "board: write failed\n"),
+            "{word}"
+        );
+    }
+    Ok(())
+}

@@ -6,7 +6,7 @@ use Rattle.cq_report.specs.Lines.{lines_of}
 use Rattle.cq_report.specs.Reading.{Reading}
 use Rattle.cq_report.specs.Machine.{State}
 use Rattle.cq_report.specs.Output.{AreReadings, state_after, output_from}
-use Rattle.cq_report.specs.Written.{Puts, Breaks}
+use Rattle.cq_report.specs.Steps.Written.{Puts, Breaks}
 use Rattle.cq_report.specs.Steps.Kept.{kept}
 
 -- No byte ends a line.

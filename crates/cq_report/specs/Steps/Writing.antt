@@ -6,7 +6,8 @@ use Rattle.cq_report.specs.declared.output.Output.{Output}
 use Rattle.cq_report.specs.declared.fault.RunFault.{RunFault}
 use Rattle.cq_report.specs.declared.fault.RunFault.TheVariants as faults
 use Rattle.cq_text.specs.Device.{TakesFront}
-use Rattle.cq_report.specs.Written.{Passes, Puts, Breaks, failures_of}
+use Rattle.cq_report.specs.Run.{failures_of}
+use Rattle.cq_report.specs.Steps.Written.{Passes, Puts, Breaks}
 
 pub Passes-nothing : (taken : Option (List ℕ)) (held : List ℕ) → Passes taken taken held [] held
 Passes-nothing taken held = record { front = []; took = Appends-nil taken; whole = sym (append-nil held) }

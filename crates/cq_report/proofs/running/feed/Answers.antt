@@ -13,5 +13,5 @@ returns-in_err-serve_byte-clause-err g c =
     let i = c.loop-byte.byte-index in
     let l = c.args.piece.now in
     let e = c.in_err-serve_byte.ensures.err (drop (i + 1) l) in
-    rw (p.1, p.2) (subst (λ (k : List ℕ). StopsOn g.W.Sink.taken g.W.Sink.write_failures c.args.output.now c.serve_byte.new.output c.args.service.now c.args.line.now k c.in_err-serve_byte.field-0.0) (whole_at i l c.loop-byte-test.true)
+    rw (p.1, p.2) (subst (λ (k : List ℕ). StopsOn g.W.Sink.taken g.W.Sink.write_failures c.args.output.now c.serve_byte.new.output c.args.machine.now c.args.line.now k c.in_err-serve_byte.field-0.0) (whole_at i l c.loop-byte-test.true)
     (StopsOn-then _ _ _ _ _ _ _ _ _ (take i l) _ _ c.loop-byte.invariant.on e))

@@ -4,6 +4,6 @@ use Rattle.cq_report.proofs.running.feed.Given as goal
 
 abbrev pub invariant-loop-byte : goal.invariant-loop-byte
 invariant-loop-byte g l = record {
-  on : ServesOn g.W.Sink.taken g.W.Sink.write_failures l.fn.output l.output l.fn.service l.service l.fn.line l.line (take l.byte-index l.piece);
+  on : ServesOn g.W.Sink.taken g.W.Sink.write_failures l.fn.output l.output l.fn.machine l.machine l.fn.line l.line (take l.byte-index l.piece);
   sound : IsSound g.W.Sink.write_failures l.fn.output l.output;
 }

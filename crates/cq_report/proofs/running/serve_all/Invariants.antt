@@ -1,0 +1,19 @@
+use Rattle.std.proofs.Common.{◌≡◌, ◌+◌, length, []}
+use Rattle.cq_report.specs.Machine.{begin_state}
+use Rattle.cq_report.specs.Steps.Serving.{IsSound}
+use Rattle.cq_report.specs.Steps.Serving.{Served}
+use Rattle.std.specs.Io.KnownBytes.{Consumes}
+use Rattle.std.proofs.Common.{ℕ, List}
+use Rattle.cq_report.proofs.running.serve_all.Given as goal
+
+abbrev pub invariant-loop-i : goal.invariant-loop-i
+invariant-loop-i g l = record {
+  bytes : List ℕ;
+  read : Consumes (g.R.Source.left l.fn.reader) (g.R.Source.left l.reader) bytes;
+  served : Served g.W.Sink.taken g.W.Sink.write_failures l.fn.output begin_state l.output l.machine l.line bytes;
+  sound : IsSound g.W.Sink.write_failures l.fn.output l.output;
+  held : l.output.held.now.items ≡ [];
+  reads : g.R.Source.reads_made l.reader ≡ g.R.Source.reads_made l.fn.reader + l.i;
+  failures : g.R.Source.failures_met l.reader ≡ g.R.Source.failures_met l.fn.reader;
+  room : length l.piece ≡ length l.fn.piece;
+}
