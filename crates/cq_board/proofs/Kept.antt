@@ -24,7 +24,8 @@ use Rattle.cq_board.specs.Pool.{PendingQuery, PoolRecord, FitsCatalog, IsPool, i
 use Rattle.cq_board.specs.Edits.{is_named, is_taken, first_of, answer_why, arity_why, body_why, query_why, why, edited}
 use Rattle.cq_board.specs.Edges.{edges_of}
 use Rattle.cq_board.specs.Board.{matched_of, all_groundings}
-use Rattle.cq_board.specs.Kept.{IsKept, with_pending, with_tables}
+use Rattle.cq_board.specs.Kept.{IsKept}
+use Rattle.cq_board.specs.Steps.Parts.{with_pending, with_tables}
 use Rattle.cq_board.proofs.Members.{by_bool}
 
 distinct_nil : IsDistinct bytes_eq []
@@ -70,7 +71,7 @@ module _ (p : PendingQuery → Bool) where
 
 -- ---- a query more
 
-first_none : (a b : Option Why) → first_of a b ≡ None → (a ≡ None) × (b ≡ None)
+pub first_none : (a b : Option Why) → first_of a b ≡ None → (a ≡ None) × (b ≡ None)
 first_none None b e = (refl, e)
 first_none (Some reason) b e = cc
 
@@ -82,7 +83,7 @@ module _ (catalog : List Declaration) where
       (λ t. let never : Some (NotAnswer part place) ≡ None = rw t at e in cc)
       (λ f. (rw f refl, answers_fit part (place + 1) atoms (rw f at e)))
 
-  arity_fits : (declared : Option ℕ) (arity place : ℕ) → arity_why declared arity place ≡ None → declared ≡ Some arity
+  pub arity_fits : (declared : Option ℕ) (arity place : ℕ) → arity_why declared arity place ≡ None → declared ≡ Some arity
   arity_fits None arity place e = cc
   arity_fits (Some n) arity place e =
       by_bool (nat_eq n arity) (Some n ≡ Some arity)

@@ -11,7 +11,7 @@ pub mod Law
 pub mod Bound
 pub mod Scratched
 pub mod Walks
-pub mod Coordinated
 pub mod Rising
 pub mod Nodes
 pub mod Kept
+pub mod Rows

@@ -8,7 +8,7 @@ ghost use Rattle.cq_board.specs.Pool.{IsPool, opening_pool};
 ghost use Rattle.cq_board.specs.Edges.{edges_of};
 ghost use Rattle.cq_board.specs.Edits.{is_named, why, edited, pool_after};
 ghost use Rattle.cq_board.specs.Board.{is_matched_at, matched_of, all_groundings, name_at};
-ghost use Rattle.cq_board.specs.Kept.{with_pending, with_tables};
+ghost use Rattle.cq_board.specs.Steps.Parts.{with_pending, with_tables};
 ghost use Rattle.cq_board.specs.Views.{Admits};
 
 use crate::edit::{Edit, EditKind, Why};
@@ -145,7 +145,7 @@ impl<A: Allocator + Copy> Board<A> {
         ensures ok { OnOk result (self.new ≡ with_pending pending.items self.old) }
         ensures err { OnErr result (self.new ≡ self.old) }
     {
-        let parts = Parts::of(self.alloc, &pending, &self.tables, &mut work.visits)?;
+        let parts = Parts::of(self.alloc, &pending, &self.tables, work)?;
         self.pending = pending;
         self.edges = parts.edges;
         self.matched = parts.matched;

@@ -7,6 +7,7 @@ ghost use Rattle.cq_board.specs.Board.{nodes_of, matched_of};
 
 use crate::board::Posted;
 use crate::edges::edges_of;
+use crate::work::Work;
 use cq_atom::Meter;
 use cq_ground::Groundings;
 use cq_match::{Edge, greatest};
@@ -82,20 +83,20 @@ pub(crate) fn copies_of<A: Allocator + Copy>(
 }
 
 impl<A: Allocator + Copy> Parts<A> {
-    /// The parts of the board over these queries and tables.
+    /// The parts of the board over these queries and tables, with the work that they take.
     pub(crate) fn of(
         alloc: A,
         pending: &[Posted<A>],
         tables: &Tables<A>,
-        visits: &mut Meter,
+        work: &mut Work,
     ) -> Result<Parts<A>, AllocError>
         ensures edges { IfOk result (λ parts. parts.edges.items ≡ edges_of pending.now) }
         ensures matched { IfOk result (λ parts. parts.matched.items ≡ matched_of pending.now) }
         ensures groundings { IfOk result (λ parts. parts.groundings.items ≡ map (λ p. groundings_of p.query.body tables.now.rows) pending.now) }
     {
-        let edges = edges_of(alloc, pending)?;
+        let edges = edges_of(alloc, pending, &mut work.tests)?;
         let matched = matched_of(alloc, pending, &edges)?;
-        let groundings = groundings_of(alloc, pending, tables, visits)?;
+        let groundings = groundings_of(alloc, pending, tables, &mut work.visits)?;
         Ok(Parts {
             edges,
             matched,

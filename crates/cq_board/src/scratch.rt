@@ -4,7 +4,8 @@ ghost use Rattle.std.specs.Prelude.{◌≡◌, [], ◌∷◌, map};
 ghost use Rattle.cq_board.specs.declared.edit.EditKind.TheVariants.{Insert, Post};
 ghost use Rattle.cq_board.specs.declared.scratch.ScratchFault.TheVariants.{NoMemory};
 ghost use Rattle.cq_board.specs.Pool.{opening_pool};
-ghost use Rattle.cq_board.specs.Scratch.{scratch_edits, scratch_of, Makes, Continues};
+ghost use Rattle.cq_board.specs.Scratch.{scratch_edits, scratch_of, Makes};
+ghost use Rattle.cq_board.specs.Steps.Scratch.{Continues};
 
 use crate::board::Board;
 use crate::edit::{Edit, EditKind, Why};

@@ -1,7 +1,7 @@
 use Rattle.std.proofs.Common.{◌≡◌, List, subst, sym}
 use Rattle.std.specs.Prelude.{OnOk}
 use Rattle.cq_board.specs.Pool.{PendingQuery, IsPool}
-use Rattle.cq_board.specs.Kept.{with_pending}
+use Rattle.cq_board.specs.Steps.Parts.{with_pending}
 use Rattle.cq_board.proofs.Kept.{posted_good, good_seen, clones_same, posted_seen}
 use Rattle.cq_board.proofs.board.Board.post.Goals as goal
 
