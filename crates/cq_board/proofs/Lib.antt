@@ -8,7 +8,6 @@ pub mod Agreement
 pub mod Among
 pub mod Coordination
 pub mod Law
-pub mod Bound
 pub mod Scratched
 pub mod Walks
 pub mod Rising

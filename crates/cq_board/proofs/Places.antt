@@ -5,12 +5,15 @@ use Rattle.std.specs.List.{flat_map, enumerate_from}
 use Rattle.std.proofs.lemmas.List.{drop_all, take_more}
 use Rattle.std.proofs.lemmas.List.Elements.{filter-append}
 
+pub drop-at : {X : Type 0} (xs : List X) (i : ℕ) (x : X) → i < length xs → x ≡ get_or xs i x → drop i xs ≡ x ∷ drop (i + 1) xs
+drop-at {X} xs i x h is = rw add-one (drop-cons xs i x h ∙ ap (λ (u : X). u ∷ drop (suc i) xs) (sym is))
+
 module _ {X Y : Type 0} (f : ℕ × X → List Y) where
   -- one more element, where what is still to come is known
   pub flat_map-step : (now whole : List Y) (xs : List X) (i : ℕ) (x : X) → i < length xs → x ≡ get_or xs i x
       → now ++ flat_map f (enumerate_from i (drop i xs)) ≡ whole → (now ++ f (i, x)) ++ flat_map f (enumerate_from (i + 1) (drop (i + 1) xs)) ≡ whole
   flat_map-step now whole xs i x h is so_far =
-      let ahead : drop i xs ≡ x ∷ drop (i + 1) xs = rw add-one (drop-cons xs i x h ∙ ap (λ y. y ∷ drop (suc i) xs) (sym is)) in
+      let ahead : drop i xs ≡ x ∷ drop (i + 1) xs = drop-at xs i x h is in
       append_assoc now (f (i, x)) (flat_map f (enumerate_from (i + 1) (drop (i + 1) xs)))
       ∙ ap (λ ys. now ++ flat_map f (enumerate_from i ys)) (sym ahead) ∙ so_far
 
@@ -26,7 +29,7 @@ module _ {X Y : Type 0} (f : ℕ × X → Y) where
   pub map-step : (now whole : List Y) (xs : List X) (i : ℕ) (x : X) → i < length xs → x ≡ get_or xs i x
       → now ++ map f (enumerate_from i (drop i xs)) ≡ whole → (now ++ f (i, x) ∷ []) ++ map f (enumerate_from (i + 1) (drop (i + 1) xs)) ≡ whole
   map-step now whole xs i x h is so_far =
-      let ahead : drop i xs ≡ x ∷ drop (i + 1) xs = rw add-one (drop-cons xs i x h ∙ ap (λ y. y ∷ drop (suc i) xs) (sym is)) in
+      let ahead : drop i xs ≡ x ∷ drop (i + 1) xs = drop-at xs i x h is in
       append_assoc now (f (i, x) ∷ []) (map f (enumerate_from (i + 1) (drop (i + 1) xs)))
       ∙ ap (λ ys. now ++ map f (enumerate_from i ys)) (sym ahead) ∙ so_far
 

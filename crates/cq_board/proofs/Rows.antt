@@ -11,7 +11,7 @@ use Rattle.std.proofs.lemmas.List.Elements.{All-append, All-cons, All-filter}
 use Rattle.std.proofs.lemmas.List.Kept.{IsStrictlySortedBy-filter}
 use Rattle.cq_atom.specs.Atom.{AtomRecord, RowRecord}
 use Rattle.cq_rel.specs.Tables.{Declaration, arity_in, place_in, TablesRecord, IsUnder, IsTables, row_order, same_row, has_row, with_row, without_row}
-use Rattle.cq_rel.proofs.Order.{values_total}
+use Rattle.cq_rel.proofs.CallerLemmas.{values_total}
 use Rattle.cq_board.specs.declared.edit.EditKind.TheVariants.{Post, Withdraw, Insert, Delete}
 use Rattle.cq_board.specs.declared.edit.Why.{Why}
 use Rattle.cq_board.specs.declared.edit.Why.TheVariants.{RowPresent, RowAbsent, NoSuchName}

@@ -7,7 +7,7 @@ use Rattle.std.proofs.lemmas.Map.Keys.{IsDistinct-head, IsDistinct-tail, IsDisti
 use Rattle.cq_board.specs.Choice.{ChoiceRecord, chosen_name}
 use Rattle.cq_board.proofs.Members.{by_bool, In-append}
 use Rattle.cq_board.proofs.Among.{All-In, In-All}
-use Rattle.cq_board.proofs.Bound.{drop-at}
+use Rattle.cq_board.proofs.Places.{drop-at}
 use Rattle.cq_board.proofs.Ends.{map_more}
 
 module _ {X : Type 0} where

@@ -12,7 +12,7 @@ ghost use Rattle.cq_board.specs.Named.{query_named, matched_named};
 ghost use Rattle.cq_board.specs.Steps.Choices.{IsValid, SameVariable, AreValid, IsOfferedBy, HasHead, IsOffered, IsSupplied, IsServed, HasSuppliers, AreServed, HaveSuppliers};
 
 use crate::board::Board;
-use cq_atom::{Atom, Name, Query, Term, Value};
+use cq_atom::{Atom, Name, Query, Term, Value, value_place};
 use std::alloc::{Allocator, Global};
 use std::marker::Model;
 
@@ -58,14 +58,8 @@ struct Member<'a, A: Allocator> {
 fn value_of<'a, A: Allocator>(member: &Member<'a, A>, name: &str) -> Option<&'a Value<A>>
     ensures { option_copied result ≡ value_at (bound member.now.query.now member.now.values.now) name.now }
 {
-    let variables = member.query.variables();
-    let values = member.values;
-    for i in 0..variables.len().min(values.len()) {
-        if name == variables[i].as_str() {
-            return Some(&values[i]);
-        }
-    }
-    None
+    let place = value_place(member.query.variables(), name)?;
+    member.values.get(place)
 }
 
 /// The value of the term, where it has one.

@@ -1,6 +1,6 @@
 //! What is kept of a pool's board, from scratch.
 
-ghost use Rattle.std.specs.Prelude.{◌≡◌, map, IfOk};
+ghost use Rattle.std.specs.Prelude.{◌≡◌, [], map, IfOk};
 ghost use Rattle.cq_ground.specs.Grounding.{groundings_of};
 ghost use Rattle.cq_board.specs.Edges.{edges_of};
 ghost use Rattle.cq_board.specs.Board.{nodes_of, matched_of};
@@ -69,7 +69,7 @@ pub(crate) fn groundings_of<A: Allocator + Copy>(
 }
 
 /// Equal groundings of each query.
-pub(crate) fn copies_of<A: Allocator + Copy>(
+fn copies_of<A: Allocator + Copy>(
     alloc: A,
     groundings: &[Groundings<A>],
 ) -> Result<Vec<Groundings<A>, A>, AllocError>
@@ -83,6 +83,19 @@ pub(crate) fn copies_of<A: Allocator + Copy>(
 }
 
 impl<A: Allocator + Copy> Parts<A> {
+    /// The parts of a board without queries.
+    pub(crate) fn none(alloc: A) -> Parts<A>
+        ensures edges { result.edges.items ≡ [] }
+        ensures matched { result.matched.items ≡ [] }
+        ensures groundings { result.groundings.items ≡ [] }
+    {
+        Parts {
+            edges: Vec::new(alloc),
+            matched: Vec::new(alloc),
+            groundings: Vec::new(alloc),
+        }
+    }
+
     /// The parts of the board over these queries and tables, with the work that they take.
     pub(crate) fn of(
         alloc: A,
@@ -97,6 +110,22 @@ impl<A: Allocator + Copy> Parts<A> {
         let edges = edges_of(alloc, pending, &mut work.tests)?;
         let matched = matched_of(alloc, pending, &edges)?;
         let groundings = groundings_of(alloc, pending, tables, &mut work.visits)?;
+        Ok(Parts {
+            edges,
+            matched,
+            groundings,
+        })
+    }
+
+    /// Equal parts.
+    pub(crate) fn copy(&self, alloc: A) -> Result<Parts<A>, AllocError>
+        ensures edges { IfOk result (λ parts. parts.edges.items ≡ self.now.edges.items) }
+        ensures matched { IfOk result (λ parts. parts.matched.items ≡ self.now.matched.items) }
+        ensures groundings { IfOk result (λ parts. parts.groundings.items ≡ self.now.groundings.items) }
+    {
+        let edges = self.edges.clone()?;
+        let matched = self.matched.clone()?;
+        let groundings = copies_of(alloc, &self.groundings)?;
         Ok(Parts {
             edges,
             matched,
