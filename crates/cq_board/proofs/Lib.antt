@@ -13,4 +13,5 @@ pub mod Walks
 pub mod Rising
 pub mod Nodes
 pub mod Kept
+pub mod Refusals
 pub mod Rows

@@ -1,8 +1,8 @@
 -- Lists that are gone through with their places.
-use Rattle.std.proofs.Common.{◌≡◌, ℕ, suc, ◌+◌, ◌<◌, Bool, true, false, List, [], ◌∷◌, ◌++◌, length, take, drop, map, refl, sym, ap, ◌∙◌, append_assoc, append-nil, arith, get_or, add-one, drop-cons}
+use Rattle.std.proofs.Common.{◌≡◌, ℕ, suc, ◌+◌, ◌<◌, ◌≤◌, Bool, true, false, List, [], ◌∷◌, ◌++◌, length, take, drop, map, refl, sym, ap, ◌∙◌, append_assoc, append-nil, arith, get_or, add-one, drop-cons}
 use Rattle.std.specs.Prelude.{filter}
 use Rattle.std.specs.List.{flat_map, enumerate_from}
-use Rattle.std.proofs.lemmas.List.{drop_all, take_more}
+use Rattle.std.proofs.lemmas.List.{drop_all, map-append, take_all, take_more}
 use Rattle.std.proofs.lemmas.List.Elements.{filter-append}
 
 pub drop-at : {X : Type 0} (xs : List X) (i : ℕ) (x : X) → i < length xs → x ≡ get_or xs i x → drop i xs ≡ x ∷ drop (i + 1) xs
@@ -41,6 +41,18 @@ module _ {X Y : Type 0} (f : ℕ × X → Y) where
 
 more_taken : {X : Type 0} (xs : List X) (i : ℕ) (x : X) → i < length xs → x ≡ get_or xs i x → take (i + 1) xs ≡ take i xs ++ x ∷ []
 more_taken xs i x h is = take_more xs i x h ∙ ap (λ y. take i xs ++ y ∷ []) (sym is)
+
+-- one more copy, and one more image, of what a loop goes over
+pub copied-more : {X : Type 0} (now : List X) (xs : List X) (i : ℕ) (x y : X) → i < length xs → x ≡ get_or xs i x → now ≡ take i xs → y ≡ x → now ++ y ∷ [] ≡ take (i + 1) xs
+copied-more now xs i x y h is so_far same = ap (λ ys. ys ++ y ∷ []) so_far ∙ ap (λ z. take i xs ++ z ∷ []) same ∙ sym (more_taken xs i x h is)
+
+module _ {X Y : Type 0} (f : X → Y) where
+  pub mapped-more : (now : List Y) (xs : List X) (i : ℕ) (x : X) (y : Y) → i < length xs → x ≡ get_or xs i x → now ≡ map f (take i xs) → y ≡ f x → now ++ y ∷ [] ≡ map f (take (i + 1) xs)
+  mapped-more now xs i x y h is so_far same =
+      ap (λ ys. ys ++ y ∷ []) so_far ∙ ap (λ z. map f (take i xs) ++ z ∷ []) same ∙ sym (map-append f (take i xs) (x ∷ [])) ∙ ap (map f) (sym (more_taken xs i x h is))
+
+  pub mapped-all : (now : List Y) (xs : List X) (i : ℕ) → length xs ≤ i → now ≡ map f (take i xs) → now ≡ map f xs
+  mapped-all now xs i h so_far = so_far ∙ ap (map f) (take_all i xs h)
 
 module _ {X : Type 0} (p : X → Bool) where
   -- one more element that passes, or that does not

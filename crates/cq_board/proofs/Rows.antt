@@ -1,20 +1,20 @@
 -- A good pool after an edit is good: what an accepted edit of its rows leaves are good tables.
-use Rattle.std.proofs.Common.{◌≡◌, Bool, true, false, not, List, [], ◌∷◌, ◌++◌, length, refl, if◌then◌else◌, Option, Some, None, Ordering}
+use Rattle.std.proofs.Common.{◌≡◌, Bool, true, not, List, [], ◌∷◌, ◌++◌, length, refl, if◌then◌else◌, Option, Some, None, Ordering}
 use Rattle.std.specs.Prelude.{filter}
 use Rattle.std.specs.declared.cmp.Ordering.TheVariants.{Less, Equal, Greater}
 use Rattle.std.specs.Cmp.{IsTotalOrder}
-use Rattle.std.specs.Ordering.{is_lt, nat_cmp}
+use Rattle.std.specs.Ordering.{is_lt}
 use Rattle.std.specs.List.{AllByRecursion}
 use Rattle.std.specs.List.Sorted.{IsStrictlySortedBy}
 use Rattle.std.proofs.lemmas.Cmp.{nat_cmp_total, on_total, then_total}
 use Rattle.std.proofs.lemmas.List.Elements.{All-append, All-cons, All-filter}
 use Rattle.std.proofs.lemmas.List.Kept.{IsStrictlySortedBy-filter}
-use Rattle.cq_atom.specs.Atom.{AtomRecord, RowRecord}
+use Rattle.cq_atom.specs.Atom.{RowRecord}
 use Rattle.cq_rel.specs.Tables.{Declaration, arity_in, place_in, TablesRecord, IsUnder, IsTables, row_order, same_row, has_row, with_row, without_row}
 use Rattle.cq_rel.proofs.CallerLemmas.{values_total}
 use Rattle.cq_board.specs.declared.edit.EditKind.TheVariants.{Post, Withdraw, Insert, Delete}
 use Rattle.cq_board.specs.declared.edit.Why.{Why}
-use Rattle.cq_board.specs.declared.edit.Why.TheVariants.{RowPresent, RowAbsent, NoSuchName}
+use Rattle.cq_board.specs.declared.edit.Why.TheVariants.{RowPresent}
 use Rattle.cq_board.specs.Pool.{PoolRecord, IsPool}
 use Rattle.cq_board.specs.Edits.{Edit, is_named, arity_why, why, edited, unless_refused, pool_after}
 use Rattle.cq_board.proofs.Members.{by_bool}

@@ -141,11 +141,12 @@ fn has_head<A: Allocator>(offering: &Member<'_, A>, waiting: &Member<'_, A>, pos
     ensures same { IsTrue result ↔ Any (λ head. under (bound offering.now.query.now offering.now.values.now) head ≡ under (bound waiting.now.query.now waiting.now.values.now) post.now) offering.now.query.now.heads }
     ensures unify { IsTrue result → Any (λ head. Unify head post.now) offering.now.query.now.heads }
 {
-    offering
-        .query
-        .heads()
-        .iter()
-        .any(|head| atoms_agree(offering, head, waiting, post))
+    for head in offering.query.heads() {
+        if atoms_agree(offering, head, waiting, post) {
+            return true;
+        }
+    }
+    false
 }
 
 /// Whether all names differ.
@@ -197,9 +198,12 @@ impl<A: Allocator> Board<A> {
         ensures same { IsTrue result ↔ IsOffered self.now.pending choices.now (under (bound waiting.now.query.now waiting.now.values.now) post.now) }
         ensures unify { IsTrue result → IsSupplied self.now.pending choices.now post.now }
     {
-        choices
-            .iter()
-            .any(|choice| self.offers(choice, waiting, post))
+        for choice in choices {
+            if self.offers(choice, waiting, post) {
+                return true;
+            }
+        }
+        false
     }
 
     /// Whether each postcondition is offered by one of the choices.
@@ -261,7 +265,12 @@ impl<A: Allocator> Board<A> {
     fn are_grounded(&self, choices: &[Choice<A>]) -> bool
         ensures { IsTrue result ↔ All (IsGrounded self.now) choices.now }
     {
-        choices.iter().all(|choice| self.is_grounded(choice))
+        for choice in choices {
+            if !self.is_grounded(choice) {
+                return false;
+            }
+        }
+        true
     }
 
     /// Whether the choices coordinate: they are of distinct pending queries, each of a grounding of
