@@ -211,12 +211,25 @@ module _ (seen : PoolRecord) (limits : Limits) (tables : TablesRecord) (pending 
       let is : new ≡ without_row row copied = subst (λ (r : Result (Unit {0}) RowFault). OnOk r (new ≡ without_row row copied)) ok made in
       is ∙ ap (without_row row) same
 
-  pub posted_seen : (name copied_name : List ℕ) (query copied_query : QueryRecord) (copied others : List PendingQuery) → copied ≡ pending → copied_name ≡ name → copied_query ≡ query
-      → others ≡ copied ++ (record { name = copied_name; query = copied_query }) ∷ [] → others ≡ seen.pending ++ (record { name = name; query = query }) ∷ []
-  posted_seen name copied_name query copied_query copied others e f h made =
+  pub posted_seen : (name : List ℕ) (query : QueryRecord) (copied others : List PendingQuery) → copied ≡ pending
+      → others ≡ copied ++ (record { name = name; query = query }) ∷ [] → others ≡ seen.pending ++ (record { name = name; query = query }) ∷ []
+  posted_seen name query copied others e made =
       let posted : PendingQuery = record { name = name; query = query } in
-      let copy : PendingQuery = record { name = copied_name; query = copied_query } in
-      made ∙ ap (λ (ps : List PendingQuery). ps ++ copy ∷ []) (e ∙ ap (λ (s : PoolRecord). s.pending) view) ∙ ap (λ (p : PendingQuery). seen.pending ++ p ∷ []) (pending_same posted copy f h)
+      made ∙ ap (λ (ps : List PendingQuery). ps ++ posted ∷ []) (e ∙ ap (λ (s : PoolRecord). s.pending) view)
 
   pub copied_seen : (copied : TablesRecord) (others : List PendingQuery) → copied ≡ tables → others ≡ pending → (record { limits = limits; tables = copied; pending = others }) ≡ seen
   copied_seen copied others e f = (λ i. record { limits = limits; tables = e i; pending = f i }) ∙ view
+
+  pub copied_kept : (copied : TablesRecord) (others : List PendingQuery) → copied ≡ tables → others ≡ pending
+      → (edges edges' : List Edge) (matched matched' : List ℕ) (groundings groundings' : List (List (List ValueContent)))
+      → IsKept inside edges matched groundings → edges' ≡ edges → matched' ≡ matched → groundings' ≡ groundings
+      → IsKept (record { limits = limits; tables = copied; pending = others }) edges' matched' groundings'
+  copied_kept copied others e f edges edges' matched matched' groundings groundings' kept a b d =
+      let copy : PoolRecord = record { limits = limits; tables = copied; pending = others } in
+      let same : inside ≡ copy = sym (λ i. record { limits = limits; tables = e i; pending = f i }) in
+      record {
+        good = subst IsPool same kept.good;
+        edges = a ∙ kept.edges ∙ ap (λ (pool : PoolRecord). edges_of pool.pending) same;
+        matched = b ∙ kept.matched ∙ ap (λ (pool : PoolRecord). matched_of pool.pending) same;
+        groundings = d ∙ kept.groundings ∙ ap all_groundings same;
+      }

@@ -15,3 +15,4 @@ pub mod Nodes
 pub mod Kept
 pub mod Refusals
 pub mod Rows
+pub mod Shown

@@ -42,28 +42,41 @@ module _ {X Y : Type 0} (f : ℕ × X → Y) where
 more_taken : {X : Type 0} (xs : List X) (i : ℕ) (x : X) → i < length xs → x ≡ get_or xs i x → take (i + 1) xs ≡ take i xs ++ x ∷ []
 more_taken xs i x h is = take_more xs i x h ∙ ap (λ y. take i xs ++ y ∷ []) (sym is)
 
--- one more copy, and one more image, of what a loop goes over
-pub copied-more : {X : Type 0} (now : List X) (xs : List X) (i : ℕ) (x y : X) → i < length xs → x ≡ get_or xs i x → now ≡ take i xs → y ≡ x → now ++ y ∷ [] ≡ take (i + 1) xs
-copied-more now xs i x y h is so_far same = ap (λ ys. ys ++ y ∷ []) so_far ∙ ap (λ z. take i xs ++ z ∷ []) same ∙ sym (more_taken xs i x h is)
+-- a loop that adds a copy, or an image, of each element to what was there before
+pub copied-more : {X : Type 0} (before now : List X) (xs : List X) (i : ℕ) (x y : X) → i < length xs → x ≡ get_or xs i x → now ≡ before ++ take i xs → y ≡ x → now ++ y ∷ [] ≡ before ++ take (i + 1) xs
+copied-more before now xs i x y h is so_far same =
+    ap (λ ys. ys ++ y ∷ []) so_far ∙ append_assoc before (take i xs) (y ∷ []) ∙ ap (λ z. before ++ (take i xs ++ z ∷ [])) same ∙ ap (λ ys. before ++ ys) (sym (more_taken xs i x h is))
+
+pub copied-all : {X : Type 0} (before now : List X) (xs : List X) (i : ℕ) → length xs ≤ i → now ≡ before ++ take i xs → now ≡ before ++ xs
+copied-all before now xs i h so_far = so_far ∙ ap (λ ys. before ++ ys) (take_all i xs h)
 
 module _ {X Y : Type 0} (f : X → Y) where
-  pub mapped-more : (now : List Y) (xs : List X) (i : ℕ) (x : X) (y : Y) → i < length xs → x ≡ get_or xs i x → now ≡ map f (take i xs) → y ≡ f x → now ++ y ∷ [] ≡ map f (take (i + 1) xs)
-  mapped-more now xs i x y h is so_far same =
-      ap (λ ys. ys ++ y ∷ []) so_far ∙ ap (λ z. map f (take i xs) ++ z ∷ []) same ∙ sym (map-append f (take i xs) (x ∷ [])) ∙ ap (map f) (sym (more_taken xs i x h is))
+  pub mapped-more : (before now : List Y) (xs : List X) (i : ℕ) (x : X) (y : Y) → i < length xs → x ≡ get_or xs i x → now ≡ before ++ map f (take i xs) → y ≡ f x → now ++ y ∷ [] ≡ before ++ map f (take (i + 1) xs)
+  mapped-more before now xs i x y h is so_far same =
+      ap (λ ys. ys ++ y ∷ []) so_far ∙ append_assoc before (map f (take i xs)) (y ∷ []) ∙ ap (λ z. before ++ (map f (take i xs) ++ z ∷ [])) same
+      ∙ ap (λ ys. before ++ ys) (sym (map-append f (take i xs) (x ∷ [])) ∙ ap (map f) (sym (more_taken xs i x h is)))
 
-  pub mapped-all : (now : List Y) (xs : List X) (i : ℕ) → length xs ≤ i → now ≡ map f (take i xs) → now ≡ map f xs
-  mapped-all now xs i h so_far = so_far ∙ ap (map f) (take_all i xs h)
+  pub mapped-all : (before now : List Y) (xs : List X) (i : ℕ) → length xs ≤ i → now ≡ before ++ map f (take i xs) → now ≡ before ++ map f xs
+  mapped-all before now xs i h so_far = so_far ∙ ap (λ ys. before ++ map f ys) (take_all i xs h)
+
+-- nothing was there before
+pub from-nothing : {X : Type 0} (before now added : List X) → before ≡ [] → now ≡ before ++ added → now ≡ added
+from-nothing before now added e h = h ∙ ap (λ ys. ys ++ added) e
 
 module _ {X : Type 0} (p : X → Bool) where
   -- one more element that passes, or that does not
-  pub filter-step_yes : (now next : List X) (xs : List X) (i : ℕ) (x : X) → i < length xs → x ≡ get_or xs i x → p x ≡ true
-      → now ≡ filter p (take i xs) → next ≡ now ++ x ∷ [] → next ≡ filter p (take (i + 1) xs)
-  filter-step_yes now next xs i x h is t so_far made =
+  pub filter-step_yes : (before now next : List X) (xs : List X) (i : ℕ) (x : X) → i < length xs → x ≡ get_or xs i x → p x ≡ true
+      → now ≡ before ++ filter p (take i xs) → next ≡ now ++ x ∷ [] → next ≡ before ++ filter p (take (i + 1) xs)
+  filter-step_yes before now next xs i x h is t so_far made =
       let more : filter p (x ∷ []) ≡ x ∷ [] = rw t refl in
-      made ∙ ap (λ ys. ys ++ x ∷ []) so_far ∙ ap (λ ys. filter p (take i xs) ++ ys) (sym more) ∙ sym (filter-append p (take i xs) (x ∷ [])) ∙ ap (filter p) (sym (more_taken xs i x h is))
+      made ∙ ap (λ ys. ys ++ x ∷ []) so_far ∙ append_assoc before (filter p (take i xs)) (x ∷ [])
+      ∙ ap (λ ys. before ++ ys) (ap (λ ys. filter p (take i xs) ++ ys) (sym more) ∙ sym (filter-append p (take i xs) (x ∷ [])) ∙ ap (filter p) (sym (more_taken xs i x h is)))
 
-  pub filter-step_no : (now : List X) (xs : List X) (i : ℕ) (x : X) → i < length xs → x ≡ get_or xs i x → p x ≡ false
-      → now ≡ filter p (take i xs) → now ≡ filter p (take (i + 1) xs)
-  filter-step_no now xs i x h is f so_far =
+  pub filter-step_no : (before now : List X) (xs : List X) (i : ℕ) (x : X) → i < length xs → x ≡ get_or xs i x → p x ≡ false
+      → now ≡ before ++ filter p (take i xs) → now ≡ before ++ filter p (take (i + 1) xs)
+  filter-step_no before now xs i x h is f so_far =
       let none : filter p (x ∷ []) ≡ [] = rw f refl in
-      so_far ∙ sym (append-nil (filter p (take i xs))) ∙ ap (λ ys. filter p (take i xs) ++ ys) (sym none) ∙ sym (filter-append p (take i xs) (x ∷ [])) ∙ ap (filter p) (sym (more_taken xs i x h is))
+      so_far ∙ ap (λ ys. before ++ ys) (sym (append-nil (filter p (take i xs))) ∙ ap (λ ys. filter p (take i xs) ++ ys) (sym none) ∙ sym (filter-append p (take i xs) (x ∷ [])) ∙ ap (filter p) (sym (more_taken xs i x h is)))
+
+  pub filter-all : (before now : List X) (xs : List X) (i : ℕ) → length xs ≤ i → now ≡ before ++ filter p (take i xs) → now ≡ before ++ filter p xs
+  filter-all before now xs i h so_far = so_far ∙ ap (λ ys. before ++ filter p ys) (take_all i xs h)

@@ -1,10 +1,10 @@
 //! Boards: one pool, and its parts from scratch.
 
-ghost use Rattle.std.specs.Prelude.{◌≡◌, length, filter, not, OnOk, OnErr, IfOk, None};
+ghost use Rattle.std.specs.Prelude.{◌≡◌, ◌++◌, ◌∷◌, [], length, filter, not, OnOk, OnErr, IfOk, None};
 ghost use Rattle.std.specs.List.{slice_get};
 ghost use Rattle.std.specs.Option.{option_copied};
 ghost use Rattle.cq_board.specs.declared.edit.EditKind.TheVariants.{Post, Withdraw, Insert, Delete};
-ghost use Rattle.cq_board.specs.Pool.{IsPool, opening_pool};
+ghost use Rattle.cq_board.specs.Pool.{IsPool, PendingQuery, opening_pool};
 ghost use Rattle.cq_board.specs.Edges.{edges_of};
 ghost use Rattle.cq_board.specs.Edits.{is_named, why, edited, pool_after};
 ghost use Rattle.cq_board.specs.Board.{is_matched_at, matched_of, all_groundings, name_at};
@@ -177,10 +177,7 @@ impl<A: Allocator + Copy> Board<A> {
         ensures err { OnErr result (self.new ≡ self.old) }
     {
         let mut pending = self.pending.clone()?;
-        pending.push(Pending {
-            name: name.copy()?,
-            query: query.copy()?,
-        })?;
+        push_posted(&mut pending, name, query)?;
         self.set_pending(pending, work)
     }
 
@@ -220,6 +217,37 @@ impl<A: Allocator + Copy> Board<A> {
     }
 }
 
+/// Adds a copy of the query under a copy of its name.
+fn push_posted<A: Allocator + Copy>(
+    pending: &mut Vec<Posted<A>, A>,
+    name: &Name<A>,
+    query: &Query<A>,
+) -> Result<(), AllocError>
+    ensures { let posted : PendingQuery = record { name = name.now; query = query.now } in
+        OnOk result (pending.new.items ≡ pending.old.items ++ posted ∷ []) }
+{
+    let name = name.copy()?;
+    let query = query.copy()?;
+    pending.push(Pending { name, query })?;
+    Ok(())
+}
+
+/// Adds copies of the queries that are not pending under the name.
+fn add_all_but<A: Allocator + Copy>(
+    others: &mut Vec<Posted<A>, A>,
+    name: &Name<A>,
+    pending: &[Posted<A>],
+) -> Result<(), AllocError>
+    ensures { OnOk result (others.new.items ≡ others.old.items ++ filter (λ other. not (is_named name.now other)) pending.now) }
+{
+    for posted in pending {
+        if !is_named(name, posted) {
+            push_posted(others, &posted.name, &posted.query)?;
+        }
+    }
+    Ok(())
+}
+
 /// Copies of the queries that are not pending under the name.
 fn all_but<A: Allocator + Copy>(
     alloc: A,
@@ -229,11 +257,7 @@ fn all_but<A: Allocator + Copy>(
     ensures { IfOk result (λ others. others.items ≡ filter (λ other. not (is_named name.now other)) pending.now) }
 {
     let mut others = Vec::with_capacity(alloc, pending.len())?;
-    for posted in pending {
-        if !is_named(name, posted) {
-            others.push(posted.clone()?)?;
-        }
-    }
+    add_all_but(&mut others, name, pending)?;
     Ok(others)
 }
 

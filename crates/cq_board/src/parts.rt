@@ -1,6 +1,6 @@
 //! What is kept of a pool's board, from scratch.
 
-ghost use Rattle.std.specs.Prelude.{◌≡◌, [], map, IfOk};
+ghost use Rattle.std.specs.Prelude.{◌≡◌, ◌++◌, [], map, IfOk, OnOk};
 ghost use Rattle.cq_ground.specs.Grounding.{groundings_of};
 ghost use Rattle.cq_board.specs.Edges.{edges_of};
 ghost use Rattle.cq_board.specs.Board.{nodes_of, matched_of};
@@ -52,6 +52,22 @@ fn matched_of<A: Allocator + Copy>(
     greatest(alloc, &nodes, edges)
 }
 
+/// Adds the groundings of each query, in posting order. The meter counts a visit of each.
+fn add_groundings<A: Allocator + Copy>(
+    groundings: &mut Vec<Groundings<A>, A>,
+    alloc: A,
+    pending: &[Posted<A>],
+    tables: &Tables<A>,
+    visits: &mut Meter,
+) -> Result<(), AllocError>
+    ensures { OnOk result (groundings.new.items ≡ groundings.old.items ++ map (λ p. groundings_of p.query.body tables.now.rows) pending.now) }
+{
+    for posted in pending {
+        groundings.push(Groundings::all(alloc, &posted.query, tables, visits)?)?;
+    }
+    Ok(())
+}
+
 /// The groundings of each query, in posting order. The meter counts a visit of each.
 pub(crate) fn groundings_of<A: Allocator + Copy>(
     alloc: A,
@@ -62,10 +78,21 @@ pub(crate) fn groundings_of<A: Allocator + Copy>(
     ensures { IfOk result (λ groundings. groundings.items ≡ map (λ p. groundings_of p.query.body tables.now.rows) pending.now) }
 {
     let mut groundings = Vec::with_capacity(alloc, pending.len())?;
-    for posted in pending {
-        groundings.push(Groundings::all(alloc, &posted.query, tables, visits)?)?;
-    }
+    add_groundings(&mut groundings, alloc, pending, tables, visits)?;
     Ok(groundings)
+}
+
+/// Adds equal groundings of each query.
+fn add_copies<A: Allocator + Copy>(
+    copies: &mut Vec<Groundings<A>, A>,
+    groundings: &[Groundings<A>],
+) -> Result<(), AllocError>
+    ensures { OnOk result (copies.new.items ≡ copies.old.items ++ groundings.now) }
+{
+    for found in groundings {
+        copies.push(found.copy()?)?;
+    }
+    Ok(())
 }
 
 /// Equal groundings of each query.
@@ -76,9 +103,7 @@ fn copies_of<A: Allocator + Copy>(
     ensures { IfOk result (λ copies. copies.items ≡ groundings.now) }
 {
     let mut copies = Vec::with_capacity(alloc, groundings.len())?;
-    for found in groundings {
-        copies.push(found.copy()?)?;
-    }
+    add_copies(&mut copies, groundings)?;
     Ok(copies)
 }
 

@@ -1,17 +1,10 @@
-use Rattle.std.proofs.Common.{◌∙◌, arith}
+use Rattle.std.proofs.Common.{map}
 use Rattle.cq_ground.specs.Grounding.{groundings_of}
 use Rattle.cq_board.specs.Pool.{PendingQuery}
-use Rattle.cq_board.proofs.Places.{mapped-more, mapped-all}
+use Rattle.cq_board.proofs.Places.{from-nothing}
 use Rattle.cq_board.proofs.parts.groundings_of.Goals as goal
 
-pub loop-posted-init : goal.loop-posted-init
-loop-posted-init g c = c.in_ok-groundings.ensures.items
-
-pub loop-posted-preserved : goal.loop-posted-preserved
-loop-posted-preserved g c =
-    c.in_ok-push.ensures.items
-    ∙ mapped-more (λ (p : PendingQuery). groundings_of p.query.body c.args.tables.now.rows) c.loop-posted.groundings.items c.args.pending.now c.loop-posted.posted-index c.posted-item.result c.in_ok-all.field-0
-    (omega arith) c.posted-item.is c.loop-posted.invariant c.in_ok-all.ensures.listed
-
 pub returns : goal.returns
-returns g c = mapped-all (λ (p : PendingQuery). groundings_of p.query.body c.args.tables.now.rows) c.loop-posted.groundings.items c.args.pending.now c.loop-posted.posted-index (omega arith) c.loop-posted.invariant
+returns g c =
+    from-nothing c.in_ok-groundings.groundings.items c.add_groundings.new.groundings.items (map (λ (p : PendingQuery). groundings_of p.query.body c.args.tables.now.rows) c.args.pending.now)
+    c.in_ok-groundings.ensures.items c.in_ok-add_groundings.ensures
