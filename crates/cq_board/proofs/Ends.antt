@@ -9,7 +9,7 @@ use Rattle.cq_match.specs.declared.edge.Edge.{Edge}
 use Rattle.cq_board.specs.Supply.{unifies}
 use Rattle.cq_board.specs.Pool.{PendingQuery}
 use Rattle.cq_board.specs.Edges.{edge_if, edges_into, edges_of}
-use Rattle.cq_board.specs.Board.{is_matched_at, matched_of}
+use Rattle.cq_board.specs.Board.{is_matched_at, matched_of, name_at, name_or_none}
 use Rattle.cq_board.proofs.Members.{by_bool, In, In-flat_map_gives, In-map_gives}
 
 module _ {X : Type 0} where
@@ -86,3 +86,12 @@ pub map_more : {X Y Z : Type 0} (f : X → Z) (g : Y → Z) (xs : List X) (x : X
 map_more f g xs x ys i d h so_far same =
     map-append f xs (x ∷ []) ∙ ap (λ zs. zs ++ (f x ∷ [])) so_far ∙ ap (λ z. map g (take i ys) ++ (z ∷ [])) same
     ∙ sym (map-append g (take i ys) (get_or ys i d ∷ [])) ∙ ap (map g) (sym (take_more ys i d h))
+
+-- a place that there is has its query's name
+pub name_there : (shown pending : List PendingQuery) (i : ℕ) (d : PendingQuery) → shown ≡ pending → i < length pending → (get_or shown i d).name ≡ name_or_none (name_at pending i)
+name_there shown pending i d e h = ap (λ (ps : List PendingQuery). (get_or ps i d).name) e ∙ there pending i h
+  where
+    there : (ps : List PendingQuery) (k : ℕ) → k < length ps → (get_or ps k d).name ≡ name_or_none (name_at ps k)
+    there [] k low = absurd (omega arith)
+    there (p ∷ ps) zero low = refl
+    there (p ∷ ps) (suc k) low = there ps k (omega arith)

@@ -24,7 +24,8 @@ use Rattle.cq_board.specs.Pool.{PendingQuery, PoolRecord, FitsCatalog, IsPool, i
 use Rattle.cq_board.specs.Edits.{is_named, is_taken, first_of, answer_why, arity_why, body_why, query_why, why, edited}
 use Rattle.cq_board.specs.Edges.{edges_of}
 use Rattle.cq_board.specs.Board.{matched_of, all_groundings}
-use Rattle.cq_board.specs.Kept.{IsKept, with_pending, with_tables}
+use Rattle.cq_board.specs.Kept.{IsKept}
+use Rattle.cq_board.specs.Steps.Parts.{with_pending, with_tables}
 use Rattle.cq_board.proofs.Members.{by_bool}
 
 distinct_nil : IsDistinct bytes_eq []
@@ -70,7 +71,7 @@ module _ (p : PendingQuery → Bool) where
 
 -- ---- a query more
 
-first_none : (a b : Option Why) → first_of a b ≡ None → (a ≡ None) × (b ≡ None)
+pub first_none : (a b : Option Why) → first_of a b ≡ None → (a ≡ None) × (b ≡ None)
 first_none None b e = (refl, e)
 first_none (Some reason) b e = cc
 
@@ -82,7 +83,7 @@ module _ (catalog : List Declaration) where
       (λ t. let never : Some (NotAnswer part place) ≡ None = rw t at e in cc)
       (λ f. (rw f refl, answers_fit part (place + 1) atoms (rw f at e)))
 
-  arity_fits : (declared : Option ℕ) (arity place : ℕ) → arity_why declared arity place ≡ None → declared ≡ Some arity
+  pub arity_fits : (declared : Option ℕ) (arity place : ℕ) → arity_why declared arity place ≡ None → declared ≡ Some arity
   arity_fits None arity place e = cc
   arity_fits (Some n) arity place e =
       by_bool (nat_eq n arity) (Some n ≡ Some arity)
@@ -210,12 +211,25 @@ module _ (seen : PoolRecord) (limits : Limits) (tables : TablesRecord) (pending 
       let is : new ≡ without_row row copied = subst (λ (r : Result (Unit {0}) RowFault). OnOk r (new ≡ without_row row copied)) ok made in
       is ∙ ap (without_row row) same
 
-  pub posted_seen : (name copied_name : List ℕ) (query copied_query : QueryRecord) (copied others : List PendingQuery) → copied ≡ pending → copied_name ≡ name → copied_query ≡ query
-      → others ≡ copied ++ (record { name = copied_name; query = copied_query }) ∷ [] → others ≡ seen.pending ++ (record { name = name; query = query }) ∷ []
-  posted_seen name copied_name query copied_query copied others e f h made =
+  pub posted_seen : (name : List ℕ) (query : QueryRecord) (copied others : List PendingQuery) → copied ≡ pending
+      → others ≡ copied ++ (record { name = name; query = query }) ∷ [] → others ≡ seen.pending ++ (record { name = name; query = query }) ∷ []
+  posted_seen name query copied others e made =
       let posted : PendingQuery = record { name = name; query = query } in
-      let copy : PendingQuery = record { name = copied_name; query = copied_query } in
-      made ∙ ap (λ (ps : List PendingQuery). ps ++ copy ∷ []) (e ∙ ap (λ (s : PoolRecord). s.pending) view) ∙ ap (λ (p : PendingQuery). seen.pending ++ p ∷ []) (pending_same posted copy f h)
+      made ∙ ap (λ (ps : List PendingQuery). ps ++ posted ∷ []) (e ∙ ap (λ (s : PoolRecord). s.pending) view)
 
   pub copied_seen : (copied : TablesRecord) (others : List PendingQuery) → copied ≡ tables → others ≡ pending → (record { limits = limits; tables = copied; pending = others }) ≡ seen
   copied_seen copied others e f = (λ i. record { limits = limits; tables = e i; pending = f i }) ∙ view
+
+  pub copied_kept : (copied : TablesRecord) (others : List PendingQuery) → copied ≡ tables → others ≡ pending
+      → (edges edges' : List Edge) (matched matched' : List ℕ) (groundings groundings' : List (List (List ValueContent)))
+      → IsKept inside edges matched groundings → edges' ≡ edges → matched' ≡ matched → groundings' ≡ groundings
+      → IsKept (record { limits = limits; tables = copied; pending = others }) edges' matched' groundings'
+  copied_kept copied others e f edges edges' matched matched' groundings groundings' kept a b d =
+      let copy : PoolRecord = record { limits = limits; tables = copied; pending = others } in
+      let same : inside ≡ copy = sym (λ i. record { limits = limits; tables = e i; pending = f i }) in
+      record {
+        good = subst IsPool same kept.good;
+        edges = a ∙ kept.edges ∙ ap (λ (pool : PoolRecord). edges_of pool.pending) same;
+        matched = b ∙ kept.matched ∙ ap (λ (pool : PoolRecord). matched_of pool.pending) same;
+        groundings = d ∙ kept.groundings ∙ ap all_groundings same;
+      }

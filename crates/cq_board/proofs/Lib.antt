@@ -8,10 +8,11 @@ pub mod Agreement
 pub mod Among
 pub mod Coordination
 pub mod Law
-pub mod Bound
 pub mod Scratched
 pub mod Walks
-pub mod Coordinated
 pub mod Rising
 pub mod Nodes
 pub mod Kept
+pub mod Refusals
+pub mod Rows
+pub mod Shown

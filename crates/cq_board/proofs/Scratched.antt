@@ -7,8 +7,9 @@ use Rattle.cq_board.specs.Edits.{Edit, why, edited, unless_refused, pool_after}
 use Rattle.cq_board.specs.Views.{Admits}
 use Rattle.cq_board.specs.declared.scratch.ScratchFault.{ScratchFault}
 use Rattle.cq_board.specs.declared.scratch.ScratchFault.TheVariants.{Refused, NoMemory}
-use Rattle.cq_board.specs.Scratch.{or_refused, scratch_of, Makes, Continues}
-use Rattle.cq_board.proofs.Bound.{drop-at}
+use Rattle.cq_board.specs.Scratch.{or_refused, scratch_of, Makes}
+use Rattle.cq_board.specs.Steps.Scratch.{Continues}
+use Rattle.cq_board.proofs.Places.{drop-at}
 
 -- an edit that is answered without a reason is done
 done_with : (o : Option Why) (old made now : PoolRecord) → Admits o (Ok None) → now ≡ unless_refused o old made → or_refused o (Ok made) ≡ Ok now

@@ -1,13 +1,13 @@
 -- Loops over lists, one element after another.
 use Rattle.std.proofs.Common.{◌≡◌, ℕ, zero, suc, ◌+◌, ◌<◌, ◌≤◌, true, false, List, [], ◌∷◌, ◌++◌, length, map, take, drop, get_or, refl, sym, ap, subst, ◌∙◌, arith, inl, inr}
 use Rattle.std.specs.Str.{bytes_eq}
-use Rattle.std.specs.List.{All, AllByRecursion, IsDistinct, list_any}
+use Rattle.std.specs.List.{All, Any, AllByRecursion, IsDistinct, list_any}
 use Rattle.std.proofs.lemmas.List.{take_more, take_all, drop_all}
 use Rattle.std.proofs.lemmas.Map.Keys.{IsDistinct-head, IsDistinct-tail, IsDistinct-cons}
 use Rattle.cq_board.specs.Choice.{ChoiceRecord, chosen_name}
 use Rattle.cq_board.proofs.Members.{by_bool, In-append}
-use Rattle.cq_board.proofs.Among.{All-In, In-All}
-use Rattle.cq_board.proofs.Bound.{drop-at}
+use Rattle.cq_board.proofs.Among.{All-In, In-All, In-Any}
+use Rattle.cq_board.proofs.Places.{drop-at}
 use Rattle.cq_board.proofs.Ends.{map_more}
 
 module _ {X : Type 0} where
@@ -30,6 +30,18 @@ module _ {X : Type 0} where
 
   pub All_at : (P : X → Type 0) (xs ys : List X) (i : ℕ) (x : X) → i < length xs → x ≡ get_or xs i x → xs ≡ ys → All P ys → P x
   All_at P xs ys i x h e same all = subst P (sym e) (subst (All P) (sym same) all i x h)
+
+  pub All_none : (P : X → Type 0) → All P []
+  All_none P = λ k d h. absurd (let low : k < 0 = h in omega arith)
+
+  pub Any_at : (P : X → Type 0) (xs ys : List X) (i : ℕ) (x : X) → i < length xs → x ≡ get_or xs i x → xs ≡ ys → P x → Any P ys
+  Any_at P xs ys i x h e same p = subst (Any P) same (i, x, h, sym e, p)
+
+  -- where no element before the end is one
+  pub Any_none : (P : X → Type 0) (xs ys : List X) (i : ℕ) → length xs ≤ i → xs ≡ ys → All (λ (x : X). P x → ⊥) (take i xs) → Any P ys → ⊥
+  Any_none P xs ys i h e none any =
+      let found = In-Any P ys any in
+      In-All (λ (x : X). P x → ⊥) ys (All_end (λ (x : X). P x → ⊥) xs ys i h e none) found.0 found.1 found.2
 
   push_each : (P : X → Type 0) (xs : List X) (x : X) → AllByRecursion P xs → P x → AllByRecursion P (xs ++ (x ∷ []))
   push_each P [] x all p = (p, tt)

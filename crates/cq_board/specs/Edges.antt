@@ -1,7 +1,7 @@
 -- The edges of a list of pending queries, whose nodes are their places in posting order.
 -- (the unifiability graph: Gupta et al., SIGMOD 2011; provider and waiter may be one query, and each pair of atoms is looked at alone: this project's profile)
-use Rattle.std.specs.Prelude.{ℕ, List, [], ◌∷◌, if◌then◌else◌, Option, Some, None}
-use Rattle.std.specs.List.{flat_map, enumerate_from, slice_get}
+use Rattle.std.specs.Prelude.{ℕ, List, [], ◌∷◌, if◌then◌else◌}
+use Rattle.std.specs.List.{flat_map, enumerate_from}
 use Rattle.cq_atom.specs.Atom.{AtomRecord}
 use Rattle.cq_match.specs.declared.edge.Edge.{Edge}
 use Rattle.cq_board.specs.Supply.{unifies}
@@ -21,11 +21,3 @@ edges_into pending waiter post =
 abbrev pub edges_of : List PendingQuery → List Edge
 edges_of pending =
     flat_map (λ waiter. flat_map (edges_into pending waiter.0) (enumerate_from 0 waiter.1.query.posts)) (enumerate_from 0 pending)
-
-abbrev pub post_of : Option PendingQuery → ℕ → Option AtomRecord
-post_of None post = None
-post_of (Some waiter) post = slice_get waiter.query.posts post
-
--- The postcondition at that place, where there is one.
-abbrev pub post_at : List PendingQuery → ℕ → ℕ → Option AtomRecord
-post_at pending waiter post = post_of (slice_get pending waiter) post

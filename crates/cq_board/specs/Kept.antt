@@ -2,8 +2,7 @@
 use Rattle.std.specs.Prelude.{◌≡◌, ℕ, List}
 use Rattle.cq_atom.specs.Value.{ValueContent}
 use Rattle.cq_match.specs.declared.edge.Edge.{Edge}
-use Rattle.cq_rel.specs.Tables.{TablesRecord}
-use Rattle.cq_board.specs.Pool.{PendingQuery, PoolRecord, IsPool}
+use Rattle.cq_board.specs.Pool.{PoolRecord, IsPool}
 use Rattle.cq_board.specs.Board.{board_of}
 
 -- The pool is good, and the parts that are kept are those of its board. (What is crowded is counted from the edges when it is asked for.)
@@ -12,11 +11,3 @@ pub record IsKept (pool : PoolRecord) (kept_edges : List Edge) (kept_matched : L
   pub edges : kept_edges ≡ (board_of pool).edges
   pub matched : kept_matched ≡ (board_of pool).matched
   pub groundings : kept_groundings ≡ (board_of pool).groundings
-
--- The pool with other queries.
-abbrev pub with_pending : List PendingQuery → PoolRecord → PoolRecord
-with_pending pending pool = record pool { pending = pending }
-
--- The pool with other tables.
-abbrev pub with_tables : TablesRecord → PoolRecord → PoolRecord
-with_tables tables pool = record pool { tables = tables }

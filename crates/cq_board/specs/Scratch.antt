@@ -27,9 +27,3 @@ abbrev pub Makes : Result PoolRecord Why → Result PoolRecord ScratchFault → 
 Makes made (Ok pool) = made ≡ Ok pool
 Makes made (Err (Refused reason)) = made ≡ Err reason
 Makes made (Err NoMemory) = Unit {0}
-
--- The same of a board that is changed: the pool that it has then is the one that is made.
-abbrev pub Continues : Result PoolRecord Why → PoolRecord → Result (Unit {0}) ScratchFault → Type 0
-Continues made now (Ok done) = made ≡ Ok now
-Continues made now (Err (Refused reason)) = made ≡ Err reason
-Continues made now (Err NoMemory) = Unit {0}

@@ -1,3 +1,5 @@
 -- What the private steps of the code are stated with; no part of what a reader must believe.
 pub mod Runs
 pub mod Choices
+pub mod Parts
+pub mod Scratch

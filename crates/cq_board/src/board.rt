@@ -1,21 +1,21 @@
 //! Boards: one pool, and its parts from scratch.
 
-ghost use Rattle.std.specs.Prelude.{◌≡◌, length, filter, not, OnOk, OnErr, IfOk, None};
+ghost use Rattle.std.specs.Prelude.{◌≡◌, ◌++◌, ◌∷◌, [], length, filter, not, OnOk, OnErr, IfOk, None};
 ghost use Rattle.std.specs.List.{slice_get};
 ghost use Rattle.std.specs.Option.{option_copied};
 ghost use Rattle.cq_board.specs.declared.edit.EditKind.TheVariants.{Post, Withdraw, Insert, Delete};
-ghost use Rattle.cq_board.specs.Pool.{IsPool, opening_pool};
+ghost use Rattle.cq_board.specs.Pool.{IsPool, PendingQuery, opening_pool};
 ghost use Rattle.cq_board.specs.Edges.{edges_of};
 ghost use Rattle.cq_board.specs.Edits.{is_named, why, edited, pool_after};
 ghost use Rattle.cq_board.specs.Board.{is_matched_at, matched_of, all_groundings, name_at};
-ghost use Rattle.cq_board.specs.Kept.{with_pending, with_tables};
+ghost use Rattle.cq_board.specs.Steps.Parts.{with_pending, with_tables};
 ghost use Rattle.cq_board.specs.Views.{Admits};
 
 use crate::edit::{Edit, EditKind, Why};
 use crate::limits::Limits;
-use crate::parts::{Parts, copies_of, groundings_of};
+use crate::parts::{Parts, groundings_of};
 use crate::pending::Pending;
-use crate::refusal::{is_named, refusal};
+use crate::refusal::{insert_why, is_named, post_why, refusal};
 use crate::work::Work;
 use cq_atom::{Name, Query, Row};
 use cq_ground::Groundings;
@@ -35,9 +35,7 @@ pub struct Board<A: Allocator = Global> {
     limits: Limits,
     tables: Tables<A>,
     pending: Vec<Posted<A>, A>,
-    edges: Vec<Edge, A>,
-    matched: Vec<usize, A>,
-    groundings: Vec<Groundings<A>, A>,
+    parts: Parts<A>,
 }
 
 impl<A: Allocator> Model for Board<A> {
@@ -48,7 +46,7 @@ impl<A: Allocator> Model for Board<A> {
 
     ghost view = { λ b. record { limits = b.limits; tables = b.tables; pending = b.pending.items } };
 
-    ghost invariant = { λ b. IsKept (record { limits = b.limits; tables = b.tables; pending = b.pending.items }) b.edges.items b.matched.items b.groundings.items };
+    ghost invariant = { λ b. IsKept (record { limits = b.limits; tables = b.tables; pending = b.pending.items }) b.parts.edges.items b.parts.matched.items b.parts.groundings.items };
 }
 
 impl<A: Allocator + Copy> Board<A> {
@@ -66,9 +64,7 @@ impl<A: Allocator + Copy> Board<A> {
             limits,
             tables,
             pending: Vec::new(alloc),
-            edges: Vec::new(alloc),
-            matched: Vec::new(alloc),
-            groundings: Vec::new(alloc),
+            parts: Parts::none(alloc),
         })
     }
 
@@ -98,16 +94,25 @@ impl<A: Allocator + Copy> Board<A> {
         ensures ok { OnOk result (self.new ≡ pool_after self.old edit.now) }
         ensures err { OnErr result (self.new ≡ self.old) }
     {
-        if let Some(why) = refusal(self.limits, &self.tables, &self.pending, edit) {
+        if let Some(why) = self.why(edit) {
             return Ok(Some(why));
         }
-        match edit {
-            EditKind::Post { name, query } => self.post(name, query, work)?,
-            EditKind::Withdraw { name } => self.withdraw(name, work)?,
-            EditKind::Insert { row } => self.insert(row, work)?,
-            EditKind::Delete { row } => self.delete(row, work)?,
-        }
+        self.accept(edit, work)?;
         Ok(None)
+    }
+
+    /// Does the edit, where nothing speaks against it.
+    fn accept(&mut self, edit: &Edit<A>, work: &mut Work) -> Result<(), AllocError>
+        requires { why self.old edit.now ≡ None }
+        ensures ok { OnOk result (self.new ≡ edited self.old edit.now) }
+        ensures err { OnErr result (self.new ≡ self.old) }
+    {
+        match edit {
+            EditKind::Post { name, query } => self.post(name, query, work),
+            EditKind::Withdraw { name } => self.withdraw(name, work),
+            EditKind::Insert { row } => self.insert(row, work),
+            EditKind::Delete { row } => self.delete(row, work),
+        }
     }
 
     /// The allocator on which the board grows.
@@ -124,17 +129,13 @@ impl<A: Allocator + Copy> Board<A> {
     {
         let tables = self.tables.copy()?;
         let pending = self.pending.clone()?;
-        let edges = self.edges.clone()?;
-        let matched = self.matched.clone()?;
-        let groundings = copies_of(self.alloc, &self.groundings)?;
+        let parts = self.parts.copy(self.alloc)?;
         Ok(Board {
             alloc: self.alloc,
             limits: self.limits,
             tables,
             pending,
-            edges,
-            matched,
-            groundings,
+            parts,
         })
     }
 
@@ -145,11 +146,9 @@ impl<A: Allocator + Copy> Board<A> {
         ensures ok { OnOk result (self.new ≡ with_pending pending.items self.old) }
         ensures err { OnErr result (self.new ≡ self.old) }
     {
-        let parts = Parts::of(self.alloc, &pending, &self.tables, &mut work.visits)?;
+        let parts = Parts::of(self.alloc, &pending, &self.tables, work)?;
         self.pending = pending;
-        self.edges = parts.edges;
-        self.matched = parts.matched;
-        self.groundings = parts.groundings;
+        self.parts = parts;
         Ok(())
     }
 
@@ -162,21 +161,23 @@ impl<A: Allocator + Copy> Board<A> {
         let _good = tables.catalog();
         let groundings = groundings_of(self.alloc, &self.pending, &tables, &mut work.visits)?;
         self.tables = tables;
-        self.groundings = groundings;
+        self.parts.groundings = groundings;
         Ok(())
     }
 
     /// Makes a copy of the query pending, where nothing speaks against it.
-    fn post(&mut self, name: &Name<A>, query: &Query<A>, work: &mut Work) -> Result<(), AllocError>
+    pub(crate) fn post(
+        &mut self,
+        name: &Name<A>,
+        query: &Query<A>,
+        work: &mut Work,
+    ) -> Result<(), AllocError>
         requires { why self.old (Post name.now query.now) ≡ None }
         ensures ok { OnOk result (self.new ≡ edited self.old (Post name.now query.now)) }
         ensures err { OnErr result (self.new ≡ self.old) }
     {
         let mut pending = self.pending.clone()?;
-        pending.push(Pending {
-            name: name.copy()?,
-            query: query.copy()?,
-        })?;
+        push_posted(&mut pending, name, query)?;
         self.set_pending(pending, work)
     }
 
@@ -190,7 +191,7 @@ impl<A: Allocator + Copy> Board<A> {
     }
 
     /// Adds a copy of the row, where nothing speaks against it.
-    fn insert(&mut self, row: &Row<A>, work: &mut Work) -> Result<(), AllocError>
+    pub(crate) fn insert(&mut self, row: &Row<A>, work: &mut Work) -> Result<(), AllocError>
         requires { why self.old (Insert row.now) ≡ None }
         ensures ok { OnOk result (self.new ≡ edited self.old (Insert row.now)) }
         ensures err { OnErr result (self.new ≡ self.old) }
@@ -216,6 +217,37 @@ impl<A: Allocator + Copy> Board<A> {
     }
 }
 
+/// Adds a copy of the query under a copy of its name.
+fn push_posted<A: Allocator + Copy>(
+    pending: &mut Vec<Posted<A>, A>,
+    name: &Name<A>,
+    query: &Query<A>,
+) -> Result<(), AllocError>
+    ensures { let posted : PendingQuery = record { name = name.now; query = query.now } in
+        OnOk result (pending.new.items ≡ pending.old.items ++ posted ∷ []) }
+{
+    let name = name.copy()?;
+    let query = query.copy()?;
+    pending.push(Pending { name, query })?;
+    Ok(())
+}
+
+/// Adds copies of the queries that are not pending under the name.
+fn add_all_but<A: Allocator + Copy>(
+    others: &mut Vec<Posted<A>, A>,
+    name: &Name<A>,
+    pending: &[Posted<A>],
+) -> Result<(), AllocError>
+    ensures { OnOk result (others.new.items ≡ others.old.items ++ filter (λ other. not (is_named name.now other)) pending.now) }
+{
+    for posted in pending {
+        if !is_named(name, posted) {
+            push_posted(others, &posted.name, &posted.query)?;
+        }
+    }
+    Ok(())
+}
+
 /// Copies of the queries that are not pending under the name.
 fn all_but<A: Allocator + Copy>(
     alloc: A,
@@ -225,15 +257,32 @@ fn all_but<A: Allocator + Copy>(
     ensures { IfOk result (λ others. others.items ≡ filter (λ other. not (is_named name.now other)) pending.now) }
 {
     let mut others = Vec::with_capacity(alloc, pending.len())?;
-    for posted in pending {
-        if !is_named(name, posted) {
-            others.push(posted.clone()?)?;
-        }
-    }
+    add_all_but(&mut others, name, pending)?;
     Ok(others)
 }
 
 impl<A: Allocator> Board<A> {
+    /// Why the pool refuses the edit: the first test that holds.
+    fn why(&self, edit: &Edit<A>) -> Option<Why>
+        ensures { result ≡ why self.now edit.now }
+    {
+        refusal(self.limits, &self.tables, &self.pending, edit)
+    }
+
+    /// Why the pool refuses to post the query.
+    pub(crate) fn post_why(&self, name: &Name<A>, query: &Query<A>) -> Option<Why>
+        ensures { result ≡ why self.now (Post name.now query.now) }
+    {
+        post_why(self.limits, &self.tables, &self.pending, name, query)
+    }
+
+    /// Why the pool refuses to insert the row.
+    pub(crate) fn insert_why(&self, row: &Row<A>) -> Option<Why>
+        ensures { result ≡ why self.now (Insert row.now) }
+    {
+        insert_why(&self.tables, row)
+    }
+
     /// How many queries are pending.
     pub fn len(&self) -> usize
         ensures value { result ≡ length self.now.pending }
@@ -265,28 +314,28 @@ impl<A: Allocator> Board<A> {
     pub fn edges_by_place(&self) -> &[Edge]
         ensures { result.now ≡ edges_of self.now.pending }
     {
-        self.edges.as_slice()
+        self.parts.edges.as_slice()
     }
 
     /// The places of the matched queries, in posting order.
     pub fn matched_by_place(&self) -> &[usize]
         ensures { result.now ≡ matched_of self.now.pending }
     {
-        self.matched.as_slice()
+        self.parts.matched.as_slice()
     }
 
     /// Whether the query at that place is matched; false where there is none.
     pub fn is_matched_at(&self, place: usize) -> bool
         ensures { result ≡ is_matched_at self.now.pending place }
     {
-        self.matched.contains(&place)
+        self.parts.matched.contains(&place)
     }
 
     /// The groundings of the query at that place, where there is one.
     pub fn groundings_at(&self, place: usize) -> Option<&Groundings<A>>
         ensures { option_copied result ≡ slice_get (all_groundings self.now) place }
     {
-        self.groundings.get(place)
+        self.parts.groundings.get(place)
     }
 
     /// The rows and their catalog.

@@ -12,7 +12,7 @@ ghost use Rattle.cq_board.specs.Named.{query_named, matched_named};
 ghost use Rattle.cq_board.specs.Steps.Choices.{IsValid, SameVariable, AreValid, IsOfferedBy, HasHead, IsOffered, IsSupplied, IsServed, HasSuppliers, AreServed, HaveSuppliers};
 
 use crate::board::Board;
-use cq_atom::{Atom, Name, Query, Term, Value};
+use cq_atom::{Atom, Name, Query, Term, Value, value_place};
 use std::alloc::{Allocator, Global};
 use std::marker::Model;
 
@@ -58,14 +58,8 @@ struct Member<'a, A: Allocator> {
 fn value_of<'a, A: Allocator>(member: &Member<'a, A>, name: &str) -> Option<&'a Value<A>>
     ensures { option_copied result ≡ value_at (bound member.now.query.now member.now.values.now) name.now }
 {
-    let variables = member.query.variables();
-    let values = member.values;
-    for i in 0..variables.len().min(values.len()) {
-        if name == variables[i].as_str() {
-            return Some(&values[i]);
-        }
-    }
-    None
+    let place = value_place(member.query.variables(), name)?;
+    member.values.get(place)
 }
 
 /// The value of the term, where it has one.
@@ -147,11 +141,12 @@ fn has_head<A: Allocator>(offering: &Member<'_, A>, waiting: &Member<'_, A>, pos
     ensures same { IsTrue result ↔ Any (λ head. under (bound offering.now.query.now offering.now.values.now) head ≡ under (bound waiting.now.query.now waiting.now.values.now) post.now) offering.now.query.now.heads }
     ensures unify { IsTrue result → Any (λ head. Unify head post.now) offering.now.query.now.heads }
 {
-    offering
-        .query
-        .heads()
-        .iter()
-        .any(|head| atoms_agree(offering, head, waiting, post))
+    for head in offering.query.heads() {
+        if atoms_agree(offering, head, waiting, post) {
+            return true;
+        }
+    }
+    false
 }
 
 /// Whether all names differ.
@@ -203,9 +198,12 @@ impl<A: Allocator> Board<A> {
         ensures same { IsTrue result ↔ IsOffered self.now.pending choices.now (under (bound waiting.now.query.now waiting.now.values.now) post.now) }
         ensures unify { IsTrue result → IsSupplied self.now.pending choices.now post.now }
     {
-        choices
-            .iter()
-            .any(|choice| self.offers(choice, waiting, post))
+        for choice in choices {
+            if self.offers(choice, waiting, post) {
+                return true;
+            }
+        }
+        false
     }
 
     /// Whether each postcondition is offered by one of the choices.
@@ -267,7 +265,12 @@ impl<A: Allocator> Board<A> {
     fn are_grounded(&self, choices: &[Choice<A>]) -> bool
         ensures { IsTrue result ↔ All (IsGrounded self.now) choices.now }
     {
-        choices.iter().all(|choice| self.is_grounded(choice))
+        for choice in choices {
+            if !self.is_grounded(choice) {
+                return false;
+            }
+        }
+        true
     }
 
     /// Whether the choices coordinate: they are of distinct pending queries, each of a grounding of

@@ -7,7 +7,7 @@ ghost use Rattle.cq_board.specs.Edges.{edge_if, edges_into, edges_of};
 
 use crate::pending::Pending;
 use crate::supply::supplies;
-use cq_atom::{Atom, Name, Query};
+use cq_atom::{Atom, Meter, Name, Query};
 use cq_match::Edge;
 use std::alloc::{AllocError, Allocator};
 
@@ -19,12 +19,13 @@ fn add_heads<A: Allocator>(
     waiter: usize,
     post: u8,
     wanted: &Atom<A>,
+    tests: &mut Meter,
 ) -> Result<(), AllocError>
     requires { length heads.now ≤ MAX_ATOMS }
     ensures { OnOk result (edges.new.items ≡ edges.old.items ++ flat_map (λ head. edge_if provider head waiter (post, wanted.now)) (enumerate_from 0 heads.now)) }
 {
     for (head, offered) in heads.iter().enumerate() {
-        if supplies(offered, wanted) {
+        if supplies(offered, wanted, tests) {
             edges.push(Edge {
                 provider,
                 head: head as u8,
@@ -43,6 +44,7 @@ fn add_providers<A: Allocator>(
     waiter: usize,
     post: u8,
     wanted: &Atom<A>,
+    tests: &mut Meter,
 ) -> Result<(), AllocError>
     ensures { OnOk result (edges.new.items ≡ edges.old.items ++ edges_into pending.now waiter (post, wanted.now)) }
 {
@@ -54,6 +56,7 @@ fn add_providers<A: Allocator>(
             waiter,
             post,
             wanted,
+            tests,
         )?;
     }
     Ok(())
@@ -65,26 +68,28 @@ fn add_posts<A: Allocator>(
     pending: &[Pending<Name<A>, Query<A>>],
     waiter: usize,
     posts: &[Atom<A>],
+    tests: &mut Meter,
 ) -> Result<(), AllocError>
     requires { length posts.now ≤ MAX_ATOMS }
     ensures { OnOk result (edges.new.items ≡ edges.old.items ++ flat_map (edges_into pending.now waiter) (enumerate_from 0 posts.now)) }
 {
     for (post, wanted) in posts.iter().enumerate() {
-        add_providers(edges, pending, waiter, post as u8, wanted)?;
+        add_providers(edges, pending, waiter, post as u8, wanted, tests)?;
     }
     Ok(())
 }
 
-/// All edges of the pending queries.
+/// All edges of the pending queries. The meter counts the tests.
 pub(crate) fn edges_of<A: Allocator>(
     alloc: A,
     pending: &[Pending<Name<A>, Query<A>>],
+    tests: &mut Meter,
 ) -> Result<Vec<Edge, A>, AllocError>
     ensures { IfOk result (λ edges. edges.items ≡ edges_of pending.now) }
 {
     let mut edges = Vec::new(alloc);
     for (waiter, waiting) in pending.iter().enumerate() {
-        add_posts(&mut edges, pending, waiter, waiting.query.posts())?;
+        add_posts(&mut edges, pending, waiter, waiting.query.posts(), tests)?;
     }
     Ok(edges)
 }

@@ -7,8 +7,9 @@
 //!
 //! The crates above use one contract of this one most: `Board::admit` tells why the edit is refused
 //! and leaves the pool after it, or leaves all as it was. That what a board shows is the board of its
-//! pool stands in its type. Edges rest on `supplies`, which is true exactly where a head unifies with
-//! a postcondition; by that test they are defined.
+//! pool stands in its type. Two laws of the definitions are proved beside it: the test by which edges
+//! are defined is true exactly where a head unifies with a postcondition (`unifies_is_unify`), and the
+//! pool after an edit of a good pool is good (`pools_stay_good`).
 //!
 //! Not here: the order in which edits came, and how a board is printed.
 #![tactic(auto)]
@@ -17,6 +18,7 @@ mod board;
 mod choice;
 mod edges;
 mod edit;
+mod laws;
 mod limits;
 mod link;
 mod parts;
@@ -30,9 +32,9 @@ mod work;
 pub use board::{Board, Posted};
 pub use choice::Choice;
 pub use edit::{Edit, EditKind, Why};
+pub use laws::{pools_stay_good, unifies_is_unify};
 pub use limits::Limits;
 pub use link::{Crowd, Link};
 pub use pending::Pending;
 pub use scratch::ScratchFault;
-pub use supply::supplies;
 pub use work::Work;

@@ -1,10 +1,11 @@
 //! Why an edit is refused.
 
-ghost use Rattle.std.specs.Prelude.{◌≡◌};
+ghost use Rattle.std.specs.Prelude.{◌≡◌, if◌then◌else◌, Some, None};
 ghost use Rattle.cq_board.specs.declared.edit.EditKind.TheVariants.{Post};
+ghost use Rattle.cq_board.specs.declared.edit.Why.TheVariants.{RowPresent, RowAbsent};
 ghost use Rattle.cq_board.specs.Pool.{PoolRecord};
 ghost use Rattle.cq_board.specs.Edits.{is_named, is_taken, answer_why, arity_why, body_why, query_why, row_why, why};
-ghost use Rattle.cq_rel.specs.Tables.{arity_in};
+ghost use Rattle.cq_rel.specs.Tables.{arity_in, has_row};
 
 use crate::board::Posted;
 use crate::edit::{Edit, EditKind, Why};
@@ -85,7 +86,22 @@ fn row_why<A: Allocator>(tables: &Tables<A>, row: &Row<A>, present: Option<Why>)
     }
 }
 
-fn post_why<A: Allocator>(
+/// Why the row is not inserted.
+pub(crate) fn insert_why<A: Allocator>(tables: &Tables<A>, row: &Row<A>) -> Option<Why>
+    ensures { result ≡ row_why tables.now row.now (if has_row tables.now row.now then Some RowPresent else None) }
+{
+    row_why(tables, row, tables.has(row).then_some(Why::RowPresent))
+}
+
+/// Why the row is not deleted.
+fn delete_why<A: Allocator>(tables: &Tables<A>, row: &Row<A>) -> Option<Why>
+    ensures { result ≡ row_why tables.now row.now (if has_row tables.now row.now then None else Some RowAbsent) }
+{
+    row_why(tables, row, (!tables.has(row)).then_some(Why::RowAbsent))
+}
+
+/// Why the query is not posted.
+pub(crate) fn post_why<A: Allocator>(
     limits: Limits,
     tables: &Tables<A>,
     pending: &[Posted<A>],
@@ -116,13 +132,7 @@ pub(crate) fn refusal<A: Allocator>(
         EditKind::Post { name, query } => post_why(limits, tables, pending, name, query),
         EditKind::Withdraw { name } if is_taken(name, pending) => None,
         EditKind::Withdraw { .. } => Some(Why::NoSuchName),
-        EditKind::Insert { row } => {
-            let present = tables.has(row).then_some(Why::RowPresent);
-            row_why(tables, row, present)
-        }
-        EditKind::Delete { row } => {
-            let absent = (!tables.has(row)).then_some(Why::RowAbsent);
-            row_why(tables, row, absent)
-        }
+        EditKind::Insert { row } => insert_why(tables, row),
+        EditKind::Delete { row } => delete_why(tables, row),
     }
 }

@@ -4,11 +4,13 @@ ghost use Rattle.std.specs.Prelude.{◌≡◌, [], ◌∷◌, map};
 ghost use Rattle.cq_board.specs.declared.edit.EditKind.TheVariants.{Insert, Post};
 ghost use Rattle.cq_board.specs.declared.scratch.ScratchFault.TheVariants.{NoMemory};
 ghost use Rattle.cq_board.specs.Pool.{opening_pool};
-ghost use Rattle.cq_board.specs.Scratch.{scratch_edits, scratch_of, Makes, Continues};
+ghost use Rattle.cq_board.specs.Scratch.{scratch_edits, scratch_of, Makes};
+ghost use Rattle.cq_board.specs.Steps.Scratch.{Continues};
 
 use crate::board::Board;
-use crate::edit::{Edit, EditKind, Why};
+use crate::edit::Why;
 use crate::limits::Limits;
+use crate::work::Work;
 use cq_atom::{Name, Query, Row};
 use cq_rel::Catalog;
 use std::alloc::{AllocError, AllocFailed, Allocator};
@@ -42,14 +44,26 @@ impl<T: Drop> From<AllocFailed<T>> for ScratchFault {
 }
 
 impl<A: Allocator + Copy> Board<A> {
-    /// The edit, a refusal of which is an error.
-    fn edit(&mut self, edit: &Edit<A>) -> Result<(), ScratchFault>
-        ensures { Continues (scratch_of self.old (edit.now ∷ [])) self.new result }
+    /// Inserts a copy of the row. A refusal is an error.
+    fn insert_one(&mut self, row: &Row<A>) -> Result<(), ScratchFault>
+        ensures { Continues (scratch_of self.old (Insert row.now ∷ [])) self.new result }
     {
-        match self.admit(edit)? {
-            None => Ok(()),
-            Some(why) => Err(ScratchFault::Refused(why)),
+        if let Some(why) = self.insert_why(row) {
+            return Err(ScratchFault::Refused(why));
         }
+        self.insert(row, &mut Work::new())?;
+        Ok(())
+    }
+
+    /// Posts a copy of the query. A refusal is an error.
+    fn post_one(&mut self, name: &Name<A>, query: &Query<A>) -> Result<(), ScratchFault>
+        ensures { Continues (scratch_of self.old (Post name.now query.now ∷ [])) self.new result }
+    {
+        if let Some(why) = self.post_why(name, query) {
+            return Err(ScratchFault::Refused(why));
+        }
+        self.post(name, query, &mut Work::new())?;
+        Ok(())
     }
 
     /// Inserts the rows, one after another.
@@ -57,7 +71,7 @@ impl<A: Allocator + Copy> Board<A> {
         ensures { Continues (scratch_of self.old (map Insert rows.now)) self.new result }
     {
         for row in rows {
-            self.edit(&EditKind::Insert { row: row.copy()? })?;
+            self.insert_one(row)?;
         }
         Ok(())
     }
@@ -67,10 +81,7 @@ impl<A: Allocator + Copy> Board<A> {
         ensures { Continues (scratch_of self.old (map (λ q. Post q.0 q.1) queries.now)) self.new result }
     {
         for (name, query) in queries {
-            self.edit(&EditKind::Post {
-                name: name.copy()?,
-                query: query.copy()?,
-            })?;
+            self.post_one(name, query)?;
         }
         Ok(())
     }

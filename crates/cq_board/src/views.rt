@@ -12,7 +12,7 @@ use crate::link::{Crowd, Link};
 use crate::refusal::is_named;
 use cq_atom::{Name, Query};
 use cq_ground::Groundings;
-use cq_match::Edge;
+use cq_match::{Edge, is_crowd};
 use std::alloc::{AllocError, Allocator};
 
 fn leads_to(waiter: usize, post: u8, edge: &Edge) -> bool
@@ -116,7 +116,7 @@ impl<A: Allocator + Copy> Board<A> {
         requires { first.now.waiter < length self.now.pending }
         ensures { OnOk result (map (crowd_read (λ name. name.now)) crowded.new.items ≡ map (crowd_read (λ name. name.now)) crowded.old.items ++ crowd_at self.now.pending first.now providers) }
     {
-        if providers >= 2 {
+        if is_crowd(providers) {
             crowded.push(Crowd {
                 waiter: self.name_of(first.waiter),
                 post: first.post,

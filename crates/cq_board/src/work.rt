@@ -4,14 +4,15 @@ ghost use Rattle.std.specs.Prelude.{◌≡◌};
 
 use cq_atom::Meter;
 
-/// Counts of the work that edits took. So far nothing is promised of them.
+/// Counts of the work that edits took. So far nothing is promised of them: the tests and the visits of
+/// each accepted edit are ticked, and the changes are not yet.
 #[derive(Drop)]
 pub struct Work {
     /// Tests of a head against a postcondition.
     pub tests: Meter,
     /// Visits of a query's groundings.
     pub visits: Meter,
-    /// Changes of a count of matched providers.
+    /// Changes of a count of matched providers: not ticked so far.
     pub changes: Meter,
 }
 

@@ -3,6 +3,3 @@ use Rattle.cq_board.proofs.supply.supplies.Goals as goal
 
 pub returns-clause-test : goal.returns-clause-test
 returns-clause-test g c = tells_same c.args.head.now c.args.post.now c.unify.result c.unify.ensures.unifies
-
-pub returns-clause-meaning : goal.returns-clause-meaning
-returns-clause-meaning g c = c.unify.ensures.unifies

@@ -1,12 +1,11 @@
-use Rattle.std.proofs.Common.{◌≡◌, ◌++◌, ◌∷◌, [], ap, ◌∙◌, map, true, nat_le}
-use Rattle.std.proofs.lemmas.Bool.{le-leb}
+use Rattle.std.proofs.Common.{◌≡◌, ◌++◌, ◌∷◌, [], sym, ap, ◌∙◌, map, true, nat_le}
 use Rattle.std.proofs.lemmas.List.{map-append}
 use Rattle.cq_board.specs.Named.{crowd_read}
 use Rattle.cq_board.proofs.board.Board.add_crowd.Goals as goal
 
 pub returns-in_ok-push : goal.returns-in_ok-push
 returns-in_ok-push g c =
-    let many : nat_le 2 c.args.providers ≡ true = le-leb 2 c.args.providers c.if-providers-ge2.true in
+    let many : nat_le 2 c.args.providers ≡ true = sym c.is_crowd.ensures ∙ c.if-is_crowd.true in
     ap (map (crowd_read (λ name. name.now))) c.in_ok-push.ensures.items
     ∙ map-append (crowd_read (λ name. name.now)) c.args.crowded.now.items _
     ∙ ap (λ crowds. map (crowd_read (λ name. name.now)) c.args.crowded.now.items ++ crowds)

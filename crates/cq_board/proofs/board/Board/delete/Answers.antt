@@ -1,7 +1,7 @@
 use Rattle.std.proofs.Common.{◌≡◌, ap, subst}
 use Rattle.std.specs.Prelude.{OnOk}
 use Rattle.cq_rel.specs.Tables.{TablesRecord}
-use Rattle.cq_board.specs.Kept.{with_tables}
+use Rattle.cq_board.specs.Steps.Parts.{with_tables}
 use Rattle.cq_board.proofs.Kept.{less_seen}
 use Rattle.cq_board.proofs.board.Board.delete.Goals as goal
 

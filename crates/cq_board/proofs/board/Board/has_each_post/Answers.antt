@@ -13,6 +13,9 @@ returns-then-not-is_offered-clause-same g c =
       λ all. c.if-not-is_offered.ensures.same.1 (All_at offered c.posts-post-items.result.now c.args.waiting.now.query.now.posts c.loop-post.post-index c.post-item.result (omega arith) c.post-item.is c.posts-post-items.ensures.value all),
     )
 
+pub returns-then-not-is_offered-clause-unify : goal.returns-then-not-is_offered-clause-unify
+returns-then-not-is_offered-clause-unify g c = λ t. let never : false ≡ true = t in cc
+
 pub loop-post-preserved : goal.loop-post-preserved
 loop-post-preserved g c =
     let offered = λ (post : AtomRecord). IsOffered c.args.self.now.pending c.args.choices.now (under (bound c.args.waiting.now.query.now c.args.waiting.now.values.now) post) in

@@ -2,7 +2,7 @@ use Rattle.std.proofs.Common.{◌≡◌, List, subst, sym, not}
 use Rattle.std.specs.Prelude.{OnOk}
 use Rattle.cq_board.specs.Pool.{PendingQuery, IsPool}
 use Rattle.cq_board.specs.Edits.{is_named}
-use Rattle.cq_board.specs.Kept.{with_pending}
+use Rattle.cq_board.specs.Steps.Parts.{with_pending}
 use Rattle.cq_board.proofs.Kept.{filtered_good, good_seen, without_seen}
 use Rattle.cq_board.proofs.board.Board.withdraw.Goals as goal
 
