@@ -1,9 +1,11 @@
+pub mod CallerLemmas
 pub mod Shows
 pub mod Merges
 pub mod Meets
 pub mod Glue
 pub mod Closes
 pub mod Bindings
+pub mod Bound
 pub mod Names
 pub mod Variables
 pub mod Finite

@@ -1,7 +1,7 @@
 -- Queries, their variables, and why three lists of atoms make none.
 -- (the form `{posts} heads <- body` and the range restriction: Gupta et al., SIGMOD 2011; the limits: this project's profile)
 use Rattle.std.specs.Prelude.{ℕ, ◌+◌, Bool, true, false, not, nat_le, List, [], ◌∷◌, length, filter, if◌then◌else◌, Option, Some, None, position}
-use Rattle.std.specs.List.{list_any, filter_map, flat_map}
+use Rattle.std.specs.List.{list_any, list_all, filter_map, flat_map}
 use Rattle.std.specs.Str.{bytes_eq}
 use Rattle.cq_atom.specs.declared.term.TermKind.TheVariants.{Constant, Variable}
 use Rattle.cq_atom.specs.declared.fault.Part.{Part}
@@ -35,10 +35,18 @@ abbrev pub is_variable : List ℕ → TermContent → Bool
 is_variable x (Constant c) = false
 is_variable x (Variable y) = bytes_eq x y
 
+-- Some atom of the body has the variable of that name.
+abbrev pub binds : List AtomRecord → List ℕ → Bool
+binds body x = list_any (λ a. list_any (is_variable x) a.terms) body
+
 -- A constant, or a variable that some atom of the body has.
 abbrev pub is_bound : List AtomRecord → TermContent → Bool
 is_bound body (Constant c) = true
-is_bound body (Variable x) = list_any (λ a. list_any (is_variable x) a.terms) body
+is_bound body (Variable x) = binds body x
+
+-- The body has each variable of the atoms.
+abbrev pub binds_all : List AtomRecord → List AtomRecord → Bool
+binds_all body atoms = list_all (λ a. list_all (is_bound body) a.terms) atoms
 
 -- The place of an atom's first term that is not bound.
 abbrev pub unbound_term : List AtomRecord → AtomRecord → Option ℕ

@@ -1,10 +1,12 @@
 //! Valuations.
 
-ghost use Rattle.std.specs.Prelude.{◌≡◌, ℕ, List, [], map, position, IfOk, OnErr, OnOk, if◌then◌else◌, Some, None};
-ghost use Rattle.std.specs.Option.{option_copied};
+ghost use Rattle.std.specs.Prelude.{◌≡◌, ℕ, List, [], map, zip, position, string_bytes, IfOk, OnErr, OnOk, if◌then◌else◌, Some, None};
+ghost use Rattle.std.specs.List.{slice_get};
+ghost use Rattle.std.specs.Option.{option_copied, option_and_then};
 ghost use Rattle.std.specs.Str.{bytes_eq};
 ghost use Rattle.cq_atom.specs.Answer.{Answers};
 ghost use Rattle.cq_atom.specs.Text.{is_variable_name};
+ghost use Rattle.cq_atom.specs.Value.{ValueContent};
 ghost use Rattle.cq_atom.specs.Valuation.{value_at, term_under};
 
 use crate::fault::Bad;
@@ -102,4 +104,20 @@ pub(crate) fn terms_under<A: Allocator + Clone>(
         made.push(term.under(valuation)?)?;
     }
     Ok(made)
+}
+
+/// The first place at which the name stands.
+fn first_place<A: Allocator>(names: &[String<A>], name: &str) -> Option<usize>
+    ensures { result ≡ position (λ other. bytes_eq name.now (string_bytes other)) names.now }
+{
+    names.iter().position(|other| name == other.as_str())
+}
+
+/// The first place of the name among the names: that of the value that it has, where the names are bound
+/// to values in order.
+pub fn value_place<A: Allocator>(names: &[String<A>], name: &str) -> Option<usize>
+    ensures first { result ≡ position (λ other. bytes_eq name.now (string_bytes other)) names.now }
+    ensures value { (values : List ValueContent) → value_at (zip (map string_bytes names.now) values) name.now ≡ option_and_then (slice_get values) result }
+{
+    first_place(names, name)
 }

@@ -5,7 +5,7 @@
 //! postcondition, how many they are, and when they are too many (`specs/Graph`); which sets of nodes
 //! are closed, and which nodes stand in one (`specs/Matched`).
 //!
-//! The public call is [`greatest`]: the matched nodes of a graph, from scratch, which are those of the union of
+//! The public calls are [`is_crowd`], and [`greatest`]: the matched nodes of a graph, from scratch, which are those of the union of
 //! all closed sets. It numbers nodes by their places in rising order and lets places fall that nothing
 //! standing feeds (`settle`).
 //!
@@ -16,5 +16,5 @@ mod edge;
 mod matched;
 mod settle;
 
-pub use edge::Edge;
+pub use edge::{Edge, is_crowd};
 pub use matched::greatest;

@@ -1,3 +1,4 @@
+pub mod CallerLemmas
 pub mod Catalogs
 pub mod Order
 pub mod Filters

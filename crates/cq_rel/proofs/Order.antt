@@ -68,7 +68,7 @@ lists-tied R one (x ∷ xs) (y ∷ ys) e =
 pub nats-tied : (m n : ℕ) → nat_cmp m n ≡ Equal → m ≡ n
 nats-tied m n e = rw e at (ranked m n (nat_cmp m n) refl)
 
-value-tied : (x y : ValueContent) → value_order x y ≡ Equal → x ≡ y
+pub value-tied : (x y : ValueContent) → value_order x y ≡ Equal → x ≡ y
 value-tied (Number m) (Number n) e = ap Number (rw e at (int_ranked m n (int_cmp m n) refl))
 value-tied (Number m) (Text t) e = absurd cc
 value-tied (Text s) (Number n) e = absurd cc
