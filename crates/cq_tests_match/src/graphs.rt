@@ -1,6 +1,6 @@
 //! Worked graphs.
 
-use cq_match::{Edge, greatest};
+use cq_match::{Edge, greatest, is_crowd};
 use std::alloc::AllocError;
 
 /// Whether these are the nodes that were found.
@@ -47,4 +47,11 @@ fn falling_numbers_answer_rising(rt: HostRuntime) {
 fn kramer_waits(rt: HostRuntime) {
     let found = greatest(rt.alloc(), &[(7, 1), (4, 0)], &[]);
     assert!(rt; are(found, [4].as_slice()));
+}
+
+#[test]
+fn crowds(rt: HostRuntime) {
+    for (providers, wanted) in [(0, false), (1, false), (2, true), (3, true)] {
+        assert!(rt; is_crowd(providers) == wanted, "{providers}");
+    }
 }
