@@ -1,8 +1,9 @@
 //! Queries.
 
 use crate::samples::query;
-use cq_atom::{Bad, Part, Query};
+use cq_atom::{Bad, Part, Query, binds, binds_all, value_place};
 use std::alloc::Global;
+use std::test::Fail;
 
 /// The refusals of a query in their order, by the number of atoms in each part.
 const REFUSED: [(usize, usize, usize, Bad); 6] = [
@@ -72,4 +73,25 @@ fn parts_of_a_query(rt: HostRuntime) {
         let told = is_query(rt.alloc(), posts, heads, body);
         assert!(rt; told == Ok(true), "{posts} {heads} {body}");
     }
+}
+
+/// Whether the body binds the variable, and the place of its value among those of all variables.
+fn found(query: &Query, name: &str) -> (bool, Option<usize>) {
+    let place = value_place(query.variables(), name);
+    (binds(query.body(), name), place)
+}
+
+#[test]
+fn variables_of_a_body(rt: HostRuntime) -> Result<(), Fail> {
+    let query = query(rt.alloc(), 1, 2, 2)?;
+    for (name, wanted) in [
+        ("x", (true, Some(0))),
+        ("y", (true, Some(1))),
+        ("z", (false, None)),
+    ] {
+        assert!(rt; found(&query, name) == wanted, "{name}");
+    }
+    // The heads have no `y`.
+    assert!(rt; binds_all(query.body(), query.heads()) && !binds_all(query.heads(), query.body()));
+    Ok(())
 }
