@@ -1,6 +1,6 @@
 //! Tables: the worked setup, the order of rows, and the refusals in order.
 
-use crate::samples::{delete, insert, insert_all, pairs, travel, travel_begun};
+use crate::samples::{delete, insert, pairs, travel};
 use cq_atom::Row;
 use cq_rel::{RowFault, Tables};
 use cq_text::{print_row, read_ground_atom};
@@ -50,31 +50,57 @@ const FLIGHTS_LEFT: [&str; 3] = [
     "Flights(136, \"Rome\")",
 ];
 
+/// Whether these are the worked tables.
+fn are_worked(alloc: Global, tables: &Tables) -> bool {
+    are_rows(alloc, tables, "Flights", FLIGHTS.as_slice())
+        && tables.count("Airlines") == Some(4)
+        && tables.catalog().len() == 2
+        && tables.count("Trains").is_none()
+        && tables.rows_of("Trains").is_none()
+}
+
+/// The first of the texts whose row is there where it is told not to be, or the other way round.
+fn other_there(
+    alloc: Global,
+    tables: &Tables,
+    told: &[(&'static str, bool)],
+) -> Option<&'static str> {
+    for (text, is_there) in told {
+        if has(alloc, tables, text) != Some(*is_there) {
+            return Some(*text);
+        }
+    }
+    None
+}
+
+const THERE: [(&str, bool); 4] = [
+    ("Flights(123, Paris)", true),
+    ("Flights(123, Rome)", false),
+    ("Flights(123)", false),
+    ("Trains(123, Paris)", false),
+];
+
 #[test]
 fn travel_setup(rt: HostRuntime) -> Result<(), Fail> {
     let tables = travel(rt.alloc())?;
-    assert!(rt; are_rows(rt.alloc(), &tables, "Flights", FLIGHTS.as_slice()));
-    assert!(rt; tables.count("Airlines") == Some(4) && tables.catalog().len() == 2);
-    assert!(rt; tables.count("Trains").is_none() && tables.rows_of("Trains").is_none());
-    for (text, is_there) in [
-        ("Flights(123, Paris)", true),
-        ("Flights(123, Rome)", false),
-        ("Flights(123)", false),
-        ("Trains(123, Paris)", false),
-    ] {
-        assert!(rt; has(rt.alloc(), &tables, text) == Some(is_there), "{text}");
-    }
+    assert!(rt; are_worked(rt.alloc(), &tables));
+    let other = other_there(rt.alloc(), &tables, THERE.as_slice());
+    assert!(rt; other.is_none(), "{other:?}");
     Ok(())
+}
+
+/// Deletes a row, and tells whether the others are left.
+fn lose_one(alloc: Global, tables: &mut Tables) -> bool {
+    delete(alloc, tables, "Flights(123, Paris)") == Ok(())
+        && are_rows(alloc, tables, "Flights", FLIGHTS_LEFT.as_slice())
+        && tables.count("Airlines") == Some(4)
 }
 
 #[test]
 fn copies_of_tables(rt: HostRuntime) -> Result<(), Fail> {
     let tables = travel(rt.alloc())?;
     let mut copy = tables.copy()?;
-    assert!(rt; delete(rt.alloc(), &mut copy, "Flights(123, Paris)") == Ok(()));
-    assert!(rt; are_rows(rt.alloc(), &copy, "Flights", FLIGHTS_LEFT.as_slice()));
-    assert!(rt; are_rows(rt.alloc(), &tables, "Flights", FLIGHTS.as_slice()));
-    assert!(rt; copy.count("Airlines") == Some(4));
+    assert!(rt; lose_one(rt.alloc(), &mut copy) && are_worked(rt.alloc(), &tables));
     Ok(())
 }
 
@@ -100,37 +126,40 @@ fn rows_in_order(rt: HostRuntime) -> Result<(), Fail> {
     Ok(())
 }
 
+/// The first of the texts whose row is not refused so, where it is inserted or deleted.
+fn other_refused(
+    alloc: Global,
+    tables: &mut Tables,
+    told: &[(&'static str, RowFault, RowFault)],
+) -> Option<&'static str> {
+    for (text, inserted, deleted) in told {
+        if insert(alloc, tables, text) != Err(*inserted) {
+            return Some(*text);
+        }
+        if delete(alloc, tables, text) != Err(*deleted) {
+            return Some(*text);
+        }
+    }
+    None
+}
+
+const UNFIT: [(&str, RowFault, RowFault); 2] = [
+    ("Flights(122)", RowFault::Arity, RowFault::Arity),
+    (
+        "Trains(122)",
+        RowFault::UnknownRelation,
+        RowFault::UnknownRelation,
+    ),
+];
+
 #[test]
 fn refusals_of_rows(rt: HostRuntime) -> Result<(), Fail> {
-    let mut tables = travel_begun(rt.alloc())?;
-    insert_all(rt.alloc(), &mut tables, ["Flights(122, Paris)"].as_slice())?;
-    for (text, fault) in [
-        ("Flights(122, Paris)", RowFault::RowPresent),
-        ("Flights(122)", RowFault::Arity),
-        ("Trains(122)", RowFault::UnknownRelation),
-    ] {
-        assert!(rt;
-            insert(rt.alloc(), &mut tables, text) == Err(fault),
-            "{text}"
-        );
-    }
-    for (text, fault) in [
-        ("Flights(122, Rome)", RowFault::RowAbsent),
-        ("Flights(122)", RowFault::Arity),
-        ("Trains(122)", RowFault::UnknownRelation),
-    ] {
-        assert!(rt;
-            delete(rt.alloc(), &mut tables, text) == Err(fault),
-            "{text}"
-        );
-    }
-    assert!(rt;
-        are_rows(
-            rt.alloc(),
-            &tables,
-            "Flights",
-            ["Flights(122, \"Paris\")"].as_slice()
-        )
-    );
+    let mut tables = travel(rt.alloc())?;
+    let other = other_refused(rt.alloc(), &mut tables, UNFIT.as_slice());
+    assert!(rt; other.is_none(), "{other:?}");
+    let present = insert(rt.alloc(), &mut tables, "Flights(122, Paris)");
+    let absent = delete(rt.alloc(), &mut tables, "Flights(122, Rome)");
+    assert!(rt; present == Err(RowFault::RowPresent) && absent == Err(RowFault::RowAbsent));
+    assert!(rt; are_worked(rt.alloc(), &tables));
     Ok(())
 }
