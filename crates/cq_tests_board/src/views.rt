@@ -66,20 +66,26 @@ const fn edge(provider: usize, waiter: usize) -> Edge {
     }
 }
 
+/// Whether that stands at the place: the query's name, whether it is matched, and how many groundings it has.
+fn stands(board: &Board, place: usize, name: &str, is_matched: bool, groundings: usize) -> bool {
+    name_at(board, place) == name
+        && pending_at(board, place) == name
+        && board.is_matched_at(place) == is_matched
+        && grounded(board, place) == groundings
+}
+
+/// Whether these are the edges and the matched queries by their places.
+fn are_places(board: &Board, edges: &[Edge], matched: &[usize]) -> bool {
+    board.edges_by_place() == edges && board.matched_by_place() == matched
+}
+
 #[test]
 fn queries_by_place(rt: HostRuntime) -> Result<(), Fail> {
     let board = kramer_and_jerry(rt.alloc())?;
-    for (place, name, is_matched, groundings) in [
-        (0, "kramer", true, 3),
-        (1, "jerry", true, 2),
-        (2, "", false, 0),
-    ] {
-        assert!(rt; name_at(&board, place) == name && pending_at(&board, place) == name);
-        assert!(rt; board.is_matched_at(place) == is_matched, "{place}");
-        assert!(rt; grounded(&board, place) == groundings, "{place}");
-    }
-    assert!(rt; board.edges_by_place() == [edge(1, 0), edge(0, 1)].as_slice());
-    assert!(rt; board.matched_by_place() == [0, 1].as_slice());
+    let edges = [edge(1, 0), edge(0, 1)];
+    assert!(rt; stands(&board, 0, "kramer", true, 3) && stands(&board, 1, "jerry", true, 2));
+    assert!(rt; stands(&board, 2, "", false, 0));
+    assert!(rt; are_places(&board, edges.as_slice(), [0, 1].as_slice()));
     Ok(())
 }
 
