@@ -68,24 +68,32 @@ fn bind(valuation: &mut Valuation, name: &str, number: i64) -> Result<Option<i64
     }
 }
 
+/// Variables and the numbers that they are given, with what each had.
+const BOUND: [(&str, i64, Result<Option<i64>, Bad>); 4] = [
+    ("x", 1, Ok(None)),
+    ("y", 2, Ok(None)),
+    ("x", 3, Ok(Some(1))),
+    ("X", 4, Err(Bad::BadName)),
+];
+
+/// The first of the variables that is bound otherwise.
+fn other_bound(valuation: &mut Valuation) -> Option<&'static str> {
+    for (name, number, wanted) in BOUND {
+        if bind(valuation, name, number) != wanted {
+            return Some(name);
+        }
+    }
+    None
+}
+
 #[test]
 fn valuations(rt: HostRuntime) {
     let mut valuation = Valuation::empty(rt.alloc());
     assert!(rt; number_at(&valuation, "x").is_none());
-    for (name, number, wanted) in [
-        ("x", 1, Ok(None)),
-        ("y", 2, Ok(None)),
-        ("x", 3, Ok(Some(1))),
-        ("X", 4, Err(Bad::BadName)),
-    ] {
-        assert!(rt;
-            bind(&mut valuation, name, number) == wanted,
-            "{name} {number}"
-        );
-    }
-    for (name, wanted) in [("x", Some(3)), ("y", Some(2)), ("X", None)] {
-        assert!(rt; number_at(&valuation, name) == wanted, "{name}");
-    }
+    let other = other_bound(&mut valuation);
+    assert!(rt; other.is_none(), "{other:?}");
+    assert!(rt; number_at(&valuation, "x") == Some(3) && number_at(&valuation, "y") == Some(2));
+    assert!(rt; number_at(&valuation, "X").is_none());
 }
 
 /// The atom `R(x, y)` where `x` is 1.
@@ -131,34 +139,41 @@ fn unified(
     Ok(unify(&left, &right, meter))
 }
 
+/// Terms of an atom of `R`, a relation, terms of an atom of it, and whether the two atoms unify.
+type Pair<'s> = (&'s [Sample], &'s str, &'s [Sample], bool);
+
+/// The first of the pairs that is told otherwise.
+fn other_unified(alloc: Global, pairs: &[Pair], meter: &mut Meter) -> Option<usize> {
+    for (place, (terms, relation, others, wanted)) in pairs.iter().enumerate() {
+        if unified(alloc, ("R", terms), (relation, others), meter) != Ok(*wanted) {
+            return Some(place);
+        }
+    }
+    None
+}
+
 #[test]
-fn unify_once(rt: HostRuntime) {
+fn unify_each_once(rt: HostRuntime) {
     let mut meter = Meter::new();
     let text = [Sample::Text("1")];
-    let mut calls = 0u64;
-    let table = [
+    let pairs = [
         // Two constants that a shared variable ties.
         (
-            "R",
             [X, X, Y, Y].as_slice(),
             "R",
             [ONE, U, U, TWO].as_slice(),
             false,
         ),
-        ("R", [X, X].as_slice(), "R", [Y, TWO].as_slice(), true),
+        ([X, X].as_slice(), "R", [Y, TWO].as_slice(), true),
         // The variables of two atoms are apart, also where they have one name.
-        ("R", [ONE, X].as_slice(), "R", [X, TWO].as_slice(), true),
+        ([ONE, X].as_slice(), "R", [X, TWO].as_slice(), true),
         // A number is no text, and atoms of two relations or arities never unify.
-        ("R", [ONE].as_slice(), "R", text.as_slice(), false),
-        ("R", [ONE].as_slice(), "S", [X].as_slice(), false),
-        ("R", [ONE].as_slice(), "R", [ONE, X].as_slice(), false),
+        ([ONE].as_slice(), "R", text.as_slice(), false),
+        ([ONE].as_slice(), "S", [X].as_slice(), false),
+        ([ONE].as_slice(), "R", [ONE, X].as_slice(), false),
     ];
-    for (left, terms, right, others, wanted) in table {
-        let told = unified(rt.alloc(), (left, terms), (right, others), &mut meter);
-        assert!(rt; told == Ok(wanted), "{calls}");
-        calls = calls.saturating_add(1);
-        assert!(rt; meter.count() == calls);
-    }
+    let other = other_unified(rt.alloc(), pairs.as_slice(), &mut meter);
+    assert!(rt; other.is_none() && meter.count() == 6, "{other:?}");
     meter.tick();
     assert!(rt; meter.count() == 7);
 }
