@@ -11,6 +11,16 @@ pub enum Sample {
     Variable(&'static str),
 }
 
+pub const ONE: Sample = Sample::Number(1);
+
+pub const TWO: Sample = Sample::Number(2);
+
+pub const U: Sample = Sample::Variable("u");
+
+pub const X: Sample = Sample::Variable("x");
+
+pub const Y: Sample = Sample::Variable("y");
+
 pub fn value<A: Allocator>(alloc: A, sample: Sample) -> Result<Value<A>, Bad> {
     match sample {
         Sample::Number(number) => Ok(Value::num(number)),
@@ -50,15 +60,30 @@ pub fn row<A: Allocator + Copy>(
     Row::new(alloc, relation, values)
 }
 
-/// `{R("Jerry", x)} R("Kramer", x) <- Flights(x, "Paris"), Airlines(x, y)`
-pub fn kramer<A: Allocator + Copy>(alloc: A) -> Result<Query<A>, Bad> {
-    let x = Sample::Variable("x");
-    let mut posts = Vec::new(alloc);
-    posts.push(atom(alloc, "R", &[Sample::Text("Jerry"), x])?)?;
-    let mut heads = Vec::new(alloc);
-    heads.push(atom(alloc, "R", &[Sample::Text("Kramer"), x])?)?;
-    let mut body = Vec::new(alloc);
-    body.push(atom(alloc, "Flights", &[x, Sample::Text("Paris")])?)?;
-    body.push(atom(alloc, "Airlines", &[x, Sample::Variable("y")])?)?;
+/// As many atoms of the relation over the samples.
+fn atoms<A: Allocator + Copy>(
+    alloc: A,
+    count: usize,
+    relation: &str,
+    samples: &[Sample],
+) -> Result<Vec<Atom<A>, A>, Bad> {
+    let mut made = Vec::new(alloc);
+    for _ in 0..count {
+        made.push(atom(alloc, relation, samples)?)?;
+    }
+    Ok(made)
+}
+
+/// The query with as many atoms in its postconditions, its heads and its body: `R(1, x)`, and `T(x, y)` in the
+/// body.
+pub fn query<A: Allocator + Copy>(
+    alloc: A,
+    posts: usize,
+    heads: usize,
+    body: usize,
+) -> Result<Query<A>, Bad> {
+    let posts = atoms(alloc, posts, "R", [ONE, X].as_slice())?;
+    let heads = atoms(alloc, heads, "R", [ONE, X].as_slice())?;
+    let body = atoms(alloc, body, "T", [X, Y].as_slice())?;
     Query::new(alloc, posts, heads, body)
 }

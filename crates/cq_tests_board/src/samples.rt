@@ -1,0 +1,143 @@
+//! Boards that several tests use.
+
+use cq_board::{Board, Edit, EditKind, Limits, Why};
+use cq_rel::{Catalog, CatalogFault};
+use cq_text::{CommandKind, read_command};
+use std::alloc::{AllocError, Allocator};
+
+pub const LIMITS: Limits = Limits {
+    pool: 3,
+    journal: 9,
+};
+
+pub const KRAMER: &str = "post kramer {R(Jerry, x)} R(Kramer, x) <- Flights(x, Paris)";
+
+pub const JERRY: &str =
+    "post jerry {R(Kramer, y)} R(Jerry, y) <- Flights(y, Paris), Airlines(y, United)";
+
+/// The rows of the worked travel setup.
+pub const TRAVEL: [&str; 8] = [
+    "insert Flights(122, Paris)",
+    "insert Flights(123, Paris)",
+    "insert Flights(134, Paris)",
+    "insert Flights(136, Rome)",
+    "insert Airlines(122, United)",
+    "insert Airlines(123, United)",
+    "insert Airlines(134, Lufthansa)",
+    "insert Airlines(136, Alitalia)",
+];
+
+/// The edit that a line of a script asks for; a line of no edit is want of memory.
+pub fn edit<A: Allocator + Copy>(alloc: A, line: &str) -> Result<Edit<A>, AllocError> {
+    match read_command(alloc, line.as_bytes()) {
+        Ok(CommandKind::Post { name, query }) => Ok(EditKind::Post { name, query }),
+        Ok(CommandKind::Withdraw { name }) => Ok(EditKind::Withdraw { name }),
+        Ok(CommandKind::Insert { row }) => Ok(EditKind::Insert { row }),
+        Ok(CommandKind::Delete { row }) => Ok(EditKind::Delete { row }),
+        _ => Err(AllocError),
+    }
+}
+
+/// What the board answers to the edit of the line.
+pub fn admit<A: Allocator + Copy>(
+    alloc: A,
+    board: &mut Board<A>,
+    line: &str,
+) -> Result<Option<Why>, AllocError> {
+    match edit(alloc, line) {
+        Ok(edit) => board.admit(&edit),
+        Err(none) => Err(none),
+    }
+}
+
+/// Admits the edit of each line; a refused one is want of memory.
+pub fn admit_all<A: Allocator + Copy>(
+    alloc: A,
+    board: &mut Board<A>,
+    lines: &[&str],
+) -> Result<(), AllocError> {
+    for line in lines {
+        if admit(alloc, board, line) != Ok(None) {
+            return Err(AllocError);
+        }
+    }
+    Ok(())
+}
+
+/// `Flights` and `Airlines`, both of arity 2.
+pub fn travel_catalog<A: Allocator + Copy>(alloc: A) -> Result<Catalog<A>, CatalogFault> {
+    let mut catalog = Catalog::empty(alloc);
+    catalog.declare("Flights", 2)?;
+    catalog.declare("Airlines", 2)?;
+    Ok(catalog)
+}
+
+/// A board without rows and queries, over the catalog.
+fn begun<A: Allocator + Copy>(
+    alloc: A,
+    catalog: Result<Catalog<A>, CatalogFault>,
+) -> Result<Board<A>, AllocError> {
+    match catalog {
+        Ok(catalog) => Board::begin(alloc, catalog, LIMITS),
+        Err(_) => Err(AllocError),
+    }
+}
+
+/// The travel setup with its rows, and the queries of these lines.
+pub fn travel<A: Allocator + Copy>(alloc: A, lines: &[&str]) -> Result<Board<A>, AllocError> {
+    let mut board = begun(alloc, travel_catalog(alloc))?;
+    admit_all(alloc, &mut board, TRAVEL.as_slice())?;
+    admit_all(alloc, &mut board, lines)?;
+    Ok(board)
+}
+
+/// The travel setup with the two worked queries.
+pub fn kramer_and_jerry<A: Allocator + Copy>(alloc: A) -> Result<Board<A>, AllocError> {
+    travel(alloc, [KRAMER, JERRY].as_slice())
+}
+
+/// A board without relations, and the queries of these lines.
+pub fn bare<A: Allocator + Copy>(alloc: A, lines: &[&str]) -> Result<Board<A>, AllocError> {
+    let mut board = begun(alloc, Ok(Catalog::empty(alloc)))?;
+    admit_all(alloc, &mut board, lines)?;
+    Ok(board)
+}
+
+/// Counts of what a board shows.
+#[derive(Clone, Copy, Debug, PartialEq, Eq)]
+pub struct Shape {
+    pub pending: usize,
+    pub edges: usize,
+    pub matched: usize,
+    /// The rows of `Flights`.
+    pub rows: usize,
+    /// The groundings of the first query.
+    pub groundings: usize,
+}
+
+/// How many groundings the query at that place has; none where there is no query.
+pub fn grounded<A: Allocator>(board: &Board<A>, place: usize) -> usize {
+    match board.groundings_at(place) {
+        Some(found) => found.count(),
+        None => 0,
+    }
+}
+
+pub fn shape_of<A: Allocator>(board: &Board<A>) -> Shape {
+    Shape {
+        pending: board.pending().len(),
+        edges: board.edges_by_place().len(),
+        matched: board.matched_by_place().len(),
+        rows: board.tables().count("Flights").unwrap_or(0),
+        groundings: grounded(board, 0),
+    }
+}
+
+/// The shape of the worked travel board.
+pub const WORKED: Shape = Shape {
+    pending: 2,
+    edges: 2,
+    matched: 2,
+    rows: 4,
+    groundings: 3,
+};

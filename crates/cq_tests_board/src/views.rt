@@ -1,0 +1,169 @@
+//! What a board shows, by names and by places.
+
+use crate::samples::{LIMITS, WORKED, bare, grounded, kramer_and_jerry, shape_of};
+use cq_atom::Name;
+use cq_board::{Board, Crowd, Link};
+use cq_match::Edge;
+use std::alloc::{AllocError, Global};
+use std::test::Fail;
+
+/// Whether the query of that name is matched, how many groundings it has, and of how many atoms its body is.
+fn by_name(board: &Board, name: &Name) -> (Option<bool>, usize, usize) {
+    let groundings = match board.groundings(name) {
+        Some(found) => found.count(),
+        None => 0,
+    };
+    let atoms = match board.query(name) {
+        Some(query) => query.body().len(),
+        None => 0,
+    };
+    (board.is_matched(name), groundings, atoms)
+}
+
+/// The same by the name's text; a text of no name has nothing.
+fn of_name(alloc: Global, board: &Board, text: &str) -> (Option<bool>, usize, usize) {
+    match Name::new(alloc, text) {
+        Ok(name) => by_name(board, &name),
+        Err(_) => (None, 0, 0),
+    }
+}
+
+#[test]
+fn queries_by_name(rt: HostRuntime) -> Result<(), Fail> {
+    let board = kramer_and_jerry(rt.alloc())?;
+    for (name, wanted) in [
+        ("kramer", (Some(true), 3, 1)),
+        ("jerry", (Some(true), 2, 2)),
+        ("newman", (None, 0, 0)),
+    ] {
+        assert!(rt; of_name(rt.alloc(), &board, name) == wanted, "{name}");
+    }
+    Ok(())
+}
+
+/// The name of the query at that place, or nothing where there is none.
+fn name_at(board: &Board, place: usize) -> &str {
+    match board.name_at(place) {
+        Some(name) => name.as_str(),
+        None => "",
+    }
+}
+
+/// The name of the pending query at that place, or nothing where there is none.
+fn pending_at(board: &Board, place: usize) -> &str {
+    match board.pending().get(place) {
+        Some(posted) => posted.name.as_str(),
+        None => "",
+    }
+}
+
+const fn edge(provider: usize, waiter: usize) -> Edge {
+    Edge {
+        provider,
+        head: 0,
+        waiter,
+        post: 0,
+    }
+}
+
+/// Whether that stands at the place: the query's name, whether it is matched, and how many groundings it has.
+fn stands(board: &Board, place: usize, name: &str, is_matched: bool, groundings: usize) -> bool {
+    name_at(board, place) == name
+        && pending_at(board, place) == name
+        && board.is_matched_at(place) == is_matched
+        && grounded(board, place) == groundings
+}
+
+/// Whether these are the edges and the matched queries by their places.
+fn are_places(board: &Board, edges: &[Edge], matched: &[usize]) -> bool {
+    board.edges_by_place() == edges && board.matched_by_place() == matched
+}
+
+#[test]
+fn queries_by_place(rt: HostRuntime) -> Result<(), Fail> {
+    let board = kramer_and_jerry(rt.alloc())?;
+    let edges = [edge(1, 0), edge(0, 1)];
+    assert!(rt; stands(&board, 0, "kramer", true, 3) && stands(&board, 1, "jerry", true, 2));
+    assert!(rt; stands(&board, 2, "", false, 0));
+    assert!(rt; are_places(&board, edges.as_slice(), [0, 1].as_slice()));
+    Ok(())
+}
+
+#[test]
+fn counts(rt: HostRuntime) -> Result<(), Fail> {
+    let board = kramer_and_jerry(rt.alloc())?;
+    assert!(rt; board.len() == 2 && board.limits() == LIMITS && shape_of(&board) == WORKED);
+    assert!(rt; board.tables().count("Airlines") == Some(4));
+    Ok(())
+}
+
+fn is_link(link: &Link<&Name>, wanted: (&str, u8, &str, u8)) -> bool {
+    (
+        link.provider.as_str(),
+        link.head,
+        link.waiter.as_str(),
+        link.post,
+    ) == wanted
+}
+
+/// Whether these are the edges by names, in this order.
+fn are_edges(board: &Board, wanted: &[(&str, u8, &str, u8)]) -> Result<bool, AllocError> {
+    let links = board.edges()?;
+    for (link, wanted) in links.iter().zip(wanted) {
+        if !is_link(link, *wanted) {
+            return Ok(false);
+        }
+    }
+    Ok(links.len() == wanted.len())
+}
+
+fn is_crowd(crowd: &Crowd<&Name>, wanted: (&str, u8, usize)) -> bool {
+    (crowd.waiter.as_str(), crowd.post, crowd.providers) == wanted
+}
+
+/// Whether these are the crowded postconditions, in this order.
+fn are_crowded(board: &Board, wanted: &[(&str, u8, usize)]) -> Result<bool, AllocError> {
+    let crowds = board.crowded()?;
+    for (crowd, wanted) in crowds.iter().zip(wanted) {
+        if !is_crowd(crowd, *wanted) {
+            return Ok(false);
+        }
+    }
+    Ok(crowds.len() == wanted.len())
+}
+
+/// Whether these are the names of the matched queries, in this order.
+pub fn are_matched(board: &Board, wanted: &[&str]) -> Result<bool, AllocError> {
+    let names = board.matched()?;
+    for (name, wanted) in names.iter().zip(wanted) {
+        if name.as_str() != *wanted {
+            return Ok(false);
+        }
+    }
+    Ok(names.len() == wanted.len())
+}
+
+#[test]
+fn worked_edges(rt: HostRuntime) -> Result<(), Fail> {
+    let board = kramer_and_jerry(rt.alloc())?;
+    let links = [("jerry", 0, "kramer", 0), ("kramer", 0, "jerry", 0)];
+    assert!(rt; are_edges(&board, links.as_slice()) == Ok(true));
+    assert!(rt; are_matched(&board, ["kramer", "jerry"].as_slice()) == Ok(true));
+    assert!(rt; are_crowded(&board, [].as_slice()) == Ok(true));
+    Ok(())
+}
+
+#[test]
+fn crowded_supplier(rt: HostRuntime) -> Result<(), Fail> {
+    let lines = [
+        "post w {R(1)} Q(1) <-",
+        "post h1 {} R(1) <-",
+        "post h2 {Z(1)} R(2), R(1) <-",
+    ];
+    let board = bare(rt.alloc(), lines.as_slice())?;
+    let links = [("h1", 0, "w", 0), ("h2", 1, "w", 0)];
+    assert!(rt; are_edges(&board, links.as_slice()) == Ok(true));
+    assert!(rt; are_matched(&board, ["w", "h1"].as_slice()) == Ok(true));
+    assert!(rt; are_crowded(&board, [("w", 0, 2)].as_slice()) == Ok(true));
+    Ok(())
+}

@@ -1,0 +1,61 @@
+//! Readers and writers that cut their bytes, and that fail.
+
+use std::io::{self, ErrorKind, Read, Write};
+
+/// Gives at most so many bytes at a read.
+#[derive(Drop)]
+pub struct Pieces<'a> {
+    pub rest: &'a [u8],
+    pub most: usize,
+}
+
+impl<'a> Read for Pieces<'a> {
+    fn read(&mut self, buf: &mut [u8]) -> io::Result<usize> {
+        let count = self.rest.len().min(buf.len()).min(self.most);
+        let (front, rest) = self.rest.split_at(count);
+        buf[..count].copy_from_slice(front);
+        self.rest = rest;
+        Ok(count)
+    }
+}
+
+/// Gives a post and the front of a word at the first read, and fails at the second.
+#[derive(Drop)]
+pub struct CutOff(pub u8);
+
+impl Read for CutOff {
+    fn read(&mut self, buf: &mut [u8]) -> io::Result<usize> {
+        self.0 = self.0.saturating_add(1);
+        if self.0 > 1 {
+            return Err(ErrorKind::TimedOut.into());
+        }
+        let text = b"post a {} R(1) <-\npub";
+        let count = text.len().min(buf.len());
+        buf[..count].copy_from_slice(&text[..count]);
+        Ok(count)
+    }
+}
+
+/// Takes the bytes that are expected and fails at others, and counts how often it is flushed. It takes no memory.
+#[derive(Drop)]
+pub struct Expecting<'a> {
+    pub rest: &'a [u8],
+    pub flushes: u32,
+}
+
+impl<'a> Write for Expecting<'a> {
+    fn write(&mut self, buf: &[u8]) -> io::Result<usize> {
+        let count = self.rest.len().min(buf.len());
+        let (front, rest) = self.rest.split_at(count);
+        if front.is_empty() || front != &buf[..count] {
+            return Err(ErrorKind::WriteZero.into());
+        }
+        self.rest = rest;
+        Ok(count)
+    }
+
+    fn flush(&mut self) -> io::Result<()> {
+        self.flushes = self.flushes.saturating_add(1);
+        Ok(())
+    }
+}

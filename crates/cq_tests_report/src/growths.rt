@@ -1,0 +1,138 @@
+//! Each growth of a call refused in turn.
+
+use crate::devices::Expecting;
+use crate::reports::{post, with_one_row};
+use cq_board::{Board, Edit};
+use cq_report::{RunFault, report, run};
+use cq_tests_growths::{Outcome, Tried, refusals};
+use cq_text::Counted;
+use std::alloc::Allocator;
+
+/// Setup, every kind of edit, a refused post, a publish and a look.
+const SCRIPT: &[u8] = b"relation T 1\nlimits 9 9\ninsert T(1)\ninsert T(2)\ndelete T(2)
+post a {S(2)} S(1) <-\npost b {S(1)} S(2) <- T(x)\npost b {} S(3) <-
+post c {} S(3) <-\nwithdraw c\npublish\nshow\n";
+
+const ANSWERS: &[u8] = b"ok\nok\nok 1\nok 2\nok 3\nok 4\nok 5\nrefused NameTaken
+ok 6\nok 7\npublished 7\nshow 7
+relation T 1 rows 1
+query a matched
+  text {S(2)} S(1) <-
+  post 0 providers 1
+    b head 0
+  groundings 1 ()
+    ()
+query b matched
+  text {S(1)} S(2) <- T(x)
+  post 0 providers 1
+    a head 0
+  groundings 1 (x)
+    (1)
+end
+";
+
+/// A run of the script.
+struct Running;
+
+/// How the run of the script ends, over a writer that takes the answers alone; and how many bytes it lacked.
+fn told<A: Allocator + Copy>(alloc: A) -> (Result<(), RunFault>, usize) {
+    let mut reader = Counted::new(SCRIPT);
+    let mut writer = Counted::new(Expecting {
+        rest: ANSWERS,
+        flushes: 0,
+    });
+    let result = run(alloc, &mut reader, &mut writer);
+    (result, writer.into_inner().rest.len())
+}
+
+impl Tried for Running {
+    fn tried<A: Allocator + Copy>(alloc: A) -> Outcome {
+        match told(alloc) {
+            (Ok(()), lacking) => Outcome::done_if(lacking == 0),
+            (Err(fault), _) => {
+                Outcome::refused_if(fault == RunFault::NoMemory && told(alloc) == (Ok(()), 0))
+            }
+        }
+    }
+}
+
+// A refused growth ends the run as want of memory, and what was written is a front of the answers.
+#[test]
+fn refused_growth_in_run(rt: HostRuntime) {
+    assert!(rt; matches!(refusals::<Running>(rt.alloc()), Ok(21..)));
+}
+
+const BEFORE: &str = "relation Flights 2 rows 1\n";
+
+const AFTER: &str = "relation Flights 2 rows 1
+query a matched
+  text {R(1)} R(x) <- Flights(x, y)
+  post 0 providers 1
+    a head 0
+  groundings 1 (x, y)
+    (122, \"Paris\")
+";
+
+/// Whether that is the report on the board.
+fn is_report<A: Allocator + Copy>(alloc: A, board: &Board<A>, wanted: &str) -> bool {
+    match report(alloc, board) {
+        Ok(text) => text.as_str() == wanted,
+        Err(_) => false,
+    }
+}
+
+/// A report made.
+struct Reporting;
+
+fn reported<A: Allocator + Copy>(alloc: A, board: &Board<A>) -> Outcome {
+    match report(alloc, board) {
+        Ok(text) => Outcome::done_if(text.as_str() == BEFORE),
+        Err(_) => Outcome::refused_if(is_report(alloc, board, BEFORE)),
+    }
+}
+
+impl Tried for Reporting {
+    fn tried<A: Allocator + Copy>(alloc: A) -> Outcome {
+        match with_one_row(alloc) {
+            Ok(board) => reported(alloc, &board),
+            Err(_) => Outcome::Unready,
+        }
+    }
+}
+
+#[test]
+fn refused_growth_in_report(rt: HostRuntime) {
+    assert!(rt; matches!(refusals::<Reporting>(rt.alloc()), Ok(1..)));
+}
+
+/// A query posted.
+struct Posting;
+
+fn admitted<A: Allocator + Copy>(alloc: A, board: &mut Board<A>, edit: &Edit<A>) -> Outcome {
+    match board.admit(edit) {
+        Ok(told) => Outcome::done_if(told.is_none()),
+        Err(_) => Outcome::refused_if(
+            is_report(alloc, board, BEFORE)
+                && board.admit(edit) == Ok(None)
+                && is_report(alloc, board, AFTER),
+        ),
+    }
+}
+
+impl Tried for Posting {
+    fn tried<A: Allocator + Copy>(alloc: A) -> Outcome {
+        let Ok(mut board) = with_one_row(alloc) else {
+            return Outcome::Unready;
+        };
+        match post(alloc, "a", "{R(1)} R(x) <- Flights(x, y)") {
+            Ok(edit) => admitted(alloc, &mut board, &edit),
+            Err(_) => Outcome::Unready,
+        }
+    }
+}
+
+// A refused growth in an edit leaves the report on the board, and the same edit then succeeds.
+#[test]
+fn refused_growth_in_admit(rt: HostRuntime) {
+    assert!(rt; matches!(refusals::<Posting>(rt.alloc()), Ok(6..)));
+}

@@ -1,0 +1,171 @@
+//! Groundings: the worked rows by calls. Those of other scripts stand in the cases.
+
+use crate::samples::{delete, insert, pairs, travel};
+use cq_atom::Meter;
+use cq_ground::{Groundings, reads};
+use cq_rel::Tables;
+use cq_text::{print_values, read_ground_atom, read_query};
+use std::alloc::{AllocError, Allocator, Global};
+use std::test::Fail;
+
+/// The body of the worked query of Jerry.
+pub const JERRY: &str = "{} R(Jerry, y) <- Flights(y, Paris), Airlines(y, United)";
+
+/// The groundings of the query of that text; a text of no query is want of memory.
+pub fn all<A: Allocator + Copy>(
+    alloc: A,
+    tables: &Tables<A>,
+    text: &str,
+    meter: &mut Meter,
+) -> Result<Groundings<A>, AllocError> {
+    match read_query(alloc, text.as_bytes()) {
+        Ok(query) => Groundings::all(alloc, &query, tables, meter),
+        Err(_) => Err(AllocError),
+    }
+}
+
+/// The lists of the groundings in their order, each printed in brackets.
+fn printed(alloc: Global, found: &Groundings) -> Result<String, AllocError> {
+    let mut told = String::new(alloc);
+    for values in found.list() {
+        told.push_str(print_values(alloc, values)?.as_str())?;
+    }
+    Ok(told)
+}
+
+/// Whether the groundings are printed so, and as many as counted.
+fn are(alloc: Global, found: &Groundings, count: usize, wanted: &str) -> bool {
+    match printed(alloc, found) {
+        Ok(told) => found.count() == count && told.as_str() == wanted,
+        Err(_) => false,
+    }
+}
+
+/// The same of the query of that text.
+fn are_of(alloc: Global, tables: &Tables, text: &str, count: usize, wanted: &str) -> bool {
+    match all(alloc, tables, text, &mut Meter::new()) {
+        Ok(found) => are(alloc, &found, count, wanted),
+        Err(_) => false,
+    }
+}
+
+#[test]
+fn worked_rows(rt: HostRuntime) -> Result<(), Fail> {
+    let tables = travel(rt.alloc())?;
+    for (text, count, wanted) in [
+        ("{} R(Kramer, x) <- Flights(x, Paris)", 3, "(122)(123)(134)"),
+        (JERRY, 2, "(122)(123)"),
+        ("{} R(A, x) <- Flights(x, Rome)", 1, "(136)"),
+        ("{} R(1) <-", 1, "()"),
+        // A body that no board accepts, by its arity or its relation, finds no row.
+        ("{} R(x) <- Flights(x)", 0, ""),
+        ("{} R(x) <- Flights(x, y), Trains(x, y)", 0, ""),
+        // A number is no text.
+        ("{} R(y) <- Flights(\"122\", y)", 0, ""),
+    ] {
+        assert!(rt; are_of(rt.alloc(), &tables, text, count, wanted), "{text}");
+    }
+    Ok(())
+}
+
+#[test]
+fn kramer_waits(rt: HostRuntime) -> Result<(), Fail> {
+    let tables = travel(rt.alloc())?;
+    let mut meter = Meter::new();
+    let found = all(rt.alloc(), &tables, JERRY, &mut meter)?;
+    let copy = found.copy()?;
+    assert!(rt; meter.count() == 1 && are(rt.alloc(), &copy, 2, "(122)(123)"));
+    Ok(())
+}
+
+/// Whether the values of the row of that text are a grounding; `None` where the text is none of a row.
+fn has(alloc: Global, found: &Groundings, text: &str) -> Option<bool> {
+    match read_ground_atom(alloc, text.as_bytes()) {
+        Ok(row) => Some(found.has(row.values())),
+        Err(_) => None,
+    }
+}
+
+/// The first of the texts whose row is a grounding where it is told to be none, or the other way round.
+fn other_grounding(
+    alloc: Global,
+    found: &Groundings,
+    told: &[(&'static str, bool)],
+) -> Option<&'static str> {
+    for (text, is_one) in told {
+        if has(alloc, found, text) != Some(*is_one) {
+            return Some(*text);
+        }
+    }
+    None
+}
+
+const JERRYS: [(&str, bool); 6] = [
+    ("T(121)", false),
+    ("T(122)", true),
+    ("T(123)", true),
+    ("T(134)", false),
+    ("T(\"122\")", false),
+    ("T(122, 122)", false),
+];
+
+#[test]
+fn kramer_and_jerry(rt: HostRuntime) -> Result<(), Fail> {
+    let tables = travel(rt.alloc())?;
+    let found = all(rt.alloc(), &tables, JERRY, &mut Meter::new())?;
+    let other = other_grounding(rt.alloc(), &found, JERRYS.as_slice());
+    assert!(rt; other.is_none() && !found.has(&[]), "{other:?}");
+    Ok(())
+}
+
+#[test]
+fn both_ways(rt: HostRuntime) -> Result<(), Fail> {
+    let ways = "{} R(x, y) <- T(x, y), T(y, x)";
+    let mut tables = pairs(rt.alloc(), [].as_slice())?;
+    assert!(rt; are_of(rt.alloc(), &tables, ways, 0, ""));
+    for (text, count, wanted) in [
+        ("T(1, 2)", 0, ""),
+        ("T(2, 1)", 2, "(1, 2)(2, 1)"),
+        ("T(1, 1)", 3, "(1, 1)(1, 2)(2, 1)"),
+    ] {
+        assert!(rt; insert(rt.alloc(), &mut tables, text) == Ok(()), "{text}");
+        assert!(rt; are_of(rt.alloc(), &tables, ways, count, wanted), "{text}");
+    }
+    assert!(rt; delete(rt.alloc(), &mut tables, "T(1, 2)") == Ok(()));
+    assert!(rt; are_of(rt.alloc(), &tables, ways, 1, "(1, 1)"));
+    Ok(())
+}
+
+#[test]
+fn repeated_variables(rt: HostRuntime) -> Result<(), Fail> {
+    let rows = ["T(1, 1)", "T(1, 2)", "T(2, 1)", "T(3, 3)"];
+    let tables = pairs(rt.alloc(), rows.as_slice())?;
+    let same = "{} R(x) <- T(x, x)";
+    let fixed = "{} R(y) <- T(1, y), T(y, x)";
+    assert!(rt; are_of(rt.alloc(), &tables, same, 2, "(1)(3)"));
+    assert!(rt; are_of(rt.alloc(), &tables, fixed, 3, "(1, 1)(1, 2)(2, 1)"));
+    Ok(())
+}
+
+/// Whether the query of that text reads the relation; `None` where the text is none of a query.
+fn query_reads(alloc: Global, text: &str, relation: &str) -> Option<bool> {
+    match read_query(alloc, text.as_bytes()) {
+        Ok(query) => Some(reads(&query, relation)),
+        Err(_) => None,
+    }
+}
+
+#[test]
+fn relations_read(rt: HostRuntime) {
+    let text = "{} R(x) <- Flights(x, y), Trains(x, y)";
+    for (relation, is_read) in [
+        ("Flights", true),
+        ("Trains", true),
+        ("R", false),
+        ("Flight", false),
+    ] {
+        let told = query_reads(rt.alloc(), text, relation);
+        assert!(rt; told == Some(is_read), "{relation}");
+    }
+    assert!(rt; query_reads(rt.alloc(), "{} R(1) <-", "T") == Some(false));
+}

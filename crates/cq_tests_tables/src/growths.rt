@@ -1,0 +1,170 @@
+//! Each growth of a call refused in turn.
+
+use crate::groundings::{JERRY, all};
+use crate::samples::{travel, travel_begun, travel_catalog};
+use cq_atom::{Meter, Row, Value};
+use cq_ground::Groundings;
+use cq_rel::{Catalog, CatalogFault, RowFault, Tables};
+use cq_tests_growths::{Outcome, Tried, refusals};
+use cq_text::read_ground_atom;
+use std::alloc::Allocator;
+
+/// A relation declared in a catalog without relations.
+struct Declaring;
+
+impl Tried for Declaring {
+    fn tried<A: Allocator + Copy>(alloc: A) -> Outcome {
+        let mut catalog = Catalog::empty(alloc);
+        match catalog.declare("Flights", 2) {
+            Ok(()) => Outcome::done_if(catalog.entry(0) == Some(("Flights", 2))),
+            Err(fault) => Outcome::refused_if(
+                fault == CatalogFault::NoMemory
+                    && catalog.len() == 0
+                    && catalog.declare("Flights", 2) == Ok(())
+                    && catalog.entry(0) == Some(("Flights", 2)),
+            ),
+        }
+    }
+}
+
+#[test]
+fn refused_growth_in_declare(rt: HostRuntime) {
+    assert!(rt; matches!(refusals::<Declaring>(rt.alloc()), Ok(2..)));
+}
+
+/// Tables over a catalog.
+struct Beginning;
+
+fn is_begun<A: Allocator + Copy>(catalog: Result<Catalog<A>, CatalogFault>) -> bool {
+    match catalog {
+        Ok(catalog) => Tables::begin(catalog).is_ok(),
+        Err(_) => false,
+    }
+}
+
+impl Tried for Beginning {
+    fn tried<A: Allocator + Copy>(alloc: A) -> Outcome {
+        let Ok(catalog) = travel_catalog(alloc) else {
+            return Outcome::Unready;
+        };
+        match Tables::begin(catalog) {
+            Ok(tables) => Outcome::done_if(tables.count("Flights") == Some(0)),
+            Err(_) => Outcome::refused_if(is_begun(travel_catalog(alloc))),
+        }
+    }
+}
+
+#[test]
+fn refused_growth_in_begin(rt: HostRuntime) {
+    assert!(rt; matches!(refusals::<Beginning>(rt.alloc()), Ok(1..)));
+}
+
+/// A row inserted into tables without rows.
+struct Inserting;
+
+const FLIGHT: &str = "Flights(122, Paris)";
+
+fn insert_again<A: Allocator + Copy>(alloc: A, tables: &mut Tables<A>) -> bool {
+    match read_ground_atom(alloc, FLIGHT.as_bytes()) {
+        Ok(row) => tables.insert(row) == Ok(()),
+        Err(_) => false,
+    }
+}
+
+fn insert_row<A: Allocator + Copy>(alloc: A, tables: &mut Tables<A>, row: Row<A>) -> Outcome {
+    match tables.insert(row) {
+        Ok(()) => Outcome::done_if(tables.count("Flights") == Some(1)),
+        Err(fault) => Outcome::refused_if(
+            fault == RowFault::NoMemory
+                && tables.count("Flights") == Some(0)
+                && insert_again(alloc, tables)
+                && tables.count("Flights") == Some(1),
+        ),
+    }
+}
+
+impl Tried for Inserting {
+    fn tried<A: Allocator + Copy>(alloc: A) -> Outcome {
+        let Ok(mut tables) = travel_begun(alloc) else {
+            return Outcome::Unready;
+        };
+        match read_ground_atom(alloc, FLIGHT.as_bytes()) {
+            Ok(row) => insert_row(alloc, &mut tables, row),
+            Err(_) => Outcome::Unready,
+        }
+    }
+}
+
+#[test]
+fn refused_growth_in_insert(rt: HostRuntime) {
+    assert!(rt; matches!(refusals::<Inserting>(rt.alloc()), Ok(1..)));
+}
+
+/// A copy of the worked tables.
+struct Copying;
+
+fn copied<A: Allocator + Copy>(tables: &Tables<A>) -> Outcome {
+    match tables.copy() {
+        Ok(copy) => Outcome::done_if(copy.count("Flights") == Some(4)),
+        Err(_) => Outcome::refused_if(tables.copy().is_ok()),
+    }
+}
+
+impl Tried for Copying {
+    fn tried<A: Allocator + Copy>(alloc: A) -> Outcome {
+        match travel(alloc) {
+            Ok(tables) => copied(&tables),
+            Err(_) => Outcome::Unready,
+        }
+    }
+}
+
+#[test]
+fn refused_growth_in_copies(rt: HostRuntime) {
+    assert!(rt; matches!(refusals::<Copying>(rt.alloc()), Ok(4..)));
+}
+
+/// All groundings of a query over the worked tables.
+struct Grounding;
+
+fn is_number<A: Allocator>(values: &[Value<A>], number: i64) -> bool {
+    match values {
+        [value] => value.as_num() == Some(number),
+        _ => false,
+    }
+}
+
+fn are_jerrys<A: Allocator>(found: &Groundings<A>) -> bool {
+    match found.list() {
+        [first, second] => is_number(first, 122) && is_number(second, 123),
+        _ => false,
+    }
+}
+
+fn are_again<A: Allocator + Copy>(alloc: A, tables: &Tables<A>) -> bool {
+    match all(alloc, tables, JERRY, &mut Meter::new()) {
+        Ok(found) => are_jerrys(&found),
+        Err(_) => false,
+    }
+}
+
+fn grounded<A: Allocator + Copy>(alloc: A, tables: &Tables<A>) -> Outcome {
+    match all(alloc, tables, JERRY, &mut Meter::new()) {
+        Ok(found) => Outcome::done_if(are_jerrys(&found)),
+        Err(_) => Outcome::refused_if(are_again(alloc, tables)),
+    }
+}
+
+impl Tried for Grounding {
+    fn tried<A: Allocator + Copy>(alloc: A) -> Outcome {
+        match travel(alloc) {
+            Ok(tables) => grounded(alloc, &tables),
+            Err(_) => Outcome::Unready,
+        }
+    }
+}
+
+#[test]
+fn refused_growth_in_all(rt: HostRuntime) {
+    assert!(rt; matches!(refusals::<Grounding>(rt.alloc()), Ok(6..)));
+}

@@ -1,0 +1,80 @@
+//! Commands, one of each kind. What they hold is shown by the cases.
+
+use cq_text::{
+    Command, CommandKind, Kind, MAX_COUNT, MAX_LINE, TextFault, read_command, read_ground_atom,
+    read_query,
+};
+use std::alloc::{AllocError, Global};
+use std::test::Fail;
+
+/// The kind of a command, and two numbers that it has or that count what it has.
+fn kind_of(command: &Command) -> (&str, usize, usize) {
+    match command {
+        CommandKind::Blank => ("", 0, 0),
+        CommandKind::Relation { name, arity } => ("relation", name.as_str().len(), *arity),
+        CommandKind::Limits { pool, journal } => ("limits", *pool, *journal),
+        CommandKind::Post { name, query } => ("post", name.as_str().len(), query.body().len()),
+        CommandKind::Withdraw { name } => ("withdraw", name.as_str().len(), 0),
+        CommandKind::Insert { row } => ("insert", row.relation().len(), row.values().len()),
+        CommandKind::Delete { row } => ("delete", row.relation().len(), row.values().len()),
+        CommandKind::Publish => ("publish", 0, 0),
+        CommandKind::Show => ("show", 0, 0),
+    }
+}
+
+/// Whether the line stands for a command of that kind and those numbers.
+fn is_kind(alloc: Global, line: &str, kind: (&str, usize, usize)) -> bool {
+    match read_command(alloc, line.as_bytes()) {
+        Ok(command) => kind_of(&command) == kind,
+        Err(_) => false,
+    }
+}
+
+#[test]
+fn kinds(rt: HostRuntime) {
+    for (line, word, first, second) in [
+        ("", "", 0, 0),
+        (" \t\r", "", 0, 0),
+        ("#", "", 0, 0),
+        ("  # post -0", "", 0, 0),
+        ("relation Flights 8", "relation", 7, 8),
+        ("limits 1000000 1 ", "limits", MAX_COUNT, 1),
+        ("post kramer {} R(x) <- T(x), U(1)", "post", 6, 2),
+        (" post show{}R(Jerry)<-\r", "post", 4, 0),
+        ("withdraw withdraw", "withdraw", 8, 0),
+        ("insert T(Paris,-5,\"x y\")", "insert", 1, 3),
+        ("delete T ( \"Paris\" , -5 )", "delete", 1, 2),
+        ("publish", "publish", 0, 0),
+        ("\tshow ", "show", 0, 0),
+    ] {
+        assert!(rt; is_kind(rt.alloc(), line, (word, first, second)), "{line}");
+    }
+}
+
+/// The first faults of a text as a line, as a query and as a ground atom.
+fn faults(alloc: Global, text: &str) -> [Option<TextFault>; 3] {
+    [
+        read_command(alloc, text.as_bytes()).err(),
+        read_query(alloc, text.as_bytes()).err(),
+        read_ground_atom(alloc, text.as_bytes()).err(),
+    ]
+}
+
+/// The same of as many spaces.
+fn faults_of_spaces(alloc: Global, count: usize) -> Result<[Option<TextFault>; 3], AllocError> {
+    let spaces = " ".repeat(alloc, count)?;
+    Ok(faults(alloc, spaces.as_str()))
+}
+
+fn at(kind: Kind, offset: usize) -> Option<TextFault> {
+    Some(TextFault::At { kind, offset })
+}
+
+#[test]
+fn longest_line(rt: HostRuntime) -> Result<(), Fail> {
+    let end = at(Kind::Shape, MAX_LINE);
+    let limit = at(Kind::Limit, 131_072);
+    assert!(rt; faults_of_spaces(rt.alloc(), MAX_LINE)? == [None, end, end]);
+    assert!(rt; faults_of_spaces(rt.alloc(), 131_073)? == [limit, limit, limit]);
+    Ok(())
+}
