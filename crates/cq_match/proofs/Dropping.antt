@@ -1,57 +1,57 @@
--- One link less is counted, and its slot's owner may have to wait for its fall.
+-- One offer less is counted, and its slot's owner may have to wait for its fall.
 use Rattle.std.proofs.Common.{◌≡◌, ℕ, ◌+◌, ◌-◌, ◌<◌, ◌≤◌, ◌≢◌, ◌⊎◌, inl, inr, true, false, cond, eqb, List, [], ◌∷◌, ◌++◌, length, get_or, set, drop, count_by, sum, refl, sym, ap, ◌∙◌, subst, arith, eq-eqb, SomeIndex}
 use Rattle.std.specs.List.{All, Contains}
 use Rattle.std.proofs.lemmas.Bool.{eqb-true}
 use Rattle.std.proofs.lemmas.List.{get_or-set_same, get_or-set_other}
 use Rattle.std.proofs.lemmas.List.Elements.{Contains-append_left, Contains-push, All-push}
 use Rattle.std.proofs.lemmas.List.Sums.{sum_by-drop_more, sum_by-set}
-use Rattle.cq_match.specs.declared.settle.Link.{Link}
+use Rattle.cq_match.specs.declared.settle.Offer.{Offer}
 use Rattle.cq_match.specs.Steps.Settle.{is_into}
 use Rattle.cq_match.proofs.Tests.{by_bool}
 
-count-here : (links : List Link) (i slot : ℕ) (d : Link) → i < length links → eqb (get_or links i d).slot slot ≡ true → count_by (is_into slot) (drop i links) ≡ 1 + count_by (is_into slot) (drop (i + 1) links)
-count-here links i slot d low t =
-    let more = sum_by-drop_more (λ l. cond (is_into slot l) 1 0) links i d low in
-    let one : cond (is_into slot (get_or links i d)) 1 0 ≡ 1 = rw t refl in
-    more ∙ ap (λ n. n + count_by (is_into slot) (drop (i + 1) links)) one
+count-here : (offers : List Offer) (i slot : ℕ) (d : Offer) → i < length offers → eqb (get_or offers i d).slot slot ≡ true → count_by (is_into slot) (drop i offers) ≡ 1 + count_by (is_into slot) (drop (i + 1) offers)
+count-here offers i slot d low t =
+    let more = sum_by-drop_more (λ l. cond (is_into slot l) 1 0) offers i d low in
+    let one : cond (is_into slot (get_or offers i d)) 1 0 ≡ 1 = rw t refl in
+    more ∙ ap (λ n. n + count_by (is_into slot) (drop (i + 1) offers)) one
 
-count-elsewhere : (links : List Link) (i slot : ℕ) (d : Link) → i < length links → eqb (get_or links i d).slot slot ≡ false → count_by (is_into slot) (drop i links) ≡ 0 + count_by (is_into slot) (drop (i + 1) links)
-count-elsewhere links i slot d low f =
-    let more = sum_by-drop_more (λ l. cond (is_into slot l) 1 0) links i d low in
-    let none : cond (is_into slot (get_or links i d)) 1 0 ≡ 0 = rw f refl in
-    more ∙ ap (λ n. n + count_by (is_into slot) (drop (i + 1) links)) none
+count-elsewhere : (offers : List Offer) (i slot : ℕ) (d : Offer) → i < length offers → eqb (get_or offers i d).slot slot ≡ false → count_by (is_into slot) (drop i offers) ≡ 0 + count_by (is_into slot) (drop (i + 1) offers)
+count-elsewhere offers i slot d low f =
+    let more = sum_by-drop_more (λ l. cond (is_into slot l) 1 0) offers i d low in
+    let none : cond (is_into slot (get_or offers i d)) 1 0 ≡ 0 = rw f refl in
+    more ∙ ap (λ n. n + count_by (is_into slot) (drop (i + 1) offers)) none
 
 -- What is counted of a slot, and what is still to be dropped of it: now, at first, and of all that are dropped.
-abbrev pub Lowered : List ℕ → List ℕ → List Link → ℕ → Type 0
-Lowered start counts links i = (slot : ℕ) → get_or counts slot 0 + count_by (is_into slot) links ≡ get_or start slot 0 + count_by (is_into slot) (drop i links)
+abbrev pub Lowered : List ℕ → List ℕ → List Offer → ℕ → Type 0
+Lowered start counts offers i = (slot : ℕ) → get_or counts slot 0 + count_by (is_into slot) offers ≡ get_or start slot 0 + count_by (is_into slot) (drop i offers)
 
-abbrev pub Enough : List ℕ → List ℕ → List Link → Type 0
-Enough owners start links = (slot : ℕ) → slot < length owners → count_by (is_into slot) links ≤ get_or start slot 0
+abbrev pub Enough : List ℕ → List ℕ → List Offer → Type 0
+Enough owners start offers = (slot : ℕ) → slot < length owners → count_by (is_into slot) offers ≤ get_or start slot 0
 
-pub counts-some : (owners start counts : List ℕ) (links : List Link) (i k : ℕ) (d : Link) → i < length links → k ≡ (get_or links i d).slot → k < length owners → Enough owners start links → Lowered start counts links i → 1 ≤ get_or counts k 0
-counts-some owners start counts links i k d low at held enough lowered =
-    let here = count-here links i k d low (eq-eqb (get_or links i d).slot k (sym at)) in
+pub counts-some : (owners start counts : List ℕ) (offers : List Offer) (i k : ℕ) (d : Offer) → i < length offers → k ≡ (get_or offers i d).slot → k < length owners → Enough owners start offers → Lowered start counts offers i → 1 ≤ get_or counts k 0
+counts-some owners start counts offers i k d low at held enough lowered =
+    let here = count-here offers i k d low (eq-eqb (get_or offers i d).slot k (sym at)) in
     let now = lowered k in
     let most = enough k held in
     omega arith
 
-pub lowered-more : (owners start counts : List ℕ) (links : List Link) (i k : ℕ) (d : Link) → i < length links → k ≡ (get_or links i d).slot → k < length counts → k < length owners → Enough owners start links → Lowered start counts links i
-    → Lowered start (set counts k (get_or counts k 0 - 1)) links (i + 1)
-lowered-more owners start counts links i k d low at inside held enough lowered slot =
+pub lowered-more : (owners start counts : List ℕ) (offers : List Offer) (i k : ℕ) (d : Offer) → i < length offers → k ≡ (get_or offers i d).slot → k < length counts → k < length owners → Enough owners start offers → Lowered start counts offers i
+    → Lowered start (set counts k (get_or counts k 0 - 1)) offers (i + 1)
+lowered-more owners start counts offers i k d low at inside held enough lowered slot =
     let n = get_or counts k 0 in
-    by_bool (eqb (get_or links i d).slot slot) (get_or (set counts k (n - 1)) slot 0 + count_by (is_into slot) links ≡ get_or start slot 0 + count_by (is_into slot) (drop (i + 1) links))
+    by_bool (eqb (get_or offers i d).slot slot) (get_or (set counts k (n - 1)) slot 0 + count_by (is_into slot) offers ≡ get_or start slot 0 + count_by (is_into slot) (drop (i + 1) offers))
     (λ t.
-    let same : k ≡ slot = at ∙ eqb-true (get_or links i d).slot slot t in
+    let same : k ≡ slot = at ∙ eqb-true (get_or offers i d).slot slot t in
     let after : get_or (set counts k (n - 1)) slot 0 ≡ n - 1 = ap (λ m. get_or (set counts k (n - 1)) m 0) (sym same) ∙ get_or-set_same counts k (n - 1) 0 inside in
     let before : get_or counts slot 0 ≡ n = ap (λ m. get_or counts m 0) (sym same) in
-    let here = count-here links i slot d low t in
-    let some = counts-some owners start counts links i k d low at held enough lowered in
+    let here = count-here offers i slot d low t in
+    let some = counts-some owners start counts offers i k d low at held enough lowered in
     let now = lowered slot in
     omega arith)
     (λ f.
-    let apart : slot ≢ k = λ e. let never : false ≡ true = sym f ∙ eq-eqb (get_or links i d).slot slot (sym at ∙ sym e) in cc in
+    let apart : slot ≢ k = λ e. let never : false ≡ true = sym f ∙ eq-eqb (get_or offers i d).slot slot (sym at ∙ sym e) in cc in
     let other = get_or-set_other counts k slot (n - 1) 0 apart in
-    let here = count-elsewhere links i slot d low f in
+    let here = count-elsewhere offers i slot d low f in
     let now = lowered slot in
     omega arith)
 

@@ -1,7 +1,7 @@
 pub mod Counting
 pub mod Dropping
 pub mod Grouped
-pub mod Linked
+pub mod Offered
 pub mod Ranks
 pub mod Settling
 pub mod Slots

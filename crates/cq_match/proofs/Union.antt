@@ -14,9 +14,9 @@ use Rattle.std.proofs.lemmas.List.Sorted.{IsPermutation-map, IsPermutation-sym, 
 use Rattle.std.proofs.lemmas.List.Sums.{AllPass-from_list_all, list_all-from_AllPass}
 use Rattle.std.proofs.lemmas.Map.Made.{is_member-Decides, is_member-filter}
 use Rattle.cq_match.specs.declared.edge.Edge.{Edge}
-use Rattle.cq_match.specs.declared.settle.Link.{Link}
+use Rattle.cq_match.specs.declared.settle.Offer.{Offer}
 use Rattle.cq_match.specs.Matched.{numbers, is_supplied, has_each_post, is_closed, sublists, is_matched}
-use Rattle.cq_match.specs.Steps.Places.{number_at, posts_at, AreSlots, AreLinksOf}
+use Rattle.cq_match.specs.Steps.Places.{number_at, posts_at, AreSlots, AreOffersOf}
 use Rattle.cq_match.specs.Steps.Settle.{stands, feeds, FeedsItself}
 use Rattle.cq_match.proofs.Tests.{by_bool, and_left, and_right, both}
 use Rattle.cq_match.proofs.Ranks.{Nodes, numbers-get_or, length-numbers}
@@ -77,9 +77,9 @@ each-post edges set node supplied =
     ap (is_supplied edges set node.0) at ∙ supplied k inside)
 
 -- The places whose nodes are in a closed set feed themselves.
-pub closed-feeds : (nodes ranked : Nodes) (edges : List Edge) (starts owners : List ℕ) (links : List Link) → IsPermutation nodes ranked → AreSlots ranked starts owners → AreLinksOf ranked starts (length owners) edges links
-    → (set : List ℕ) → is_closed nodes edges set ≡ true → FeedsItself owners links (λ p. is_member nat_eq set (number_at ranked p))
-closed-feeds nodes ranked edges starts owners links moved s l set closed = record {
+pub closed-feeds : (nodes ranked : Nodes) (edges : List Edge) (starts owners : List ℕ) (offers : List Offer) → IsPermutation nodes ranked → AreSlots ranked starts owners → AreOffersOf ranked starts (length owners) edges offers
+    → (set : List ℕ) → is_closed nodes edges set ≡ true → FeedsItself owners offers (λ p. is_member nat_eq set (number_at ranked p))
+closed-feeds nodes ranked edges starts owners offers moved s l set closed = record {
   fed = λ slot low up.
       let p = get_or owners slot 0 in
       let start = get_or starts p 0 in
@@ -91,14 +91,14 @@ closed-feeds nodes ranked edges starts owners links moved s l set closed = recor
       let has = member-has nodes edges set (get_or ranked p (0, 0)) closed (place-listed nodes ranked moved p held) up in
       let supplied = has-post edges set (get_or ranked p (0, 0)) post has inside in
       let at : start + post ≡ slot = omega arith in
-      ap (λ n. list_any (feeds (λ q. is_member nat_eq set (number_at ranked q)) n) links) (sym at) ∙ l.same set p post held inside ∙ supplied;
+      ap (λ n. list_any (feeds (λ q. is_member nat_eq set (number_at ranked q)) n) offers) (sym at) ∙ l.same set p post held inside ∙ supplied;
 }
 
 -- The nodes of places that feed themselves are a closed set.
-pub feeds-closed : (nodes ranked : Nodes) (edges : List Edge) (starts owners : List ℕ) (links : List Link) (up : ℕ → Bool) → IsPermutation nodes ranked → AreSlots ranked starts owners → AreLinksOf ranked starts (length owners) edges links
-    → FeedsItself owners links up → (set : List ℕ) → ((p : ℕ) → p < length ranked → is_member nat_eq set (number_at ranked p) ≡ up p) → is_closed nodes edges set ≡ true
+pub feeds-closed : (nodes ranked : Nodes) (edges : List Edge) (starts owners : List ℕ) (offers : List Offer) (up : ℕ → Bool) → IsPermutation nodes ranked → AreSlots ranked starts owners → AreOffersOf ranked starts (length owners) edges offers
+    → FeedsItself owners offers up → (set : List ℕ) → ((p : ℕ) → p < length ranked → is_member nat_eq set (number_at ranked p) ≡ up p) → is_closed nodes edges set ≡ true
 unfolding is_closed
-feeds-closed nodes ranked edges starts owners links up moved s l itself set same =
+feeds-closed nodes ranked edges starts owners offers up moved s l itself set same =
     list_all-from_AllPass (λ x. not (is_member nat_eq set x.0) || has_each_post edges set x) nodes
     (λ k d low.
     let node = get_or nodes k d in
@@ -113,7 +113,7 @@ feeds-closed nodes ranked edges starts owners links up moved s l itself set same
     let held = s.slot_low p post placed.1 inside in
     let owner = s.slot_owner p post placed.1 inside in
     let fed = itself.fed slot held (ap up owner ∙ stand) in
-    let fed' = feeds-more (length ranked) up (λ q. is_member nat_eq set (number_at ranked q)) slot (λ q inner e. same q inner ∙ e) links (λ j e inner. (l.low j e inner).0) fed in
+    let fed' = feeds-more (length ranked) up (λ q. is_member nat_eq set (number_at ranked q)) slot (λ q inner e. same q inner ∙ e) offers (λ j e inner. (l.low j e inner).0) fed in
     sym (l.same set p post placed.1 inside) ∙ fed') in
     let here : has_each_post edges set node ≡ true = ap (has_each_post edges set) (sym placed.2) ∙ has in
     rw here (or-true (not (is_member nat_eq set node.0))))
@@ -181,15 +181,15 @@ found-part test (x ∷ xs) e =
 -- ---- matched nodes
 
 -- What is found, and whose places are the greatest that feed themselves, is what is matched.
-pub found-matched : (nodes ranked : Nodes) (edges : List Edge) (starts owners : List ℕ) (links : List Link) (standing : List Bool) (found : List ℕ)
-    → IsPermutation nodes ranked → AreSlots ranked starts owners → AreLinksOf ranked starts (length owners) edges links
-    → FeedsItself owners links (stands standing)
-    → ((set : ℕ → Bool) → FeedsItself owners links set → (p : ℕ) → p < length ranked → set p ≡ true → stands standing p ≡ true)
+pub found-matched : (nodes ranked : Nodes) (edges : List Edge) (starts owners : List ℕ) (offers : List Offer) (standing : List Bool) (found : List ℕ)
+    → IsPermutation nodes ranked → AreSlots ranked starts owners → AreOffersOf ranked starts (length owners) edges offers
+    → FeedsItself owners offers (stands standing)
+    → ((set : ℕ → Bool) → FeedsItself owners offers set → (p : ℕ) → p < length ranked → set p ≡ true → stands standing p ≡ true)
     → ((p : ℕ) → p < length ranked → is_member nat_eq found (number_at ranked p) ≡ stands standing p)
     → All (Contains (numbers ranked)) found
     → (n : ℕ) → Contains found n ↔ IsTrue (is_matched nodes edges n)
 unfolding is_matched
-found-matched nodes ranked edges starts owners links standing found moved s l itself greatest same known n =
+found-matched nodes ranked edges starts owners offers standing found moved s l itself greatest same known n =
     let listed : (m : ℕ) → is_member nat_eq (numbers ranked) m ≡ true → is_member nat_eq (numbers nodes) m ≡ true = λ m h. contained-member (numbers nodes) m
     (Contains-permutation (numbers ranked) (numbers nodes) m (IsPermutation-sym (numbers nodes) (numbers ranked) (IsPermutation-map (λ (node : ℕ × ℕ). node.0) nodes ranked moved)) (member-contained (numbers ranked) m h)) in
     let keep : ℕ → Bool = is_member nat_eq found in
@@ -199,7 +199,7 @@ found-matched nodes ranked edges starts owners links standing found moved s l it
     let in_part : (m : ℕ) → is_member nat_eq (numbers ranked) m ≡ true → is_member nat_eq part m ≡ keep m = λ m h. part_member m ∙ ap (λ (b : Bool). b && keep m) (listed m h) in
     let part_same : (p : ℕ) → p < length ranked → is_member nat_eq part (number_at ranked p) ≡ stands standing p = λ p low.
     in_part (number_at ranked p) (contained-member (numbers ranked) (number_at ranked p) (number-known ranked p low)) ∙ same p low in
-    let part_closed = feeds-closed nodes ranked edges starts owners links (stands standing) moved s l itself part part_same in
+    let part_closed = feeds-closed nodes ranked edges starts owners offers (stands standing) moved s l itself part part_same in
     let test : List ℕ → Bool = λ set. is_closed nodes edges set && is_member nat_eq set n in (
       λ has.
           let member = in_part n (contained-member (numbers ranked) n (All-contains (Contains (numbers ranked)) found n known has)) ∙ contained-member found n has in
@@ -211,7 +211,7 @@ found-matched nodes ranked edges starts owners links standing found moved s l it
           let member = and_right (is_closed nodes edges set) (is_member nat_eq set n) passing.1 in
           let there = Contains-permutation (numbers nodes) (numbers ranked) n (IsPermutation-map (λ (node : ℕ × ℕ). node.0) nodes ranked moved) (member-contained (numbers nodes) n (passing.2 n member)) in
           let placed = number-placed ranked n there in
-          let up = greatest (λ p. is_member nat_eq set (number_at ranked p)) (closed-feeds nodes ranked edges starts owners links moved s l set closed) placed.0 placed.1 (ap (is_member nat_eq set) placed.2 ∙ member) in
+          let up = greatest (λ p. is_member nat_eq set (number_at ranked p)) (closed-feeds nodes ranked edges starts owners offers moved s l set closed) placed.0 placed.1 (ap (is_member nat_eq set) placed.2 ∙ member) in
           member-contained found n (ap keep (sym placed.2) ∙ same placed.0 placed.1 ∙ up),
     )
 

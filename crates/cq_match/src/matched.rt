@@ -6,11 +6,11 @@ ghost use Rattle.std.specs.List.Sorted.{IsNonDecreasingBy, IsPermutation, IsStri
 ghost use Rattle.std.specs.Ordering.{nat_cmp};
 ghost use Rattle.std.specs.Set.{is_member};
 ghost use Rattle.cq_match.specs.Matched.{is_matched, numbers};
-ghost use Rattle.cq_match.specs.Steps.Places.{number_at, posts_at, IsRanked, AreSlots, IsLinkOf, AreLinksOf};
+ghost use Rattle.cq_match.specs.Steps.Places.{number_at, posts_at, IsRanked, AreSlots, IsOfferOf, AreOffersOf};
 ghost use Rattle.cq_match.specs.Steps.Settle.{stands};
 
 use crate::Edge;
-use crate::settle::{Link, settled};
+use crate::settle::{Offer, settled};
 use std::alloc::{AllocError, Allocator};
 
 /// The nodes in rising order of their numbers.
@@ -72,40 +72,40 @@ fn slots_of<A: Allocator + Copy>(alloc: A, ranked: &[(usize, u8)]) -> Result<Slo
     Ok(Slots { starts, owners })
 }
 
-/// The edge as a link.
-fn link_of<A: Allocator>(ranked: &[(usize, u8)], slots: &Slots<A>, edge: Edge) -> Link
+/// The edge as an offer.
+fn offer_of<A: Allocator>(ranked: &[(usize, u8)], slots: &Slots<A>, edge: Edge) -> Offer
     requires rising { IsRanked ranked.now }
     requires slots { AreSlots ranked.now slots.now.starts.items slots.now.owners.items }
     requires provider { Contains (numbers ranked.now) edge.provider }
     requires waiter { Any (λ node. (node.0 ≡ edge.waiter) × (edge.post < node.1)) ranked.now }
-    ensures { IsLinkOf ranked.now slots.now.starts.items edge result }
+    ensures { IsOfferOf ranked.now slots.now.starts.items edge result }
 {
     let waiter = place_of(ranked, edge.waiter);
-    Link {
+    Offer {
         provider: place_of(ranked, edge.provider),
         slot: slots.starts[waiter] + usize::from(edge.post),
     }
 }
 
-/// The edges as links, by their providers.
-fn links_of<A: Allocator + Copy>(
+/// The edges as offers, by their providers.
+fn offers_of<A: Allocator + Copy>(
     alloc: A,
     ranked: &[(usize, u8)],
     slots: &Slots<A>,
     edges: &[Edge],
-) -> Result<Vec<Link, A>, AllocError>
+) -> Result<Vec<Offer, A>, AllocError>
     requires rising { IsRanked ranked.now }
     requires slots { AreSlots ranked.now slots.now.starts.items slots.now.owners.items }
     requires ends { All (λ edge. Contains (numbers ranked.now) edge.provider × Any (λ node. (node.0 ≡ edge.waiter) × (edge.post < node.1)) ranked.now) edges.now }
-    ensures links { IfOk result (λ links. AreLinksOf ranked.now slots.now.starts.items (length slots.now.owners.items) edges.now links.items) }
-    ensures grouped { IfOk result (λ links. IsNonDecreasingBy (λ link. link.provider) links.items) }
+    ensures offers { IfOk result (λ offers. AreOffersOf ranked.now slots.now.starts.items (length slots.now.owners.items) edges.now offers.items) }
+    ensures grouped { IfOk result (λ offers. IsNonDecreasingBy (λ offer. offer.provider) offers.items) }
 {
-    let mut links = Vec::new(alloc);
+    let mut offers = Vec::new(alloc);
     for edge in edges {
-        links.push(link_of(ranked, slots, *edge))?;
+        offers.push(offer_of(ranked, slots, *edge))?;
     }
-    links.sort_unstable_by_key(|link| link.provider);
-    Ok(links)
+    offers.sort_unstable_by_key(|offer| offer.provider);
+    Ok(offers)
 }
 
 /// The numbers of the nodes that stand.
@@ -155,7 +155,7 @@ pub fn greatest<A: Allocator + Copy>(
 {
     let ranked = ranked(alloc, nodes)?;
     let slots = slots_of(alloc, &ranked)?;
-    let links = links_of(alloc, &ranked, &slots, edges)?;
-    let standing = settled(alloc, ranked.len(), &slots.owners, &links)?;
+    let offers = offers_of(alloc, &ranked, &slots, edges)?;
+    let standing = settled(alloc, ranked.len(), &slots.owners, &offers)?;
     standing_numbers(alloc, &ranked, &standing)
 }

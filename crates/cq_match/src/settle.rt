@@ -1,7 +1,7 @@
 //! The greatest set of places that feeds itself.
 //!
 //! All places stand at first. A place falls when one of its slots is fed by no standing place, and each
-//! link from it then counts no longer. Each place falls once, so each link is looked at once.
+//! offer from it then counts no longer. Each place falls once, so each offer is looked at once.
 
 ghost use Rattle.std.specs.Prelude.{◌≡◌, ◌==◌, ◌+◌, ◌<◌, ◌≤◌, ◌⊎◌, ℕ, Bool, true, length, filter, sum, count_by, slice_index, vec_len, EachIndex, SomeIndex, IfOk, OnOk};
 ghost use Rattle.std.specs.List.{All, Contains};
@@ -12,26 +12,26 @@ use std::alloc::{AllocError, Allocator};
 
 /// An edge between places: from the place of its provider to the slot of its postcondition.
 #[derive(Clone, Copy)]
-pub struct Link {
+pub struct Offer {
     /// The place that offers.
     pub provider: usize,
     /// The slot of the postcondition that it supplies.
     pub slot: usize,
 }
 
-/// How many links lead to each slot.
+/// How many offers lead to each slot.
 fn counts_of<A: Allocator>(
     alloc: A,
     slots: usize,
-    links: &[Link],
+    offers: &[Offer],
 ) -> Result<Vec<usize, A>, AllocError>
-    requires { All (λ link. link.slot < slots) links.now }
+    requires { All (λ offer. offer.slot < slots) offers.now }
     ensures len { IfOk result (λ counts. vec_len counts ≡ slots) }
-    ensures counted { IfOk result (λ counts. (slot : ℕ) → slot < slots → slice_index counts.items slot ≡ count_by (is_into slot) links.now) }
+    ensures counted { IfOk result (λ counts. (slot : ℕ) → slot < slots → slice_index counts.items slot ≡ count_by (is_into slot) offers.now) }
 {
     let mut counts = vec![in alloc; 0usize; slots]?;
-    for link in links {
-        counts[link.slot] += 1;
+    for offer in offers {
+        counts[offer.slot] += 1;
     }
     Ok(counts)
 }
@@ -55,39 +55,39 @@ fn unfed<A: Allocator>(
     Ok(found)
 }
 
-/// The links from a place, which stand side by side.
-fn links_from(links: &[Link], place: usize) -> &[Link]
-    requires { IsNonDecreasingBy (λ link. link.provider) links.now }
-    ensures { result.now ≡ filter (λ link. link.provider == place) links.now }
+/// The offers from a place, which stand side by side.
+fn offers_from(offers: &[Offer], place: usize) -> &[Offer]
+    requires { IsNonDecreasingBy (λ offer. offer.provider) offers.now }
+    ensures { result.now ≡ filter (λ offer. offer.provider == place) offers.now }
 {
-    let below = links.partition_point(|link| link.provider < place);
-    let (_, rest) = links.split_at(below);
-    let count = rest.partition_point(|link| link.provider <= place);
+    let below = offers.partition_point(|offer| offer.provider < place);
+    let (_, rest) = offers.split_at(below);
+    let count = rest.partition_point(|offer| offer.provider <= place);
     let (at, _) = rest.split_at(count);
     at
 }
 
-/// Counts the links no longer. The owners of slots that lose their last link are put to those that wait
+/// Counts the offers no longer. The owners of slots that lose their last offer are put to those that wait
 /// to fall.
-fn drop_links<A: Allocator>(
+fn drop_offers<A: Allocator>(
     counts: &mut [usize],
     waiting: &mut Vec<usize, A>,
     owners: &[usize],
-    links: &[Link],
+    offers: &[Offer],
 ) -> Result<(), AllocError>
     requires same_len { length counts.old ≡ length owners.now }
-    requires low { All (λ link. link.slot < length owners.now) links.now }
-    requires counted { (slot : ℕ) → slot < length owners.now → count_by (is_into slot) links.now ≤ slice_index counts.old slot }
-    ensures lowered { OnOk result ((slot : ℕ) → slice_index counts.new slot + count_by (is_into slot) links.now ≡ slice_index counts.old slot) }
+    requires low { All (λ offer. offer.slot < length owners.now) offers.now }
+    requires counted { (slot : ℕ) → slot < length owners.now → count_by (is_into slot) offers.now ≤ slice_index counts.old slot }
+    ensures lowered { OnOk result ((slot : ℕ) → slice_index counts.new slot + count_by (is_into slot) offers.now ≡ slice_index counts.old slot) }
     ensures each { OnOk result ((slot : ℕ) → slot < length owners.now → slice_index counts.new slot ≡ 0 → (slice_index counts.old slot ≡ 0) ⊎ Contains waiting.new.items (slice_index owners.now slot)) }
     ensures kept { OnOk result ((place : ℕ) → Contains waiting.old.items place → Contains waiting.new.items place) }
     ensures only { OnOk result (All (λ place. Contains waiting.old.items place ⊎ SomeIndex owners.now (λ slot. (slice_index counts.new slot ≡ 0) × (slice_index owners.now slot ≡ place))) waiting.new.items) }
     ensures fewer { OnOk result (sum counts.new + vec_len waiting.new ≤ sum counts.old + vec_len waiting.old) }
 {
-    for link in links {
-        counts[link.slot] -= 1;
-        if counts[link.slot] == 0 {
-            waiting.push(owners[link.slot])?;
+    for offer in offers {
+        counts[offer.slot] -= 1;
+        if counts[offer.slot] == 0 {
+            waiting.push(owners[offer.slot])?;
         }
     }
     Ok(())
@@ -98,22 +98,27 @@ pub fn settled<A: Allocator + Copy>(
     alloc: A,
     places: usize,
     owners: &[usize],
-    links: &[Link],
+    offers: &[Offer],
 ) -> Result<Vec<bool, A>, AllocError>
     requires owners_low { All (λ place. place < places) owners.now }
-    requires links_low { All (λ link. (link.provider < places) × (link.slot < length owners.now)) links.now }
-    requires grouped { IsNonDecreasingBy (λ link. link.provider) links.now }
+    requires offers_low { All (λ offer. (offer.provider < places) × (offer.slot < length owners.now)) offers.now }
+    requires grouped { IsNonDecreasingBy (λ offer. offer.provider) offers.now }
     ensures len { IfOk result (λ standing. vec_len standing ≡ places) }
-    ensures itself { IfOk result (λ standing. FeedsItself owners.now links.now (stands standing.items)) }
-    ensures greatest { IfOk result (λ standing. (set : ℕ → Bool) → FeedsItself owners.now links.now set → (place : ℕ) → place < places → set place ≡ true → stands standing.items place ≡ true) }
+    ensures itself { IfOk result (λ standing. FeedsItself owners.now offers.now (stands standing.items)) }
+    ensures greatest { IfOk result (λ standing. (set : ℕ → Bool) → FeedsItself owners.now offers.now set → (place : ℕ) → place < places → set place ≡ true → stands standing.items place ≡ true) }
 {
-    let mut counts = counts_of(alloc, owners.len(), links)?;
+    let mut counts = counts_of(alloc, owners.len(), offers)?;
     let mut waiting = unfed(alloc, owners, &counts)?;
     let mut standing = vec![in alloc; true; places]?;
     while let Some(place) = waiting.pop() {
         if standing[place] {
             standing[place] = false;
-            drop_links(&mut counts, &mut waiting, owners, links_from(links, place))?;
+            drop_offers(
+                &mut counts,
+                &mut waiting,
+                owners,
+                offers_from(offers, place),
+            )?;
         }
     }
     Ok(standing)

@@ -3,7 +3,7 @@ use Rattle.std.specs.Prelude.{◌≡◌, ℕ, ◌+◌, ◌<◌, ◌≤◌, nat_e
 use Rattle.std.specs.List.{All, list_any}
 use Rattle.std.specs.Set.{is_member}
 use Rattle.cq_match.specs.declared.edge.Edge.{Edge}
-use Rattle.cq_match.specs.declared.settle.Link.{Link}
+use Rattle.cq_match.specs.declared.settle.Offer.{Offer}
 use Rattle.cq_match.specs.Matched.{is_supplied}
 use Rattle.cq_match.specs.Steps.Settle.{feeds}
 
@@ -28,18 +28,18 @@ pub record AreSlots (nodes : List (ℕ × ℕ)) (starts owners : List ℕ) : Typ
   pub slot_low : (place post : ℕ) → place < length nodes → post < posts_at nodes place → slice_index starts place + post < length owners
   pub slot_owner : (place post : ℕ) → place < length nodes → post < posts_at nodes place → slice_index owners (slice_index starts place + post) ≡ place
 
--- The link is the edge, by the place of its provider and the slot of its postcondition.
-pub record IsLinkOf (nodes : List (ℕ × ℕ)) (starts : List ℕ) (edge : Edge) (link : Link) : Type 0 where
+-- The offer is the edge, by the place of its provider and the slot of its postcondition.
+pub record IsOfferOf (nodes : List (ℕ × ℕ)) (starts : List ℕ) (edge : Edge) (offer : Offer) : Type 0 where
   pub waiter : ℕ
-  pub provider_low : link.provider < length nodes
-  pub provider_is : number_at nodes link.provider ≡ edge.provider
+  pub provider_low : offer.provider < length nodes
+  pub provider_is : number_at nodes offer.provider ≡ edge.provider
   pub waiter_low : waiter < length nodes
   pub waiter_is : number_at nodes waiter ≡ edge.waiter
   pub post_low : edge.post < posts_at nodes waiter
-  pub slot_is : link.slot ≡ slice_index starts waiter + edge.post
+  pub slot_is : offer.slot ≡ slice_index starts waiter + edge.post
 
--- The links are the edges: a slot is fed from a set of places exactly where the postcondition is supplied from their nodes.
-pub record AreLinksOf (nodes : List (ℕ × ℕ)) (starts : List ℕ) (slots : ℕ) (edges : List Edge) (links : List Link) : Type 0 where
-  pub low : All (λ link. (link.provider < length nodes) × (link.slot < slots)) links
+-- The offers are the edges: a slot is fed from a set of places exactly where the postcondition is supplied from their nodes.
+pub record AreOffersOf (nodes : List (ℕ × ℕ)) (starts : List ℕ) (slots : ℕ) (edges : List Edge) (offers : List Offer) : Type 0 where
+  pub low : All (λ offer. (offer.provider < length nodes) × (offer.slot < slots)) offers
   pub same : (set : List ℕ) (place post : ℕ) → place < length nodes → post < posts_at nodes place
-      → list_any (feeds (λ provider. is_member nat_eq set (number_at nodes provider)) (slice_index starts place + post)) links ≡ is_supplied edges set (number_at nodes place) post
+      → list_any (feeds (λ provider. is_member nat_eq set (number_at nodes provider)) (slice_index starts place + post)) offers ≡ is_supplied edges set (number_at nodes place) post

@@ -2,8 +2,8 @@ use Rattle.std.proofs.Common.{◌≡◌, ℕ, ◌<◌, take, count_by, slice_ind
 use Rattle.cq_match.specs.Steps.Settle.{is_into}
 use Rattle.cq_match.proofs.settle.counts_of.Given as goal
 
-abbrev pub invariant-loop-link : goal.invariant-loop-link
-invariant-loop-link g l = record {
+abbrev pub invariant-loop-offer : goal.invariant-loop-offer
+invariant-loop-offer g l = record {
   len : vec_len l.counts ≡ l.slots;
-  counted : (slot : ℕ) → slot < l.slots → slice_index l.counts.items slot ≡ count_by (is_into slot) (take l.link-index l.links);
+  counted : (slot : ℕ) → slot < l.slots → slice_index l.counts.items slot ≡ count_by (is_into slot) (take l.offer-index l.offers);
 }

@@ -1,4 +1,4 @@
--- Edges as links.
+-- Edges as offers.
 use Rattle.std.proofs.Common.{◌≡◌, ℕ, ◌+◌, ◌<◌, Bool, false, ◌&&◌, ◌||◌, eqb, List, [], ◌∷◌, ◌++◌, length, get_or, take, refl, sym, ap, ◌∙◌, arith, eq-eqb, nat_eq}
 use Rattle.std.specs.List.{Any, list_any}
 use Rattle.std.specs.List.Sorted.{IsPermutation}
@@ -10,9 +10,9 @@ use Rattle.std.proofs.lemmas.List.Elements.{All-push}
 use Rattle.std.proofs.lemmas.List.Folds.{list_any-append, list_any_more}
 use Rattle.std.proofs.lemmas.List.Sorted.{All-permutation, list_any-IsPermutation}
 use Rattle.cq_match.specs.declared.edge.Edge.{Edge}
-use Rattle.cq_match.specs.declared.settle.Link.{Link}
+use Rattle.cq_match.specs.declared.settle.Offer.{Offer}
 use Rattle.cq_match.specs.Graph.{leads_to}
-use Rattle.cq_match.specs.Steps.Places.{number_at, posts_at, IsRanked, AreSlots, IsLinkOf, AreLinksOf}
+use Rattle.cq_match.specs.Steps.Places.{number_at, posts_at, IsRanked, AreSlots, IsOfferOf, AreOffersOf}
 use Rattle.cq_match.specs.Steps.Settle.{feeds, is_into}
 use Rattle.cq_match.proofs.Tests.{same_tests, and_left, and_right, both}
 use Rattle.cq_match.proofs.Ranks.{Nodes, one-place}
@@ -26,14 +26,14 @@ posts-of ranked rising waiter post place low at (k, node, held, here, (is, has))
     let posts : posts_at ranked place ≡ node.1 = ap (posts_at ranked) (sym same) ∙ ap (λ (n : ℕ × ℕ). n.1) there in
     omega arith
 
--- a link leads to a slot exactly where its edge leads to the slot's postcondition
-tied : (ranked : Nodes) (starts owners : List ℕ) → IsRanked ranked → AreSlots ranked starts owners → (edge : Edge) (link : Link) → IsLinkOf ranked starts edge link
+-- an offer leads to a slot exactly where its edge leads to the slot's postcondition
+tied : (ranked : Nodes) (starts owners : List ℕ) → IsRanked ranked → AreSlots ranked starts owners → (edge : Edge) (offer : Offer) → IsOfferOf ranked starts edge offer
     → (place post : ℕ) → place < length ranked → post < posts_at ranked place
-    → is_into (get_or starts place 0 + post) link ≡ leads_to (number_at ranked place) post edge
-tied ranked starts owners rising s edge link l place post low has =
-    same_tests (is_into (get_or starts place 0 + post) link) (leads_to (number_at ranked place) post edge)
+    → is_into (get_or starts place 0 + post) offer ≡ leads_to (number_at ranked place) post edge
+tied ranked starts owners rising s edge offer l place post low has =
+    same_tests (is_into (get_or starts place 0 + post) offer) (leads_to (number_at ranked place) post edge)
     (λ t.
-    let slot : get_or starts l.waiter 0 + edge.post ≡ get_or starts place 0 + post = sym l.slot_is ∙ eqb-true link.slot (get_or starts place 0 + post) t in
+    let slot : get_or starts l.waiter 0 + edge.post ≡ get_or starts place 0 + post = sym l.slot_is ∙ eqb-true offer.slot (get_or starts place 0 + post) t in
     let waiter : l.waiter ≡ place = sym (s.slot_owner l.waiter edge.post l.waiter_low l.post_low) ∙ ap (λ n. get_or owners n 0) slot ∙ s.slot_owner place post low has in
     let start : get_or starts l.waiter 0 ≡ get_or starts place 0 = ap (λ n. get_or starts n 0) waiter in
     let same_post : edge.post ≡ post = omega arith in
@@ -45,40 +45,40 @@ tied ranked starts owners rising s edge link l place post low has =
     let waiter : l.waiter ≡ place = one-place ranked rising l.waiter place l.waiter_low low (l.waiter_is ∙ number) in
     let start : get_or starts l.waiter 0 ≡ get_or starts place 0 = ap (λ n. get_or starts n 0) waiter in
     let slot = l.slot_is in
-    eq-eqb link.slot (get_or starts place 0 + post) (omega arith))
+    eq-eqb offer.slot (get_or starts place 0 + post) (omega arith))
 
-pub links-none : (ranked : Nodes) (starts : List ℕ) (slots : ℕ) → AreLinksOf ranked starts slots [] []
-links-none ranked starts slots = record {
+pub offers-none : (ranked : Nodes) (starts : List ℕ) (slots : ℕ) → AreOffersOf ranked starts slots [] []
+offers-none ranked starts slots = record {
   low = λ k d h. absurd (let none : k < 0 = h in omega arith);
   same = λ members place post low has. refl;
 }
 
-pub links-more : (ranked : Nodes) (starts owners : List ℕ) → IsRanked ranked → AreSlots ranked starts owners
-    → (edges : List Edge) (links : List Link) (i : ℕ) (d : Edge) (link : Link) → i < length edges → IsLinkOf ranked starts (get_or edges i d) link
-    → AreLinksOf ranked starts (length owners) (take i edges) links → AreLinksOf ranked starts (length owners) (take (i + 1) edges) (links ++ link ∷ [])
-links-more ranked starts owners rising s edges links i d link inside l a =
+pub offers-more : (ranked : Nodes) (starts owners : List ℕ) → IsRanked ranked → AreSlots ranked starts owners
+    → (edges : List Edge) (offers : List Offer) (i : ℕ) (d : Edge) (offer : Offer) → i < length edges → IsOfferOf ranked starts (get_or edges i d) offer
+    → AreOffersOf ranked starts (length owners) (take i edges) offers → AreOffersOf ranked starts (length owners) (take (i + 1) edges) (offers ++ offer ∷ [])
+offers-more ranked starts owners rising s edges offers i d offer inside l a =
     let edge = get_or edges i d in
     record {
-      low = All-push (λ x. (x.provider < length ranked) × (x.slot < length owners)) links link a.low
+      low = All-push (λ x. (x.provider < length ranked) × (x.slot < length owners)) offers offer a.low
           (l.provider_low, (let e = l.slot_is in let h = s.slot_low l.waiter edge.post l.waiter_low l.post_low in omega arith));
       same = λ members place post low has.
           let number = number_at ranked place in
           let from : ℕ → Bool = λ provider. is_member nat_eq members (number_at ranked provider) in
           let into = get_or starts place 0 + post in
           let supplies : Edge → Bool = λ e. leads_to number post e && is_member nat_eq members e.provider in
-          let joined : list_any (feeds from into) (links ++ link ∷ []) ≡ (list_any (feeds from into) links || (feeds from into link || false)) = list_any-append (feeds from into) links (link ∷ []) in
+          let joined : list_any (feeds from into) (offers ++ offer ∷ []) ≡ (list_any (feeds from into) offers || (feeds from into offer || false)) = list_any-append (feeds from into) offers (offer ∷ []) in
           let more : list_any supplies (take (i + 1) edges) ≡ (list_any supplies (take i edges) || supplies edge) = list_any_more supplies edges i d inside in
-          let before : list_any (feeds from into) links ≡ list_any supplies (take i edges) = a.same members place post low has in
-          let one : feeds from into link ≡ supplies edge =
-          ap (λ (b : Bool). b && from link.provider) (tied ranked starts owners rising s edge link l place post low has)
+          let before : list_any (feeds from into) offers ≡ list_any supplies (take i edges) = a.same members place post low has in
+          let one : feeds from into offer ≡ supplies edge =
+          ap (λ (b : Bool). b && from offer.provider) (tied ranked starts owners rising s edge offer l place post low has)
           ∙ ap (λ n. leads_to number post edge && is_member nat_eq members n) l.provider_is in
-          joined ∙ ap (λ (b : Bool). list_any (feeds from into) links || b) (or-false (feeds from into link) ∙ one) ∙ ap (λ (b : Bool). b || supplies edge) before ∙ sym more;
+          joined ∙ ap (λ (b : Bool). list_any (feeds from into) offers || b) (or-false (feeds from into offer) ∙ one) ∙ ap (λ (b : Bool). b || supplies edge) before ∙ sym more;
     }
 
-pub links-moved : (ranked : Nodes) (starts : List ℕ) (slots : ℕ) (edges : List Edge) (links moved : List Link) → IsPermutation links moved
-    → AreLinksOf ranked starts slots edges links → AreLinksOf ranked starts slots edges moved
-links-moved ranked starts slots edges links moved p a = record {
-  low = All-permutation (λ x. (x.provider < length ranked) × (x.slot < slots)) links moved p a.low;
+pub offers-moved : (ranked : Nodes) (starts : List ℕ) (slots : ℕ) (edges : List Edge) (offers moved : List Offer) → IsPermutation offers moved
+    → AreOffersOf ranked starts slots edges offers → AreOffersOf ranked starts slots edges moved
+offers-moved ranked starts slots edges offers moved p a = record {
+  low = All-permutation (λ x. (x.provider < length ranked) × (x.slot < slots)) offers moved p a.low;
   same = λ members place post low has.
-      sym (list_any-IsPermutation (feeds (λ provider. is_member nat_eq members (number_at ranked provider)) (get_or starts place 0 + post)) links moved p) ∙ a.same members place post low has;
+      sym (list_any-IsPermutation (feeds (λ provider. is_member nat_eq members (number_at ranked provider)) (get_or starts place 0 + post)) offers moved p) ∙ a.same members place post low has;
 }

@@ -1,7 +1,7 @@
 use Rattle.std.proofs.Common.{arith}
 use Rattle.std.proofs.lemmas.List.{get_or_read}
-use Rattle.cq_match.proofs.Linked.{posts-of}
-use Rattle.cq_match.proofs.matched.link_of.Goals as goal
+use Rattle.cq_match.proofs.Offered.{posts-of}
+use Rattle.cq_match.proofs.matched.offer_of.Goals as goal
 
 pub overflow_add-result : goal.overflow_add-result
 overflow_add-result g c =
