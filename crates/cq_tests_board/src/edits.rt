@@ -2,7 +2,7 @@
 
 use crate::samples::{Shape, WORKED, admit, edit, kramer_and_jerry, shape_of, travel};
 use cq_atom::Part;
-use cq_board::{Board, Why, Work};
+use cq_board::{Board, Why, Work, pools_stay_good, unifies_is_unify};
 use std::alloc::{AllocError, Global};
 use std::test::Fail;
 
@@ -38,6 +38,12 @@ fn other_refused(
         }
     }
     None
+}
+
+#[test]
+fn laws() {
+    unifies_is_unify();
+    pools_stay_good();
 }
 
 #[test]
