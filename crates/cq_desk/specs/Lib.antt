@@ -1,2 +1,5 @@
 pub mod Journal
 pub mod Floor
+pub mod History
+pub mod Replies
+pub mod Desk

@@ -8,8 +8,18 @@
 //! Not here: how a pool is kept from one edit to the next, what is shown of it, and threads.
 #![tactic(auto)]
 
+mod desk;
 mod event;
 mod journal;
+mod live;
+mod publisher;
+mod refused;
+mod reply;
 
+pub use desk::Desk;
 pub use event::{Answer, Event, StepFault};
 pub use journal::Entry;
+pub use live::{Live, NoMemory};
+pub use publisher::Publisher;
+pub use refused::Refused;
+pub use reply::{End, Reply, Submitted};
