@@ -3,3 +3,4 @@ pub mod Floor
 pub mod History
 pub mod Replies
 pub mod Desk
+pub mod Plain
