@@ -4,3 +4,4 @@ pub mod History
 pub mod Replies
 pub mod Desk
 pub mod Plain
+pub mod Steps

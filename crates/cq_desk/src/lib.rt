@@ -8,6 +8,7 @@
 //! Not here: how a pool is kept from one edit to the next, what is shown of it, and threads.
 #![tactic(auto)]
 
+mod board;
 mod desk;
 mod event;
 mod journal;
