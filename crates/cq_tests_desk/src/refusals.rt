@@ -1,0 +1,59 @@
+//! Each growth of a call refused in turn.
+
+use cq_refusing::Refusing;
+use std::alloc::{Allocator, Global};
+
+/// What came of a call on an allocator that refuses one growth.
+#[derive(Clone, Copy, Debug, PartialEq, Eq)]
+pub enum Outcome {
+    /// What the call needs was refused a growth, so there was no call.
+    Unready,
+    /// The call was refused a growth: it said so, left the state named for that, and then succeeded.
+    Refused,
+    /// The call succeeded.
+    Done,
+    /// Something else came of it.
+    Wrong,
+}
+
+impl Outcome {
+    pub fn done_if(right: bool) -> Outcome {
+        if right { Outcome::Done } else { Outcome::Wrong }
+    }
+
+    pub fn refused_if(right: bool) -> Outcome {
+        if right {
+            Outcome::Refused
+        } else {
+            Outcome::Wrong
+        }
+    }
+}
+
+/// A call of which each growth is refused in turn.
+pub trait Tried {
+    /// Sets up what the call needs on the allocator, and makes the call.
+    fn tried<A: Allocator + Copy>(alloc: A) -> Outcome;
+}
+
+/// More growths than any call that is tried makes.
+const ENOUGH: u64 = 100;
+
+/// How many growths of the call were refused, until none was.
+///
+/// # Errors
+/// How many growths came before the refusal at which something else came of the call.
+pub fn refusals<T: Tried>(alloc: Global) -> Result<u64, u64> {
+    let mut refused = 0u64;
+    for left in 0..ENOUGH {
+        let heap = Refusing::new(alloc, left);
+        match (T::tried(&heap), heap.has_refused()) {
+            (Outcome::Done, false) => return Ok(refused),
+            (Outcome::Refused, true) => refused = refused.saturating_add(1),
+            // What the call needs was refused its growth.
+            (Outcome::Unready, true) => {}
+            _ => return Err(left),
+        }
+    }
+    Err(ENOUGH)
+}
