@@ -140,7 +140,7 @@ impl<L: Live, P: Publisher<L>, A: Allocator + Copy> Desk<L, P, A> {
         Ok(self.published as u64)
     }
 
-    // Enters an edit, and makes its reply. There is none where memory was wanting.
+    /// Enters an edit, and makes its reply. There is none where memory was wanting.
     fn take_in(&mut self, author: usize, edit: L::Edit) -> Option<Reply<L::Why>>
         ensures { MatchOption result (self.new ≡ self.old) (λ reply.
             (reply ≡ reply_at L.after L.why (P.opening self.old.publisher) self.old.limit (journal_edits self.old.journal) edit)
