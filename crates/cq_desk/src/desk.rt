@@ -1,6 +1,6 @@
 //! A journal under a limit, its working state and its publisher.
 
-ghost use Rattle.std.specs.Prelude.{◌≡◌, ◌<◌, [], ◌∷◌, ◌++◌, length, fold, take, drop, IfOk, OnOk, OnErr, MatchOption};
+ghost use Rattle.std.specs.Prelude.{◌≡◌, ◌<◌, [], ◌∷◌, ◌++◌, length, fold, take, drop, IfOk, OnOk, OnErr, MatchOption, ⊤};
 ghost use mathlib.Core.List.{IsPrefix};
 ghost use Rattle.cq_desk.specs.History.{edits_of, grown, BeginsWith, StandsLast};
 ghost use Rattle.cq_desk.specs.Desk.{IsAnswer, with_entry};
@@ -169,10 +169,10 @@ impl<L: Live, P: Publisher<L>, A: Allocator + Copy> Desk<L, P, A> {
         ensures opening { P.opening self.new.publisher ≡ P.opening self.old.publisher }
         ensures replies { IfOk result (λ submitted. submitted.replies.items ≡ replies_at L.after L.why (P.opening self.old.publisher) self.old.limit (journal_edits self.old.journal) (take (length submitted.replies.items) asked.items)) }
         ensures journal { IfOk result (λ submitted. self.new.journal ≡ self.old.journal ++ entries_by author (accepted asked.items submitted.replies.items)) }
-        ensures ends { IfOk result (λ submitted. MatchEnd submitted.end
-            (λ count. (length submitted.replies.items ≡ length asked.items) × (count ≡ length self.new.journal) × (edits_of (P.shown self.new.publisher) ≡ journal_edits self.new.journal) × StandsLast (accepted asked.items submitted.replies.items) (P.shown self.new.publisher))
-            ((length submitted.replies.items < length asked.items) × (self.new.publisher ≡ self.old.publisher))
-            ((length submitted.replies.items ≡ length asked.items) × (P.shown self.new.publisher ≡ P.shown self.old.publisher))) }
+        ensures tried { IfOk result (λ submitted. MatchEnd submitted.end (λ _. length submitted.replies.items ≡ length asked.items) (length submitted.replies.items < length asked.items) (length submitted.replies.items ≡ length asked.items)) }
+        ensures count { IfOk result (λ submitted. MatchEnd submitted.end (λ count. count ≡ length self.new.journal) ⊤ ⊤) }
+        ensures shown { IfOk result (λ submitted. MatchEnd submitted.end (λ _. edits_of (P.shown self.new.publisher) ≡ journal_edits self.new.journal) (self.new.publisher ≡ self.old.publisher) (P.shown self.new.publisher ≡ P.shown self.old.publisher)) }
+        ensures last { IfOk result (λ submitted. MatchEnd submitted.end (λ _. StandsLast (accepted asked.items submitted.replies.items) (P.shown self.new.publisher)) ⊤ ⊤) }
         ensures err { OnErr result (self.new ≡ self.old) }
     {
         let alloc = *asked.allocator();

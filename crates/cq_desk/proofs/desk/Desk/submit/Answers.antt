@@ -33,8 +33,20 @@ returns-in_default-clause-journal g c = let at = c.loop-edit in let inv = at.inv
     let all : at.yielded ++ into_iter_items at.edit-iterator ≡ c.args.asked.items = inv.0 ∙ c.into_iter-edit-iterator.ensures.into_iter_gives.0 in
     ap (λ v. v.journal) c.in_default.ensures ∙ (ap (λ v. v.journal) inv.5 ∙ ap (λ z. a.journal ++ entries_by c.args.author z) (sym (accepted-more at.yielded (into_iter_items at.edit-iterator) at.replies.items inv.2) ∙ ap (λ z. accepted z at.replies.items) all))
 
-pub returns-in-Ok-clause-ends : goal.returns-in-Ok-clause-ends
-returns-in-Ok-clause-ends g c = let at = c.loop-edit in let inv = at.invariant in let a = c.args.self.now in let now = c.publish.new.self in
+pub returns-in-Ok-clause-tried : goal.returns-in-Ok-clause-tried
+returns-in-Ok-clause-tried g c = let at = c.loop-edit in let inv = at.invariant in
+    let none : into_iter_items at.edit-iterator ≡ [] = nothing_left (into_iter_items at.edit-iterator) (sym inv.1 ∙ c.in-None.ensures.steps.0) in
+    let all : at.yielded ≡ c.args.asked.items = sym (append-nil at.yielded) ∙ (ap (λ z. at.yielded ++ z) (sym none) ∙ (inv.0 ∙ c.into_iter-edit-iterator.ensures.into_iter_gives.0)) in
+    inv.2 ∙ ap length all
+
+pub returns-in-Ok-clause-count : goal.returns-in-Ok-clause-count
+returns-in-Ok-clause-count g c = c.in-Ok.ensures.count ∙ ap length (sym c.publish.ensures.journal)
+
+pub returns-in-Ok-clause-shown : goal.returns-in-Ok-clause-shown
+returns-in-Ok-clause-shown g c = ap edits_of c.in-Ok.ensures.shown ∙ (c.in-Ok.ensures.all ∙ ap journal_edits (sym c.publish.ensures.journal))
+
+pub returns-in-Ok-clause-last : goal.returns-in-Ok-clause-last
+returns-in-Ok-clause-last g c = let at = c.loop-edit in let inv = at.invariant in let a = c.args.self.now in let now = c.publish.new.self in
     let none : into_iter_items at.edit-iterator ≡ [] = nothing_left (into_iter_items at.edit-iterator) (sym inv.1 ∙ c.in-None.ensures.steps.0) in
     let all : at.yielded ≡ c.args.asked.items = sym (append-nil at.yielded) ∙ (ap (λ z. at.yielded ++ z) (sym none) ∙ (inv.0 ∙ c.into_iter-edit-iterator.ensures.into_iter_gives.0)) in
     let es = accepted c.args.asked.items at.replies.items in
@@ -43,8 +55,5 @@ returns-in-Ok-clause-ends g c = let at = c.loop-edit in let inv = at.invariant i
     let h = g.P.Publisher.history a.publisher in
     let was : g.P.Publisher.history at.self.publisher ≡ h = ap (λ v. g.P.Publisher.history v.publisher) inv.5 in
     let told : IsPrefix (edits_of h ++ g.P.Publisher.pending a.publisher) (journal_edits a.journal) = subst (λ p. IsPrefix (edits_of (g.P.Publisher.history p) ++ g.P.Publisher.pending p) (journal_edits a.journal)) c.publisher.ensures.same c.publisher.ensures.told in
-    let done = c.in-Ok.ensures in let kept = c.publish.ensures in
-    let shows : g.P.Publisher.shown now.publisher ≡ g.P.Publisher.history now.publisher = done.shown in
-    let grew = done.history ∙ ap (λ k. grown k (drop (length (edits_of k)) (journal_edits at.self.journal))) was in
-    (inv.2 ∙ ap length all, done.count ∙ ap length (sym kept.journal), ap edits_of shows ∙ (done.all ∙ ap journal_edits (sym kept.journal)),
-      subst (StandsLast es) (sym shows) (published_last h (g.P.Publisher.history now.publisher) (g.P.Publisher.pending a.publisher) (journal_edits a.journal) (journal_edits at.self.journal) es told more grew))
+    let grew = c.in-Ok.ensures.history ∙ ap (λ k. grown k (drop (length (edits_of k)) (journal_edits at.self.journal))) was in
+    subst (StandsLast es) (sym c.in-Ok.ensures.shown) (published_last h (g.P.Publisher.history now.publisher) (g.P.Publisher.pending a.publisher) (journal_edits a.journal) (journal_edits at.self.journal) es told more grew)
