@@ -1,11 +1,12 @@
 //! Each growth of enter, publish and submit refused in turn, and then the same call again.
 
 use crate::desks::{TallyDesk, desk, stands};
-use crate::refusals::{Outcome, Tried, refusals};
+use crate::refusals::{ENOUGH, Outcome, Tried, refusals};
 use crate::submits::list;
 use crate::tally::Full;
 use cq_desk::{End, NoMemory, Refused, Submitted};
-use std::alloc::Allocator;
+use cq_refusing::Refusing;
+use std::alloc::{Allocator, Global};
 
 struct Enter;
 
@@ -171,4 +172,29 @@ fn each_growth_refused(rt: HostRuntime) {
     for (call, refused) in calls {
         assert!(rt; is_borne(refused), "{call}: {refused:?}");
     }
+}
+
+/// How a submit of two bytes on the allocator ends.
+fn end_on<A: Allocator + Copy>(alloc: A) -> Option<End> {
+    match (desk(alloc, 9), list(alloc, &[5, 6])) {
+        (Ok(mut desk), Ok(asked)) => end_of(&mut desk, asked),
+        _ => None,
+    }
+}
+
+/// Whether a submit ends so where one of its growths is refused.
+fn is_met(alloc: Global, end: End) -> bool {
+    for left in 0..ENOUGH {
+        let heap = Refusing::new(alloc, left);
+        if end_on(&heap) == Some(end) {
+            return true;
+        }
+    }
+    false
+}
+
+#[test]
+fn stopped_and_unpublished(rt: HostRuntime) {
+    assert!(rt; is_met(rt.alloc(), End::Stopped));
+    assert!(rt; is_met(rt.alloc(), End::Unpublished));
 }

@@ -37,7 +37,7 @@ pub trait Tried {
 }
 
 /// More growths than any call that is tried makes.
-const ENOUGH: u64 = 100;
+pub const ENOUGH: u64 = 100;
 
 /// How many growths of the call were refused, until none was.
 ///
