@@ -1,5 +1,5 @@
 -- What the lengths of a list of edits cut it into.
-use Rattle.std.proofs.Common.{◌≡◌, ℕ, zero, suc, ◌+◌, ◌<◌, ◌≤◌, List, [], ◌∷◌, ◌++◌, length, take, drop, refl, sym, ap, ◌∙◌, subst, fold, arith, length-append}
+use Rattle.std.proofs.Common.{◌≡◌, ℕ, ◌<◌, ◌≤◌, List, [], ◌∷◌, ◌++◌, length, take, drop, refl, sym, ap, ◌∙◌, subst, fold, arith, length-append}
 use Rattle.std.proofs.lemmas.List.{take-append-le, take_all, take-append-drop, drop_all, length-drop}
 use Rattle.cq_desk.specs.History.{History, edits_of, grown}
 use Rattle.cq_desk.specs.Plain.{cut_at, last_length, AreWithin, IsPublished}
@@ -36,14 +36,14 @@ grown-some history (e ∷ es) l = refl
 pub cut_off : {E : Type 0} (es : List E) (lengths longer : List ℕ) (published k : ℕ) → longer ≡ lengths ++ k ∷ [] → last_length 0 lengths ≡ published → k ≡ length es → cut_at 0 longer es ≡ cut_at 0 lengths es ++ drop published es ∷ []
 cut_off es lengths longer published k is last all =
     ap (λ z. cut_at 0 z es) is ∙ (cut-snoc 0 lengths k es ∙ (ap (λ z. cut_at 0 lengths es ++ drop z (take k es) ∷ []) last
-      ∙ ap (λ z. cut_at 0 lengths es ++ drop published z ∷ []) (take_all k es (omega (arith, all)))))
+    ∙ ap (λ z. cut_at 0 lengths es ++ drop published z ∷ []) (take_all k es (omega (arith, all)))))
 
 -- That is what one publish makes of the history.
 pub cut_grown : {E : Type 0} (es : List E) (lengths longer : List ℕ) (published k : ℕ) → longer ≡ lengths ++ k ∷ [] → last_length 0 lengths ≡ published → k ≡ length es → published < length es → grown (cut_at 0 longer es) (drop k es) ≡ grown (cut_at 0 lengths es) (drop published es)
 cut_grown es lengths longer published k is last all short =
     let n = length-drop published es in
     ap (grown (cut_at 0 longer es)) (drop_all k es (omega (arith, all)))
-      ∙ (cut_off es lengths longer published k is last all ∙ sym (grown-some (cut_at 0 lengths es) (drop published es) (omega (arith, n, short))))
+    ∙ (cut_off es lengths longer published k is last all ∙ sym (grown-some (cut_at 0 lengths es) (drop published es) (omega (arith, n, short))))
 
 module _ {C E : Type 0} (after : C → E → C) where
   -- One edit more is pending.
@@ -68,7 +68,7 @@ module _ {C E : Type 0} (after : C → E → C) where
         shows = now ∙ (inv.follows ∙ ap (λ z. fold after opening (take z es)) (done ∙ sym all));
         follows = was ∙ inv.shows;
         cuts = ap edits_of (cut_off es lengths longer published k is inv.last all) ∙ (edits-snoc (cut_at 0 lengths es) (drop published es)
-          ∙ (ap (λ z. z ++ drop published es) inv.cuts ∙ (take-append-drop published es ∙ sym whole)));
+            ∙ (ap (λ z. z ++ drop published es) inv.cuts ∙ (take-append-drop published es ∙ sym whole)));
         last = ap (last_length 0) is ∙ last-snoc 0 lengths k;
         published_within = omega (arith, all);
         taken_within = inv.published_within;

@@ -48,7 +48,7 @@ pub tells_more : {E J : Type 0} (f : J → E) (h p q : List E) (n : ℕ) (js : L
 tells_more f h p q n js j within at is was =
     let short : n < length (map f js) = omega (arith, length-map js f) in
     ap (λ z. h ++ z) is ∙ (sym (append_assoc h p (f j ∷ [])) ∙ (ap (λ z. z ++ f j ∷ []) was
-      ∙ (ap (λ z. take n (map f js) ++ z ∷ []) (ap f at ∙ sym (get_or-map' f js n j)) ∙ sym (take_more (map f js) n (f j) short))))
+    ∙ (ap (λ z. take n (map f js) ++ z ∷ []) (ap f at ∙ sym (get_or-map' f js n j)) ∙ sym (take_more (map f js) n (f j) short))))
 
 -- all is handed over
 pub tells_all : {E J : Type 0} (f : J → E) (h p : List E) (n : ℕ) (js : List J) → n ≡ length js → h ++ p ≡ take n (map f js) → h ++ p ≡ map f js

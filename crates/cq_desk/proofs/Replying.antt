@@ -21,7 +21,7 @@ accepted-snoc [] (s ∷ rs) e r n = absurd (omega (arith, n))
 accepted-snoc (x ∷ es) [] e r n = absurd (omega (arith, n))
 accepted-snoc (x ∷ es) (s ∷ rs) e r n =
     accepted-cons x (es ++ e ∷ []) s (rs ++ r ∷ []) ∙ (ap (λ z. accepted (x ∷ []) (s ∷ []) ++ z) (accepted-snoc es rs e r (omega (arith, n)))
-      ∙ (sym (append_assoc (accepted (x ∷ []) (s ∷ [])) (accepted es rs) (accepted (e ∷ []) (r ∷ []))) ∙ ap (λ z. z ++ accepted (e ∷ []) (r ∷ [])) (sym (accepted-cons x es s rs))))
+    ∙ (sym (append_assoc (accepted (x ∷ []) (s ∷ [])) (accepted es rs) (accepted (e ∷ []) (r ∷ []))) ∙ ap (λ z. z ++ accepted (e ∷ []) (r ∷ [])) (sym (accepted-cons x es s rs))))
 
 -- edits that have no reply were not entered
 pub accepted-more : {E W : Type 0} (es more : List E) (rs : List (Reply W)) → length rs ≡ length es → accepted (es ++ more) rs ≡ accepted es rs
@@ -46,7 +46,7 @@ module _ {E C W : Type 0} (after : C → E → C) (why : C → E → Option W) (
   pub replied_on : (js ks es : List E) (rs new : List (Reply W)) (e : E) (r : Reply W) → rs ≡ replies_at after why opening limit js es → ks ≡ js ++ accepted es rs → r ≡ reply_at after why opening limit ks e → new ≡ rs ++ r ∷ [] → new ≡ replies_at after why opening limit js (es ++ e ∷ [])
   replied_on js ks es rs new e r was journal reply is =
       is ∙ (ap (λ z. rs ++ z ∷ []) (reply ∙ ap (λ z. reply_at after why opening limit z e) (journal ∙ ap (λ z. js ++ accepted es z) was))
-        ∙ (ap (λ z. z ++ reply_at after why opening limit (js ++ accepted es (replies_at after why opening limit js es)) e ∷ []) was ∙ sym (replies-snoc js es e)))
+      ∙ (ap (λ z. z ++ reply_at after why opening limit (js ++ accepted es (replies_at after why opening limit js es)) e ∷ []) was ∙ sym (replies-snoc js es e)))
 
 pub edits-entries : {E : Type 0} (author : ℕ) (es : List E) → journal_edits (entries_by author es) ≡ es
 edits-entries author [] = refl
@@ -59,8 +59,8 @@ edits_entered author js ks es is = ap journal_edits is ∙ (map-append (λ e. e.
 pub entered_on : {E W : Type 0} (author : ℕ) (js ks : List (Entry E)) (es : List E) (rs new : List (Reply W)) (e : E) (r : Reply W) → length rs ≡ length es → ks ≡ js ++ entries_by author (accepted es rs) → new ≡ rs ++ r ∷ [] → ks ++ entries_by author (accepted (e ∷ []) (r ∷ [])) ≡ js ++ entries_by author (accepted (es ++ e ∷ []) new)
 entered_on author js ks es rs new e r n was is =
     ap (λ z. z ++ entries_by author (accepted (e ∷ []) (r ∷ []))) was ∙ (append_assoc js (entries_by author (accepted es rs)) (entries_by author (accepted (e ∷ []) (r ∷ [])))
-      ∙ ap (λ z. js ++ z) (sym (map-append (λ e. record { author = author; edit = e }) (accepted es rs) (accepted (e ∷ []) (r ∷ [])))
-        ∙ ap (entries_by author) (sym (ap (accepted (es ++ e ∷ [])) is ∙ accepted-snoc es rs e r n))))
+    ∙ ap (λ z. js ++ z) (sym (map-append (λ e. record { author = author; edit = e }) (accepted es rs) (accepted (e ∷ []) (r ∷ [])))
+    ∙ ap (entries_by author) (sym (ap (accepted (es ++ e ∷ [])) is ∙ accepted-snoc es rs e r n))))
 
 -- a desk that took in one edit more
 pub taken_in : {P E W : Type 0} (author : ℕ) (a v w : DeskRecord P E) (es : List E) (rs new : List (Reply W)) (e : E) (r : Reply W) → length rs ≡ length es → v ≡ record a { journal = a.journal ++ entries_by author (accepted es rs) } → w ≡ record v { journal = v.journal ++ entries_by author (accepted (e ∷ []) (r ∷ [])) } → new ≡ rs ++ r ∷ [] → w ≡ record a { journal = a.journal ++ entries_by author (accepted (es ++ e ∷ []) new) }

@@ -1,5 +1,5 @@
 -- What contracts see of a publisher over one state, and what its type says. (this project's profile)
-use Rattle.std.specs.Prelude.{◌≡◌, ℕ, ◌≤◌, List, [], ◌∷◌, ◌++◌, length, fold, take, drop}
+use Rattle.std.specs.Prelude.{◌≡◌, ℕ, ◌≤◌, List, [], ◌∷◌, length, fold, take, drop}
 use Rattle.cq_desk.specs.History.{History, edits_of}
 
 -- The content before the first edit, the publications, and the edits that stand in none yet.

@@ -1,5 +1,5 @@
 -- What edits are answered that come one after another, and what they leave in a journal. (this project's profile)
-use Rattle.std.specs.Prelude.{◌≡◌, ℕ, ◌+◌, List, [], ◌∷◌, ◌++◌, length, fold, map, nat_le, if◌then◌else◌, Option, Some, None, Result, Ok, Err, not}
+use Rattle.std.specs.Prelude.{ℕ, ◌+◌, List, [], ◌∷◌, ◌++◌, length, fold, map, nat_le, if◌then◌else◌, Option, Some, None}
 use Rattle.cq_desk.specs.declared.journal.Entry.{Entry}
 use Rattle.cq_desk.specs.declared.reply.Reply.{Reply}
 use Rattle.cq_desk.specs.declared.reply.Reply.TheVariants.{Entered, JournalFull, Not}

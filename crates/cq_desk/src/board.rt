@@ -9,6 +9,7 @@ use std::alloc::Allocator;
 
 impl<A: Allocator + Copy> Live for Board<A> {
     type Edit = Edit<A>;
+
     type Why = Why;
     // Contracts see a board as its pool.
     type Content = Board<A>;

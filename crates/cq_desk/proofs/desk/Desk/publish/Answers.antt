@@ -1,6 +1,5 @@
 use Rattle.std.proofs.Common.{rules, ◌≡◌, ◌+◌, ◌-◌, ◌<◌, ◌≤◌, ◌^◌, [], ◌∷◌, ◌++◌, length, take, drop, ap, sym, ◌∙◌, subst, fold, arith, length-take}
 use Rattle.std.proofs.lemmas.List.{append-nil, length-map, take_all}
-use mathlib.Core.List.{IsPrefix}
 use Rattle.cq_desk.specs.History.{edits_of, grown, BeginsWith}
 use Rattle.cq_desk.specs.Replies.{journal_edits}
 use Rattle.cq_desk.proofs.Histories.{tells_more, tells_all, told_length, rest_is, edits-grown, same_told, begins_itself, begins_on}
@@ -22,8 +21,7 @@ append-requires g c = let d = c.loop-self.self-inside in
 pub loop-self-preserved : goal.loop-self-preserved
 loop-self-preserved g c = let d = c.loop-self.self-inside in let inv = c.loop-self.invariant in let kept = c.in_ok-append.ensures in
     let now : g.P.Publisher.pending c.append.new.self ≡ g.P.Publisher.pending d.publisher ++ c.in_ok-edit.edit ∷ [] = search rules in
-    let edit : c.in_ok-edit.edit ≡ c.index.result.now.edit = search rules in
-    (
+    let edit : c.in_ok-edit.edit ≡ c.index.result.now.edit = search rules in (
       record {
         works = inv.0.works ∙ ap (λ o. fold g.L.Live.after o (journal_edits d.journal.items)) (sym kept.opening);
         told = ap (λ h. edits_of h ++ g.P.Publisher.pending c.append.new.self) kept.history ∙ tells_more (λ e. e.edit) (edits_of (g.P.Publisher.history d.publisher)) (g.P.Publisher.pending d.publisher) _ d.handed d.journal.items c.index.result.now (search rules) (search rules) (now ∙ ap (λ e. g.P.Publisher.pending d.publisher ++ e ∷ []) edit) inv.0.told;
@@ -75,7 +73,7 @@ returns-clause-all g c = let d = c.loop-self.self-inside in let inv = c.loop-sel
     let history : g.P.Publisher.history now ≡ grown (g.P.Publisher.history d.publisher) (g.P.Publisher.pending d.publisher) = sym (ap (grown (g.P.Publisher.history now)) none) ∙ c.publish.ensures.together in
     let h = edits_of (g.P.Publisher.history d.publisher) in let p = g.P.Publisher.pending d.publisher in
     ap edits_of history ∙ (edits-grown (g.P.Publisher.history d.publisher) p ∙ (tells_all (λ e. e.edit) h p d.handed d.journal.items all inv.0.told
-      ∙ (ap (λ v. journal_edits v.items) inv.1 ∙ ap (λ v. journal_edits v.journal) c.self.view_is)))
+    ∙ (ap (λ v. journal_edits v.items) inv.1 ∙ ap (λ v. journal_edits v.journal) c.self.view_is)))
 
 pub invariant_of-self-in_err-publish : goal.invariant_of-self-in_err-publish
 invariant_of-self-in_err-publish g c = let d = c.loop-self.self-inside in let inv = c.loop-self.invariant in

@@ -24,7 +24,7 @@ loop-edit-preserved g c = let at = c.loop-edit in let inv = at.invariant in let 
       omega (arith, more, whole, same),
       omega (arith, room, short, len, cap),
       replied_on g.L.Live.after g.L.Live.why (g.P.Publisher.opening a.publisher) a.limit (journal_edits a.journal) (journal_edits at.self.journal) at.yielded at.replies.items new.items e r inv.4 (edits_entered c.args.author a.journal at.self.journal (accepted at.yielded at.replies.items) journal)
-        (kept.0 ∙ ap (λ v. reply_at g.L.Live.after g.L.Live.why (g.P.Publisher.opening v.publisher) v.limit (journal_edits at.self.journal) e) inv.5) is,
+          (kept.0 ∙ ap (λ v. reply_at g.L.Live.after g.L.Live.why (g.P.Publisher.opening v.publisher) v.limit (journal_edits at.self.journal) e) inv.5) is,
       taken_in c.args.author a at.self c.take_in.new.self at.yielded at.replies.items new.items e r inv.2 inv.5 kept.1 is,
     )
 

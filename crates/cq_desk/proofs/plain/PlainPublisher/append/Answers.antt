@@ -1,4 +1,4 @@
-use Rattle.std.proofs.Common.{rules, ◌≡◌, [], ◌∷◌, ◌++◌, drop, ap, sym, ◌∙◌}
+use Rattle.std.proofs.Common.{rules, ◌≡◌, [], ◌∷◌, ◌++◌, ap, ◌∙◌}
 use Rattle.cq_desk.specs.Plain.{cut_at}
 use Rattle.cq_desk.proofs.Cutting.{appended, cut-append}
 use Rattle.cq_desk.proofs.plain.PlainPublisher.append.Goals as goal

@@ -1,4 +1,4 @@
-use Rattle.std.proofs.Common.{◌≡◌, ◌-◌, ◌+◌, ◌≤◌, length, vec_len, vec_capacity}
+use Rattle.std.proofs.Common.{◌≡◌, ◌-◌, length}
 use Rattle.cq_desk.specs.Plain.{IsPublished}
 use Rattle.cq_desk.proofs.plain.PlainPublisher.publish.Given as goal
 
