@@ -101,11 +101,7 @@ impl Tried for Submit {
     }
 }
 
-fn submitted<A: Allocator + Copy>(
-    alloc: A,
-    desk: &mut TallyDesk<A>,
-    asked: Vec<u8, A>,
-) -> Outcome {
+fn submitted<A: Allocator + Copy>(alloc: A, desk: &mut TallyDesk<A>, asked: Vec<u8, A>) -> Outcome {
     match desk.submit(0, asked, &()) {
         Ok(submitted) => ended(alloc, desk, &submitted),
         Err(NoMemory) => {

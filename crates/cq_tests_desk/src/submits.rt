@@ -37,11 +37,13 @@ fn submits(
 fn submits_all(alloc: Global, desk: &mut TallyDesk) -> Result<bool, NoMemory> {
     let first = [Reply::Entered(1), Reply::Entered(2)];
     let second = [Reply::Entered(3), Reply::Not(Full), Reply::Not(Full)];
-    Ok(submits(alloc, desk, &[5, 6], &first, 2)?
-        && stands(desk, &[5, 6], &[5, 6])
-        && submits(alloc, desk, &[], &[], 2)?
-        && submits(alloc, desk, &[7, 8, 9], &second, 3)?
-        && stands(desk, &[5, 6, 7], &[5, 6, 7]))
+    Ok(
+        submits(alloc, desk, &[5, 6], &first, 2)?
+            && stands(desk, &[5, 6], &[5, 6])
+            && submits(alloc, desk, &[], &[], 2)?
+            && submits(alloc, desk, &[7, 8, 9], &second, 3)?
+            && stands(desk, &[5, 6, 7], &[5, 6, 7]),
+    )
 }
 
 #[test]
@@ -55,9 +57,11 @@ fn refused_edits_stop_nobody(rt: HostRuntime) {
 /// The journal has room for two, and what was entered before is published with them.
 fn submits_to_the_limit(alloc: Global, desk: &mut TallyDesk) -> Result<bool, NoMemory> {
     let replies = [Reply::Entered(2), Reply::JournalFull, Reply::JournalFull];
-    Ok(desk.enter(0, 4) == Ok(1)
-        && submits(alloc, desk, &[5, 6, 7], &replies, 2)?
-        && stands(desk, &[4, 5], &[4, 5]))
+    Ok(
+        desk.enter(0, 4) == Ok(1)
+            && submits(alloc, desk, &[5, 6, 7], &replies, 2)?
+            && stands(desk, &[4, 5], &[4, 5]),
+    )
 }
 
 #[test]

@@ -32,6 +32,7 @@ impl<A: Allocator + Copy> Tally<A> {
 
 impl<A: Allocator + Copy> Live for Tally<A> {
     type Edit = u8;
+
     type Why = Full;
     // Contracts see a tally as the list of its bytes.
     type Content = [u8; 0];
