@@ -1,9 +1,8 @@
 -- What histories hold, and what they leave.
 use mathlib.Core.List.{IsPrefix}
-use Rattle.std.proofs.Common.{◌≡◌, ℕ, zero, suc, ◌+◌, ◌<◌, ◌≤◌, List, [], ◌∷◌, ◌++◌, length, fold, map, take, drop, get_or, refl, sym, ap, ◌∙◌, subst, append_assoc, arith, length-append}
-use Rattle.std.proofs.lemmas.List.{append-nil, take-append-le, length-map, take_more, take_all}
+use Rattle.std.proofs.Common.{◌≡◌, ℕ, zero, suc, ◌+◌, ◌<◌, ◌≤◌, List, [], ◌∷◌, ◌++◌, length, map, take, drop, get_or, refl, sym, ap, ◌∙◌, subst, append_assoc, arith, length-append}
+use Rattle.std.proofs.lemmas.List.{append-nil, length-map, take_more, take_all}
 use Rattle.std.proofs.Math.Seq.{drop-append_seam}
-use Rattle.std.proofs.lemmas.Grind.{fold-append}
 use Rattle.cq_desk.specs.History.{edits_of, grown}
 
 pub edits-snoc : {E : Type 0} (h : List (List E)) (p : List E) → edits_of (h ++ p ∷ []) ≡ edits_of h ++ p
@@ -13,29 +12,6 @@ edits-snoc (q ∷ h) p = ap (λ z. q ++ z) (edits-snoc h p) ∙ sym (append_asso
 pub edits-grown : {E : Type 0} (h : List (List E)) (p : List E) → edits_of (grown h p) ≡ edits_of h ++ p
 edits-grown h [] = sym (append-nil (edits_of h))
 edits-grown h (e ∷ es) = edits-snoc h (e ∷ es)
-
-map-snoc : {A B : Type 0} (f : A → B) (xs : List A) (x : A) → map f (xs ++ x ∷ []) ≡ map f xs ++ f x ∷ []
-map-snoc f [] x = refl
-map-snoc f (y ∷ xs) x = ap (λ z. f y ∷ z) (map-snoc f xs x)
-
--- a published state after one more publication
-pub shown_grows : {C E V : Type 0} (after : C → E → C) (f : V → List E) (o c n : C) (hs ks : List V) (v : V) → ks ≡ hs ++ v ∷ []
-    → c ≡ fold after o (edits_of (map f hs)) → n ≡ fold after c (f v) → n ≡ fold after o (edits_of (map f ks))
-shown_grows after f o c n hs ks v is was now =
-    now ∙ (ap (λ z. fold after z (f v)) was ∙ (sym (fold-append after o (edits_of (map f hs)) (f v)) ∙ ap (fold after o) (sym (edits-snoc (map f hs) (f v)) ∙ ap edits_of (sym (map-snoc f hs v) ∙ ap (map f) (sym is)))))
-
--- what a longer journal leaves
-pub works_on : {C E J : Type 0} (after : C → E → C) (f : J → E) (o c n : C) (js ks : List J) (j : J) → ks ≡ js ++ j ∷ []
-    → c ≡ fold after o (map f js) → n ≡ after c (f j) → n ≡ fold after o (map f ks)
-works_on after f o c n js ks j is was now =
-    now ∙ (ap (λ z. after z (f j)) was ∙ (sym (fold-append after o (map f js) (f j ∷ [])) ∙ ap (fold after o) (sym (map-snoc f js j) ∙ ap (map f) (sym is))))
-
--- what was handed over of a longer journal
-pub tells_on : {E J : Type 0} (f : J → E) (t : List E) (n : ℕ) (js ks : List J) (j : J) → ks ≡ js ++ j ∷ [] → n ≤ length js
-    → t ≡ take n (map f js) → t ≡ take n (map f ks)
-tells_on f t n js ks j is within was =
-    let short : n ≤ length (map f js) = omega (arith, length-map js f) in
-    was ∙ (sym (take-append-le n (map f js) (f j ∷ []) short) ∙ ap (take n) (sym (map-snoc f js j) ∙ ap (map f) (sym is)))
 
 get_or-map' : {A B : Type 0} (f : A → B) (xs : List A) (n : ℕ) (d : A) → get_or (map f xs) n (f d) ≡ f (get_or xs n d)
 get_or-map' f [] n d = refl
