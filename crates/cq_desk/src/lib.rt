@@ -1,15 +1,37 @@
-//! The floor: the order in which edits came, and what of it is published.
+//! The desk and the floor: the order in which edits came, what they leave, and what of it is published.
 //!
-//! A journal is the list of the accepted edits with their authors. The floor machine (`specs/Floor`)
-//! keeps a journal and a published count and nothing else: the pool that a session sees is the one
-//! that the published front of the journal leaves. The crates above speak of this machine whenever
-//! they say what is answered to an edit, a publish or a look.
+//! A journal is the list of the accepted edits with their authors. A [`Desk`] keeps one over any
+//! [`Live`] state, takes each accepted edit into its working state at once, and hands the edits over
+//! to a [`Publisher`], which shows what the published ones leave. [`Plain`] is a publisher over one
+//! state, and a board is a live state. The desk's type says that the working state is what the journal
+//! leaves over the publisher's opening content, and that the published edits, then those pending or
+//! not yet handed over, are the journal's (`specs/Desk`).
+//!
+//! The room above uses one contract of this crate most: `Desk::submit` answers each edit as the
+//! journal before it says (`specs/Replies`), enters exactly those that it numbers, and ends in a
+//! publish after which they stand at the end of the last publication, or says where memory was
+//! wanting. The crates that speak of what a session is answered do so by the floor machine
+//! (`specs/Floor`), which keeps a journal and a published count and nothing else: the pool that a
+//! session sees is the one that the published front of the journal leaves.
 //!
 //! Not here: how a pool is kept from one edit to the next, what is shown of it, and threads.
 #![tactic(auto)]
 
+mod board;
+mod desk;
 mod event;
 mod journal;
+mod live;
+mod plain;
+mod publisher;
+mod refused;
+mod reply;
 
+pub use desk::Desk;
 pub use event::{Answer, Event, StepFault};
 pub use journal::Entry;
+pub use live::{Live, NoMemory};
+pub use plain::Plain;
+pub use publisher::Publisher;
+pub use refused::Refused;
+pub use reply::{End, Reply, Submitted};

@@ -1,0 +1,202 @@
+//! A journal under a limit, its working state and its publisher.
+
+ghost use Rattle.std.specs.Prelude.{◌≡◌, ◌<◌, [], ◌∷◌, ◌++◌, length, fold, take, drop, IfOk, OnOk, OnErr, MatchOption, ⊤};
+ghost use mathlib.Core.List.{IsPrefix};
+ghost use Rattle.cq_desk.specs.History.{edits_of, grown, BeginsWith, StandsLast};
+ghost use Rattle.cq_desk.specs.Desk.{IsAnswer, with_entry};
+ghost use Rattle.cq_desk.specs.Replies.{MatchEnd, accepted, entries_by, journal_edits, replies_at, reply_at};
+
+use crate::journal::Entry;
+use crate::live::{Live, NoMemory};
+use crate::publisher::Publisher;
+use crate::refused::Refused;
+use crate::reply::{End, Reply, Submitted};
+use std::alloc::{Allocator, Global};
+use std::marker::Model;
+
+/// A journal, the working state that it leaves, and a publisher. Contracts see the publisher, the
+/// journal and its limit. That the working state is what the journal leaves over the publisher's
+/// opening content, and that published edits, then those pending or not yet handed over, are the
+/// journal's, stands in this type.
+#[derive(Drop)]
+pub struct Desk<L: Live, P: Publisher<L>, A: Allocator = Global> {
+    working: L,
+    publisher: P,
+    journal: Vec<Entry<L::Edit>, A>,
+    limit: usize,
+    handed: usize,
+    published: usize,
+}
+
+impl<L: Live, P: Publisher<L>, A: Allocator> Model for Desk<L, P, A> {
+    ghost use Rattle.cq_desk.specs.Desk.{DeskRecord, IsInStep};
+
+    ghost Value = { DeskRecord P L.Edit };
+
+    ghost view = { λ d. record { publisher = d.publisher; journal = d.journal.items; limit = d.limit } };
+
+    ghost invariant = { λ d. IsInStep L.after (L.content d.working) (P.opening d.publisher) (P.history d.publisher) (P.shown d.publisher) (P.pending d.publisher) d.journal.items d.handed d.published };
+}
+
+impl<L: Live, P: Publisher<L>, A: Allocator + Copy> Desk<L, P, A> {
+    /// The desk over the state, with an empty journal that may hold so many entries. The journal
+    /// grows with the allocator later on.
+    pub fn begin(alloc: A, state: L, publisher: P, journal: usize) -> Desk<L, P, A>
+        requires opening { P.opening publisher ≡ L.content state }
+        requires history { P.history publisher ≡ [] }
+        requires shown { P.shown publisher ≡ [] }
+        requires pending { P.pending publisher ≡ [] }
+        ensures { result ≡ record { publisher = publisher; journal = []; limit = journal } }
+    {
+        Desk {
+            working: state,
+            publisher,
+            journal: Vec::new(alloc),
+            limit: journal,
+            handed: 0,
+            published: 0,
+        }
+    }
+
+    /// The working state, which is what the whole journal leaves.
+    pub fn working(&self) -> &L
+        ensures { L.content result.now ≡ fold L.after (P.opening self.now.publisher) (journal_edits self.now.journal) }
+    {
+        &self.working
+    }
+
+    /// The publisher. Its publications and what is pending are the first edits of the journal.
+    pub fn publisher(&self) -> &P
+        ensures same { result.now ≡ self.now.publisher }
+        ensures told { IsPrefix (edits_of (P.history result.now) ++ P.pending result.now) (journal_edits self.now.journal) }
+        ensures front { BeginsWith (P.history result.now) (P.shown result.now) }
+    {
+        &self.publisher
+    }
+
+    /// The accepted edits with their authors, the earliest first.
+    pub fn journal(&self) -> &[Entry<L::Edit>]
+        ensures { result.now ≡ self.now.journal }
+    {
+        &self.journal
+    }
+
+    /// How many entries are published.
+    pub fn published_count(&self) -> u64
+        ensures { result ≡ length (edits_of (P.shown self.now.publisher)) }
+    {
+        self.published as u64
+    }
+
+    /// Enters the edit under the author's name, and answers its number.
+    ///
+    /// # Errors
+    /// `JournalFull` before `Not`; `NoMemory` where a growth was refused, which may take the place
+    /// of `Not`. Nothing has changed then.
+    pub fn enter(&mut self, author: usize, edit: L::Edit) -> Result<u64, Refused<L::Why>>
+        ensures answer { IsAnswer (reply_at L.after L.why (P.opening self.old.publisher) self.old.limit (journal_edits self.old.journal) edit) result }
+        ensures ok { OnOk result (self.new ≡ with_entry author edit self.old) }
+        ensures err { OnErr result (self.new ≡ self.old) }
+    {
+        if self.journal.len() >= self.limit {
+            return Err(Refused::JournalFull);
+        }
+        if self.journal.reserve(1).is_err() {
+            return Err(Refused::NoMemory);
+        }
+        match self.working.admit(&edit) {
+            Err(_) => Err(Refused::NoMemory),
+            Ok(Some(why)) => Err(Refused::Not(why)),
+            Ok(None) => {
+                self.journal.push_reserved(Entry { author, edit });
+                Ok(self.journal.len() as u64)
+            }
+        }
+    }
+
+    /// Publishes all that was entered, as one publication behind those that are there, and answers
+    /// how many entries are published.
+    ///
+    /// # Errors
+    /// `NoMemory` where a growth was refused. Journal and shown publications stay as they were, and
+    /// a later call goes on.
+    pub fn publish(&mut self, leave: &P::Leave) -> Result<u64, NoMemory>
+        ensures journal { self.new.journal ≡ self.old.journal }
+        ensures limit { self.new.limit ≡ self.old.limit }
+        ensures opening { P.opening self.new.publisher ≡ P.opening self.old.publisher }
+        ensures count { IfOk result (λ count. count ≡ length self.old.journal) }
+        ensures history { OnOk result (P.history self.new.publisher ≡ grown (P.history self.old.publisher) (drop (length (edits_of (P.history self.old.publisher))) (journal_edits self.old.journal))) }
+        ensures all { OnOk result (edits_of (P.history self.new.publisher) ≡ journal_edits self.old.journal) }
+        ensures shown { OnOk result (P.shown self.new.publisher ≡ P.history self.new.publisher) }
+        ensures refused { OnErr result (P.shown self.new.publisher ≡ P.shown self.old.publisher) }
+    {
+        while self.handed < self.journal.len() {
+            let edit = L::copy_edit(&self.journal[self.handed].edit)?;
+            self.publisher.append(edit)?;
+            self.handed += 1;
+        }
+        self.publisher.publish(leave)?;
+        self.published = self.handed;
+        Ok(self.published as u64)
+    }
+
+    /// Enters an edit, and makes its reply. There is none where memory was wanting.
+    fn take_in(&mut self, author: usize, edit: L::Edit) -> Option<Reply<L::Why>>
+        ensures { MatchOption result (self.new ≡ self.old) (λ reply.
+            (reply ≡ reply_at L.after L.why (P.opening self.old.publisher) self.old.limit (journal_edits self.old.journal) edit)
+            × (self.new ≡ record self.old { journal = self.old.journal ++ entries_by author (accepted (edit ∷ []) (reply ∷ [])) })) }
+    {
+        match self.enter(author, edit) {
+            Ok(number) => Some(Reply::Entered(number)),
+            Err(Refused::JournalFull) => Some(Reply::JournalFull),
+            Err(Refused::Not(why)) => Some(Reply::Not(why)),
+            Err(Refused::NoMemory) => None,
+        }
+    }
+
+    /// Enters these edits one after another under the author's name, and publishes what the journal
+    /// holds as one publication. Each edit has a reply; a refused one stops nobody.
+    ///
+    /// # Errors
+    /// `NoMemory` where there was no room for the replies. Nothing was entered or published then.
+    pub fn submit(
+        &mut self,
+        author: usize,
+        asked: Vec<L::Edit, A>,
+        leave: &P::Leave,
+    ) -> Result<Submitted<L::Why, A>, NoMemory>
+        ensures limit { self.new.limit ≡ self.old.limit }
+        ensures opening { P.opening self.new.publisher ≡ P.opening self.old.publisher }
+        ensures replies { IfOk result (λ submitted. submitted.replies.items ≡ replies_at L.after L.why (P.opening self.old.publisher) self.old.limit (journal_edits self.old.journal) (take (length submitted.replies.items) asked.items)) }
+        ensures journal { IfOk result (λ submitted. self.new.journal ≡ self.old.journal ++ entries_by author (accepted asked.items submitted.replies.items)) }
+        ensures tried { IfOk result (λ submitted. MatchEnd submitted.end (λ _. length submitted.replies.items ≡ length asked.items) (length submitted.replies.items < length asked.items) (length submitted.replies.items ≡ length asked.items)) }
+        ensures count { IfOk result (λ submitted. MatchEnd submitted.end (λ count. count ≡ length self.new.journal) ⊤ ⊤) }
+        ensures shown { IfOk result (λ submitted. MatchEnd submitted.end (λ _. edits_of (P.shown self.new.publisher) ≡ journal_edits self.new.journal) (self.new.publisher ≡ self.old.publisher) (P.shown self.new.publisher ≡ P.shown self.old.publisher)) }
+        ensures last { IfOk result (λ submitted. MatchEnd submitted.end (λ _. StandsLast (accepted asked.items submitted.replies.items) (P.shown self.new.publisher)) ⊤ ⊤) }
+        ensures err { OnErr result (self.new ≡ self.old) }
+    {
+        let alloc = *asked.allocator();
+        let mut replies = Vec::new(alloc);
+        replies.reserve(asked.len())?;
+        let _ = self.publisher();
+        for edit in asked {
+            let Some(reply) = self.take_in(author, edit) else {
+                return Ok(Submitted {
+                    replies,
+                    end: End::Stopped,
+                });
+            };
+            replies.push_reserved(reply);
+        }
+        match self.publish(leave) {
+            Ok(count) => Ok(Submitted {
+                replies,
+                end: End::Published(count),
+            }),
+            Err(_) => Ok(Submitted {
+                replies,
+                end: End::Unpublished,
+            }),
+        }
+    }
+}
