@@ -20,6 +20,8 @@
 mod board;
 mod desk;
 mod event;
+mod floor;
+mod floor_event;
 mod journal;
 mod live;
 mod plain;
@@ -29,6 +31,8 @@ mod reply;
 
 pub use desk::Desk;
 pub use event::{Answer, Event, StepFault};
+pub use floor::{Floor, FloorFault};
+pub use floor_event::{FloorAnswer, FloorEvent, FloorRefusal};
 pub use journal::Entry;
 pub use live::{Live, NoMemory};
 pub use plain::Plain;
