@@ -1,6 +1,6 @@
 //! A floor: a desk that several sessions look at, each with what it has seen.
 
-ghost use Rattle.std.specs.Prelude.{◌≡◌, ◌≤◌, ◌<◌, length, fold, replicate, take, OnOk, OnErr, IfOk, IfErr, slice_get};
+ghost use Rattle.std.specs.Prelude.{◌≡◌, ◌≤◌, ◌<◌, length, fold, replicate, take, OnOk, OnErr, IfOk, IfErr, MatchOption, slice_get};
 ghost use Rattle.cq_desk.specs.declared.floor.FloorFault.TheVariants as faults;
 ghost use Rattle.cq_desk.specs.Machine.{opening_machine, answer_to, machine_after, machine_run, answers_to, moved, working_content, published_content};
 ghost use Rattle.cq_desk.specs.declared.floor_event.FloorEvent.TheVariants.{Enter, Publish, Look, Hear};
@@ -19,6 +19,9 @@ use thiserror::Error;
 
 /// The answer to an event, or why it is refused.
 type Told<W> = Result<FloorAnswer, FloorRefusal<W>>;
+
+/// What was answered to events that came one after another.
+type Answers<W, A> = Vec<Told<W>, A>;
 
 /// Why a floor does not begin.
 #[derive(Clone, Copy, Debug, PartialEq, Eq, Error)]
@@ -212,5 +215,48 @@ impl<L: Live, A: Allocator + Copy> Floor<L, A> {
             FloorEvent::Look { session } => self.look(session),
             FloorEvent::Hear { session, count } => self.hear(session, count),
         }
+    }
+
+    /// Takes an event, and answers it. There is no answer where memory was wanting.
+    fn take_step(&mut self, event: FloorEvent<L::Edit>) -> Option<Told<L::Why>>
+        ensures { MatchOption result (self.new ≡ self.old) (λ told.
+            (told ≡ answer_to L.after L.why self.old.opening self.old.limit self.old.machine event)
+            × (self.new ≡ stepped L.after L.why self.old event)) }
+    {
+        match self.step(event) {
+            Err(FloorRefusal::NoMemory) => None,
+            told => Some(told),
+        }
+    }
+
+    /// Takes the events one after another, and answers each: a refused one changes nothing and stops
+    /// nobody. After them the working state has what the whole journal leaves, and the published one
+    /// what its published front leaves, as `working` and `board` say.
+    ///
+    /// # Errors
+    /// The answers to the events before the one at which a growth was refused. That one and those
+    /// behind it have not happened.
+    pub fn play(
+        &mut self,
+        events: Vec<FloorEvent<L::Edit>, A>,
+    ) -> Result<Answers<L::Why, A>, Answers<L::Why, A>>
+        ensures answers { IfOk result (λ answers. answers.items ≡ answers_to L.after L.why self.old.opening self.old.limit self.old.machine events.items) }
+        ensures after { OnOk result (self.new ≡ played L.after L.why self.old events.items) }
+        ensures front { IfErr result (λ answers. answers.items ≡ answers_to L.after L.why self.old.opening self.old.limit self.old.machine (take (length answers.items) events.items)) }
+        ensures after_front { IfErr result (λ answers. self.new ≡ played L.after L.why self.old (take (length answers.items) events.items)) }
+        ensures rest { IfErr result (λ answers. length answers.items ≤ length events.items) }
+    {
+        let alloc = *events.allocator();
+        let mut answers = Vec::new(alloc);
+        if answers.reserve(events.len()).is_err() {
+            return Err(answers);
+        }
+        for event in events {
+            let Some(told) = self.take_step(event) else {
+                return Err(answers);
+            };
+            answers.push_reserved(told);
+        }
+        Ok(answers)
     }
 }
