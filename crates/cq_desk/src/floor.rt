@@ -1,8 +1,8 @@
 //! A floor: a desk that several sessions look at, each with what it has seen.
 
-ghost use Rattle.std.specs.Prelude.{◌≡◌, ◌≤◌, ◌<◌, length, fold, replicate, take, OnOk, OnErr, IfOk, IfErr, MatchOption, slice_get};
+ghost use Rattle.std.specs.Prelude.{◌≡◌, ◌≤◌, ◌<◌, length, fold, replicate, take, OnOk, OnErr, IfOk, IfErr, IfNone, IfSome, MatchOption, slice_get};
 ghost use Rattle.cq_desk.specs.declared.floor.FloorFault.TheVariants as faults;
-ghost use Rattle.cq_desk.specs.Machine.{opening_machine, answer_to, machine_after, machine_run, answers_to, moved, working_content, published_content};
+ghost use Rattle.cq_desk.specs.Machine.{opening_machine, answer_to, machine_after, machine_run, answers_to, moved, seen_by, working_content, published_content};
 ghost use Rattle.cq_desk.specs.declared.floor_event.FloorEvent.TheVariants.{Enter, Publish, Look, Hear};
 ghost use Rattle.cq_atom.specs.Answer.{Answers};
 ghost use Rattle.cq_desk.specs.Standing.{IsTold, sessions_fault, stepped, played};
@@ -123,7 +123,8 @@ impl<L: Live, A: Allocator + Copy> Floor<L, A> {
     /// How many entries the session has seen or heard of. `None` where there is no session of that
     /// number.
     pub fn seen(&self, session: usize) -> Option<u64>
-        ensures { result ≡ slice_get self.now.machine.seen session }
+        ensures value { result ≡ slice_get self.now.machine.seen session }
+        ensures within { IfSome result (λ count. count ≤ self.now.machine.published) }
     {
         self.seen.get(session).copied()
     }
@@ -170,17 +171,22 @@ impl<L: Live, A: Allocator + Copy> Floor<L, A> {
         }
     }
 
-    fn look(&mut self, session: usize) -> Told<L::Why>
-        ensures answer { IsTold (answer_to L.after L.why self.old.opening self.old.limit self.old.machine (Look session)) result }
-        ensures ok { OnOk result (self.new ≡ record self.old { machine = moved self.old.machine (Look session) }) }
-        ensures err { OnErr result (self.new ≡ self.old) }
+    /// A look of the session: how many entries are published, which is never below what the session
+    /// had seen or heard of. What it shows is `board`. `None` where there is no session of that
+    /// number; nothing has changed then.
+    pub fn look(&mut self, session: usize) -> Option<u64>
+        ensures none { IfNone result (length self.old.machine.seen ≤ session) }
+        ensures session { IfSome result (λ _. session < length self.old.machine.seen) }
+        ensures count { IfSome result (λ count. count ≡ self.old.machine.published) }
+        ensures seen { IfSome result (λ count. seen_by self.old.machine session ≤ count) }
+        ensures after { MatchOption result (self.new ≡ self.old) (λ _. self.new ≡ record self.old { machine = moved self.old.machine (Look session) }) }
     {
         if session >= self.seen.len() {
-            return Err(FloorRefusal::NoSession);
+            return None;
         }
         let count = self.desk.published_count();
         self.seen[session] = count;
-        Ok(FloorAnswer::Looked(count))
+        Some(count)
     }
 
     fn hear(&mut self, session: usize, count: u64) -> Told<L::Why>
@@ -212,7 +218,10 @@ impl<L: Live, A: Allocator + Copy> Floor<L, A> {
         match event {
             FloorEvent::Enter { author, edit } => self.enter(author, edit),
             FloorEvent::Publish => self.publish(),
-            FloorEvent::Look { session } => self.look(session),
+            FloorEvent::Look { session } => match self.look(session) {
+                Some(count) => Ok(FloorAnswer::Looked(count)),
+                None => Err(FloorRefusal::NoSession),
+            },
             FloorEvent::Hear { session, count } => self.hear(session, count),
         }
     }
