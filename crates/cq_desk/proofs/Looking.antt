@@ -3,10 +3,6 @@ use Rattle.std.proofs.Common.{◌≡◌, ◌≢◌, ℕ, zero, suc, ◌<◌, ◌
 use Rattle.std.proofs.Math.Nat.{le-max_left, max-le}
 use Rattle.std.proofs.lemmas.Bool.{leb-true, ltb-true}
 use Rattle.std.specs.Option.{option_copied}
-use Rattle.cq_board.specs.Pool.{PoolRecord}
-use Rattle.cq_board.specs.Edits.{Edit, pool_after}
-use Rattle.cq_desk.specs.Journal.{Journal, pool_left}
-use Rattle.cq_desk.specs.Replies.{journal_edits}
 use Rattle.cq_desk.specs.Plain.{AreWithin}
 use Rattle.cq_desk.specs.declared.floor_event.FloorEvent.{FloorEvent}
 use Rattle.cq_desk.specs.declared.floor_event.FloorEvent.TheVariants.{Enter, Publish, Look, Hear}
@@ -17,10 +13,6 @@ use Rattle.cq_desk.specs.declared.floor_event.FloorRefusal.TheVariants.{NoSessio
 use Rattle.cq_desk.specs.Machine.{MachineRecord, opening_machine, seen_by, moved, unless_refused, answer_to, machine_after, machine_run}
 use Rattle.cq_desk.proofs.Cutting.{within-more}
 use Rattle.cq_desk.proofs.Counting.{within-get, within-set, within-replicate}
-
-pub left_is : (opening : PoolRecord) (journal : Journal) → fold pool_after opening (journal_edits journal) ≡ pool_left opening journal
-left_is opening [] = refl
-left_is opening (entry ∷ journal) = left_is (pool_after opening entry.edit) journal
 
 pub within-seen : (most : ℕ) (counts : List ℕ) (i : ℕ) → AreWithin most counts → get_or counts i 0 ≤ most
 within-seen most [] i w = omega arith

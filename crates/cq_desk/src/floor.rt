@@ -253,7 +253,7 @@ impl<L: Live, A: Allocator + Copy> Floor<L, A> {
         ensures after { OnOk result (self.new ≡ played L.after L.why self.old events.items) }
         ensures front { IfErr result (λ answers. answers.items ≡ answers_to L.after L.why self.old.opening self.old.limit self.old.machine (take (length answers.items) events.items)) }
         ensures after_front { IfErr result (λ answers. self.new ≡ played L.after L.why self.old (take (length answers.items) events.items)) }
-        ensures rest { IfErr result (λ answers. length answers.items ≤ length events.items) }
+        ensures rest { IfErr result (λ answers. length answers.items < length events.items) }
     {
         let alloc = *events.allocator();
         let mut answers = Vec::new(alloc);
