@@ -1,10 +1,11 @@
 -- Events that come one after another.
-use Rattle.std.proofs.Common.{◌≡◌, ℕ, List, [], ◌∷◌, ◌++◌, Option, Result, refl, sym, ap, ◌∙◌}
+use Rattle.std.proofs.Common.{◌≡◌, ℕ, List, [], ◌∷◌, ◌++◌, Option, Result, length, drop, refl, subst, sym, ap, ◌∙◌}
 use Rattle.cq_desk.specs.declared.floor_event.FloorEvent.{FloorEvent}
 use Rattle.cq_desk.specs.declared.floor_event.FloorAnswer.{FloorAnswer}
 use Rattle.cq_desk.specs.declared.floor_event.FloorRefusal.{FloorRefusal}
 use Rattle.cq_desk.specs.Machine.{MachineRecord, answer_to, answers_to, machine_after, machine_run}
-use Rattle.cq_desk.specs.Standing.{StandingRecord, stepped, played}
+use Rattle.cq_desk.specs.Standing.{StandingRecord, MayWant, StopsAt, stepped, played}
+use Rattle.cq_desk.proofs.Histories.{rest_is}
 
 module _ {E C W : Type 0} (after : C → E → C) (why : C → E → Option W) where
   run-snoc : (opening : C) (limit : ℕ) (m : MachineRecord E) (es : List (FloorEvent E)) (e : FloorEvent E) → machine_run after why opening limit m (es ++ e ∷ []) ≡ machine_after after why opening limit (machine_run after why opening limit m es) e
@@ -25,3 +26,8 @@ module _ {E C W : Type 0} (after : C → E → C) (why : C → E → Option W) w
   pub stepped_on : (a f g : StandingRecord C E) (es : List (FloorEvent E)) (e : FloorEvent E) → f ≡ played after why a es → g ≡ stepped after why f e → g ≡ played after why a (es ++ e ∷ [])
   stepped_on a f g es e now is =
       is ∙ (ap (λ v. stepped after why v e) now ∙ ap (λ m. record a { machine = m }) (sym (run-snoc a.opening a.limit a.machine es e)))
+
+  -- the first event that has not happened
+  pub stops_at : {B : Type 0} (f g : StandingRecord C E) (done rest all : List (FloorEvent E)) (e : FloorEvent E) (answers : List B) → g ≡ f → MayWant (answer_to after why f.opening f.limit f.machine e) → done ++ e ∷ rest ≡ all → length answers ≡ length done → StopsAt after why g (drop (length answers) all)
+  stops_at f g done rest all e answers same want is n =
+      subst (λ v. StopsAt after why v (drop (length answers) all)) (sym same) (subst (StopsAt after why f) (rest_is done (e ∷ rest) all is ∙ ap (λ k. drop k all) (sym n)) want)

@@ -1,5 +1,5 @@
 -- What contracts see of a floor, and what its type says. (this project's profile)
-use Rattle.std.specs.Prelude.{◌≡◌, ℕ, ◌≤◌, List, nat_le, ◌&&◌, if◌then◌else◌, Option, Some, None, ⊤, Result, Ok, Err}
+use Rattle.std.specs.Prelude.{◌≡◌, ℕ, ◌≤◌, List, [], ◌∷◌, nat_le, ◌&&◌, if◌then◌else◌, Option, Some, None, ⊤, Result, Ok, Err}
 use Rattle.cq_desk.specs.declared.floor_event.FloorAnswer.{FloorAnswer}
 use Rattle.cq_desk.specs.declared.floor_event.FloorAnswer.TheVariants.{Entered, Published, Looked, Heard}
 use Rattle.cq_desk.specs.declared.floor_event.FloorRefusal.{FloorRefusal}
@@ -7,7 +7,7 @@ use Rattle.cq_desk.specs.declared.floor_event.FloorRefusal.TheVariants.{NoSessio
 use Rattle.cq_desk.specs.declared.floor.FloorFault.{FloorFault}
 use Rattle.cq_desk.specs.declared.floor.FloorFault.TheVariants.{Sessions}
 use Rattle.cq_desk.specs.declared.floor_event.FloorEvent.{FloorEvent}
-use Rattle.cq_desk.specs.Machine.{MachineRecord, machine_after, machine_run}
+use Rattle.cq_desk.specs.Machine.{MachineRecord, answer_to, machine_after, machine_run}
 
 -- The content before the first event, how many entries the journal may hold, and the machine.
 pub record StandingRecord (C E : Type 0) : Type 0 where
@@ -47,3 +47,8 @@ IsTold answer (Err Ahead) = answer ≡ Err Ahead
 IsTold answer (Err JournalFull) = answer ≡ Err JournalFull
 IsTold answer (Err (Not reason)) = answer ≡ Err (Not reason)
 IsTold answer (Err NoMemory) = MayWant answer
+
+-- The first of the events that have not happened is one at which memory may be wanting.
+abbrev pub StopsAt : {C E W : Type 0} → (C → E → C) → (C → E → Option W) → StandingRecord C E → List (FloorEvent E) → Type 0
+StopsAt after why floor [] = ⊥
+StopsAt after why floor (event ∷ events) = MayWant (answer_to after why floor.opening floor.limit floor.machine event)

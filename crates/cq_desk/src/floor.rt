@@ -1,11 +1,11 @@
 //! A floor: a desk that several sessions look at, each with what it has seen.
 
-ghost use Rattle.std.specs.Prelude.{◌≡◌, ◌≤◌, ◌<◌, length, fold, replicate, take, OnOk, OnErr, IfOk, IfErr, IfNone, IfSome, MatchOption, slice_get};
+ghost use Rattle.std.specs.Prelude.{◌≡◌, ◌≤◌, ◌<◌, ◌⊎◌, [], length, fold, replicate, take, drop, OnOk, OnErr, IfOk, IfErr, IfNone, IfSome, MatchOption, slice_get};
 ghost use Rattle.cq_desk.specs.declared.floor.FloorFault.TheVariants as faults;
 ghost use Rattle.cq_desk.specs.Machine.{opening_machine, answer_to, machine_after, machine_run, answers_to, moved, seen_by, working_content, published_content};
 ghost use Rattle.cq_desk.specs.declared.floor_event.FloorEvent.TheVariants.{Enter, Publish, Look, Hear};
 ghost use Rattle.cq_atom.specs.Answer.{Answers};
-ghost use Rattle.cq_desk.specs.Standing.{IsTold, sessions_fault, stepped, played};
+ghost use Rattle.cq_desk.specs.Standing.{IsTold, MayWant, StopsAt, sessions_fault, stepped, played};
 
 use crate::desk::Desk;
 use crate::floor_event::{FloorAnswer, FloorEvent, FloorRefusal};
@@ -228,7 +228,7 @@ impl<L: Live, A: Allocator + Copy> Floor<L, A> {
 
     /// Takes an event, and answers it. There is no answer where memory was wanting.
     fn take_step(&mut self, event: FloorEvent<L::Edit>) -> Option<Told<L::Why>>
-        ensures { MatchOption result (self.new ≡ self.old) (λ told.
+        ensures { MatchOption result ((self.new ≡ self.old) × MayWant (answer_to L.after L.why self.old.opening self.old.limit self.old.machine event)) (λ told.
             (told ≡ answer_to L.after L.why self.old.opening self.old.limit self.old.machine event)
             × (self.new ≡ stepped L.after L.why self.old event)) }
     {
@@ -244,7 +244,7 @@ impl<L: Live, A: Allocator + Copy> Floor<L, A> {
     ///
     /// # Errors
     /// The answers to the events before the one at which a growth was refused. That one and those
-    /// behind it have not happened.
+    /// behind it have not happened. There are none where there was no room for the answers.
     pub fn play(
         &mut self,
         events: Vec<FloorEvent<L::Edit>, A>,
@@ -254,6 +254,7 @@ impl<L: Live, A: Allocator + Copy> Floor<L, A> {
         ensures front { IfErr result (λ answers. answers.items ≡ answers_to L.after L.why self.old.opening self.old.limit self.old.machine (take (length answers.items) events.items)) }
         ensures after_front { IfErr result (λ answers. self.new ≡ played L.after L.why self.old (take (length answers.items) events.items)) }
         ensures rest { IfErr result (λ answers. length answers.items < length events.items) }
+        ensures stop { IfErr result (λ answers. (answers.items ≡ []) ⊎ StopsAt L.after L.why self.new (drop (length answers.items) events.items)) }
     {
         let alloc = *events.allocator();
         let mut answers = Vec::new(alloc);

@@ -1,6 +1,7 @@
 use Rattle.std.proofs.Common.{◌≡◌, ◌+◌, [], ◌∷◌, ◌++◌, length, ap, sym, ◌∙◌, append_assoc, arith, length-append}
+use mathlib.Core.Logic.{inr}
 use Rattle.std.specs.Vec.Iter.{into_iter_items}
-use Rattle.cq_desk.proofs.Playing.{answered_on, stepped_on}
+use Rattle.cq_desk.proofs.Playing.{answered_on, stepped_on, stops_at}
 use Rattle.cq_desk.proofs.floor.Floor.play.Goals as goal
 
 pub loop-event-preserved : goal.loop-event-preserved
@@ -21,3 +22,8 @@ loop-event-preserved g c = let at = c.loop-event in let inv = at.invariant in le
       answered_on g.L.Live.after g.L.Live.why a at.self at.yielded e at.answers.items new.items told inv.5 inv.4 kept.0 is,
       stepped_on g.L.Live.after g.L.Live.why a at.self c.take_step.new.self at.yielded e inv.5 kept.1,
     )
+
+pub returns-in_default-clause-stop : goal.returns-in_default-clause-stop
+returns-in_default-clause-stop g c = let at = c.loop-event in let inv = at.invariant in let e = c.in-Some.event in let kept = c.in_default.ensures in
+    let all = ap (λ z. at.yielded ++ z) (sym c.in-Some.ensures.steps.0) ∙ (inv.0 ∙ c.into_iter-event-iterator.ensures.into_iter_gives.0) in
+    inr (stops_at g.L.Live.after g.L.Live.why at.self c.take_step.new.self at.yielded (into_iter_items c.next.new.self) c.args.events.items e at.answers.items kept.0 kept.1 all inv.2)
