@@ -1,5 +1,5 @@
 -- What holds of the floor machine after any events.
-use Rattle.std.proofs.Common.{◌≡◌, ◌≢◌, ℕ, zero, suc, ◌<◌, ◌≤◌, max, Bool, true, false, nat_le, if◌then◌else◌, IfSome, is_some, ltb, Some, None, Bor, List, [], ◌∷◌, ◌++◌, length, map, get_or, set, Option, Result, Ok, Err, refl, sym, ap, ◌∙◌, subst, fold, arith, length-append}
+use Rattle.std.proofs.Common.{◌≡◌, ℕ, zero, suc, ◌≤◌, max, Bool, true, false, nat_le, if◌then◌else◌, IfSome, is_some, ltb, Some, None, Bor, List, [], ◌∷◌, ◌++◌, length, get_or, set, Option, Result, Ok, Err, refl, sym, subst, arith, length-append}
 use Rattle.std.proofs.Math.Nat.{le-max_left, max-le}
 use Rattle.std.proofs.lemmas.Bool.{leb-true, ltb-true}
 use Rattle.std.specs.Option.{option_copied}

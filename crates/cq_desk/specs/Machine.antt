@@ -1,6 +1,6 @@
 -- The floor machine, which keeps a journal and counts, and no state. It knows of the state how an edit changes it, why it refuses
 -- one, and what it held at first. (this project's profile)
-use Rattle.std.specs.Prelude.{◌≡◌, ℕ, max, nat_le, List, [], ◌∷◌, ◌++◌, length, take, fold, get_or, set, replicate, if◌then◌else◌, Option, Result, Ok, Err}
+use Rattle.std.specs.Prelude.{ℕ, max, nat_le, List, [], ◌∷◌, ◌++◌, length, take, fold, get_or, set, replicate, if◌then◌else◌, Option, Result, Ok, Err}
 use Rattle.cq_desk.specs.declared.journal.Entry.{Entry}
 use Rattle.cq_desk.specs.declared.reply.Reply.{Reply}
 use Rattle.cq_desk.specs.declared.floor_event.FloorEvent.{FloorEvent}

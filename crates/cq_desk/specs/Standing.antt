@@ -1,5 +1,5 @@
 -- What contracts see of a floor, and what its type says. (this project's profile)
-use Rattle.std.specs.Prelude.{◌≡◌, ℕ, ◌≤◌, List, [], ◌∷◌, nat_le, ◌&&◌, if◌then◌else◌, Option, Some, None, ⊤, Result, Ok, Err}
+use Rattle.std.specs.Prelude.{◌≡◌, ℕ, List, [], ◌∷◌, nat_le, ◌&&◌, if◌then◌else◌, Option, Some, None, ⊤, Result, Ok, Err}
 use Rattle.cq_desk.specs.declared.floor_event.FloorAnswer.{FloorAnswer}
 use Rattle.cq_desk.specs.declared.floor_event.FloorAnswer.TheVariants.{Entered, Published, Looked, Heard}
 use Rattle.cq_desk.specs.declared.floor_event.FloorRefusal.{FloorRefusal}

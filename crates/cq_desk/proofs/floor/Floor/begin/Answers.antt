@@ -1,4 +1,4 @@
-use Rattle.std.proofs.Common.{rules, ◌≡◌, length, replicate, subst, sym}
+use Rattle.std.proofs.Common.{◌≡◌, length, replicate, subst, sym}
 use Rattle.cq_desk.specs.History.{edits_of}
 use Rattle.cq_desk.specs.Plain.{AreWithin}
 use Rattle.cq_desk.proofs.Counting.{within-replicate}

@@ -1,4 +1,4 @@
-use Rattle.std.proofs.Common.{rules, ◌≡◌, ◌<◌, ◌≤◌, length, get_or, max, subst, sym}
+use Rattle.std.proofs.Common.{rules, ◌<◌, ◌≤◌, length, subst, sym}
 use Rattle.std.proofs.Math.Nat.{max-le}
 use Rattle.cq_desk.specs.History.{edits_of}
 use Rattle.cq_desk.proofs.Counting.{within-set, within-get}
