@@ -4,4 +4,6 @@ pub mod History
 pub mod Replies
 pub mod Desk
 pub mod Plain
+pub mod Machine
+pub mod Standing
 pub mod Steps

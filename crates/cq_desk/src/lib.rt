@@ -7,12 +7,19 @@
 //! leaves over the publisher's opening content, and that the published edits, then those pending or
 //! not yet handed over, are the journal's (`specs/Desk`).
 //!
+//! A [`Floor`] is a desk over a `Plain` that several sessions look at. It is proved against the floor
+//! machine (`specs/Machine`), which keeps a journal, a published count and what each session has seen,
+//! and no state: `Floor::play` says that after any list of events the answers and what is kept are
+//! those of the machine, `working` and `board` that the states have what the whole journal and its
+//! published front leave. Over a board `working_board` and `published_board` say it of edges, crowded
+//! postconditions, matched queries and groundings, and `looks_never_fall` that no session sees less
+//! than it had seen or heard of.
+//!
 //! The room above uses one contract of this crate most: `Desk::submit` answers each edit as the
 //! journal before it says (`specs/Replies`), enters exactly those that it numbers, and ends in a
 //! publish after which they stand at the end of the last publication, or says where memory was
-//! wanting. The crates that speak of what a session is answered do so by the floor machine
-//! (`specs/Floor`), which keeps a journal and a published count and nothing else: the pool that a
-//! session sees is the one that the published front of the journal leaves.
+//! wanting. The output of a script is stated by an older machine of one session (`specs/Floor`, with
+//! `Event`, `Answer`, `StepFault`), which stands until that statement is moved over.
 //!
 //! Not here: how a pool is kept from one edit to the next, what is shown of it, and threads.
 #![tactic(auto)]
@@ -20,6 +27,9 @@
 mod board;
 mod desk;
 mod event;
+mod floor;
+mod floor_event;
+mod headline;
 mod journal;
 mod live;
 mod plain;
@@ -29,6 +39,9 @@ mod reply;
 
 pub use desk::Desk;
 pub use event::{Answer, Event, StepFault};
+pub use floor::{Floor, FloorFault};
+pub use floor_event::{FloorAnswer, FloorEvent, FloorRefusal};
+pub use headline::looks_never_fall;
 pub use journal::Entry;
 pub use live::{Live, NoMemory};
 pub use plain::Plain;

@@ -150,7 +150,7 @@ fn end_of<A: Allocator + Copy>(desk: &mut TallyDesk<A>, asked: Vec<u8, A>) -> Op
 }
 
 /// Whether some growths of the call were refused, and nothing but what is right came of it.
-fn is_borne(refused: Result<u64, u64>) -> bool {
+pub fn is_borne(refused: Result<u64, u64>) -> bool {
     match refused {
         Ok(count) => count > 0,
         Err(_) => false,

@@ -3,9 +3,13 @@
 #![tactic(auto)]
 
 #[cfg(test)]
+mod board_floors;
+#[cfg(test)]
 mod boards;
 #[cfg(test)]
 mod desks;
+#[cfg(test)]
+mod floors;
 #[cfg(test)]
 mod growths;
 #[cfg(test)]

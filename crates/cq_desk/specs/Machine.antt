@@ -1,0 +1,78 @@
+-- The floor machine, which keeps a journal and counts, and no state. It knows of the state how an edit changes it, why it refuses
+-- one, and what it held at first. (this project's profile)
+use Rattle.std.specs.Prelude.{ℕ, max, nat_le, List, [], ◌∷◌, ◌++◌, length, take, fold, get_or, set, replicate, if◌then◌else◌, Option, Result, Ok, Err}
+use Rattle.cq_desk.specs.declared.journal.Entry.{Entry}
+use Rattle.cq_desk.specs.declared.reply.Reply.{Reply}
+use Rattle.cq_desk.specs.declared.floor_event.FloorEvent.{FloorEvent}
+use Rattle.cq_desk.specs.declared.floor_event.FloorEvent.TheVariants.{Enter, Publish, Look, Hear}
+use Rattle.cq_desk.specs.declared.floor_event.FloorAnswer.{FloorAnswer}
+use Rattle.cq_desk.specs.declared.floor_event.FloorAnswer.TheVariants.{Entered, Published, Looked, Heard}
+use Rattle.cq_desk.specs.declared.floor_event.FloorRefusal.{FloorRefusal}
+use Rattle.cq_desk.specs.declared.floor_event.FloorRefusal.TheVariants.{NoSession, Ahead, JournalFull, Not}
+use Rattle.cq_desk.specs.Replies.{journal_edits, reply_at}
+use Rattle.cq_desk.specs.declared.reply.Reply.TheVariants as replies
+
+-- The journal, how many of its entries are published, and how many of them each session has seen or heard of.
+pub record MachineRecord (E : Type 0) : Type 0 where
+  pub journal : List (Entry E)
+  pub published : ℕ
+  pub seen : List ℕ
+
+-- At first nothing has happened.
+abbrev pub opening_machine : {E : Type 0} → ℕ → MachineRecord E
+opening_machine sessions = record { journal = []; published = 0; seen = replicate sessions 0 }
+
+-- How many entries the session has seen or heard of.
+abbrev pub seen_by : {E : Type 0} → MachineRecord E → ℕ → ℕ
+seen_by machine session = get_or machine.seen session 0
+
+-- The answer where there is a session of that number.
+abbrev pub if_session : {E W : Type 0} → MachineRecord E → ℕ → Result FloorAnswer (FloorRefusal W) → Result FloorAnswer (FloorRefusal W)
+if_session machine session answer = if nat_le (length machine.seen) session then Err NoSession else answer
+
+-- The reply to an edit as an answer.
+abbrev pub told : {W : Type 0} → Reply W → Result FloorAnswer (FloorRefusal W)
+told (replies.Entered number) = Ok (Entered number)
+told replies.JournalFull = Err JournalFull
+told (replies.Not reason) = Err (Not reason)
+
+-- The machine after an event that is not refused.
+abbrev pub moved : {E : Type 0} → MachineRecord E → FloorEvent E → MachineRecord E
+moved machine (Enter author edit) = record machine { journal = machine.journal ++ record { author = author; edit = edit } ∷ [] }
+moved machine Publish = record machine { published = length machine.journal }
+moved machine (Look session) = record machine { seen = set machine.seen session machine.published }
+moved machine (Hear session count) = record machine { seen = set machine.seen session (max (seen_by machine session) count) }
+
+-- A refused event changes nothing.
+abbrev pub unless_refused : {E W : Type 0} → Result FloorAnswer (FloorRefusal W) → MachineRecord E → MachineRecord E → MachineRecord E
+unless_refused (Ok answer) before after = after
+unless_refused (Err refusal) before after = before
+
+module _ {E C W : Type 0} (after : C → E → C) (why : C → E → Option W) (opening : C) (limit : ℕ) where
+  -- What is answered to an event: the first test that fails, else a number.
+  abbrev pub answer_to : MachineRecord E → FloorEvent E → Result FloorAnswer (FloorRefusal W)
+  answer_to machine (Enter author edit) = if_session machine author (told (reply_at after why opening limit (journal_edits machine.journal) edit))
+  answer_to machine Publish = Ok (Published (length machine.journal))
+  answer_to machine (Look session) = if_session machine session (Ok (Looked machine.published))
+  answer_to machine (Hear session count) = if_session machine session (if nat_le count machine.published then Ok (Heard (max (seen_by machine session) count)) else Err Ahead)
+
+  -- The machine after an event.
+  abbrev pub machine_after : MachineRecord E → FloorEvent E → MachineRecord E
+  machine_after machine event = unless_refused (answer_to machine event) machine (moved machine event)
+
+  -- The machine after events that come one after another.
+  abbrev pub machine_run : MachineRecord E → List (FloorEvent E) → MachineRecord E
+  machine_run machine events = fold machine_after machine events
+
+  -- What is answered to events that come one after another.
+  abbrev pub answers_to : MachineRecord E → List (FloorEvent E) → List (Result FloorAnswer (FloorRefusal W))
+  answers_to machine [] = []
+  answers_to machine (event ∷ events) = answer_to machine event ∷ answers_to (machine_after machine event) events
+
+-- What the whole journal leaves over the opening content: the content of the working state.
+abbrev pub working_content : {E C : Type 0} → (C → E → C) → C → MachineRecord E → C
+working_content after opening machine = fold after opening (journal_edits machine.journal)
+
+-- What its published front leaves: the content of the state that a look shows.
+abbrev pub published_content : {E C : Type 0} → (C → E → C) → C → MachineRecord E → C
+published_content after opening machine = fold after opening (journal_edits (take machine.published machine.journal))

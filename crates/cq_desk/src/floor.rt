@@ -1,0 +1,272 @@
+//! A floor: a desk that several sessions look at, each with what it has seen.
+
+ghost use Rattle.std.specs.Prelude.{◌≡◌, ◌≤◌, ◌<◌, ◌⊎◌, [], length, fold, replicate, take, drop, OnOk, OnErr, IfOk, IfErr, IfNone, IfSome, MatchOption, slice_get};
+ghost use Rattle.cq_desk.specs.declared.floor.FloorFault.TheVariants as faults;
+ghost use Rattle.cq_desk.specs.Machine.{opening_machine, answer_to, machine_after, machine_run, answers_to, moved, seen_by, working_content, published_content};
+ghost use Rattle.cq_desk.specs.declared.floor_event.FloorEvent.TheVariants.{Enter, Publish, Look, Hear};
+ghost use Rattle.cq_atom.specs.Answer.{Answers};
+ghost use Rattle.cq_desk.specs.Standing.{IsTold, MayWant, StopsAt, sessions_fault, stepped, played};
+
+use crate::desk::Desk;
+use crate::floor_event::{FloorAnswer, FloorEvent, FloorRefusal};
+use crate::journal::Entry;
+use crate::live::{Live, NoMemory};
+use crate::plain::Plain;
+use crate::refused::Refused;
+use std::alloc::{AllocError, Allocator, Global};
+use std::marker::Model;
+use thiserror::Error;
+
+/// The answer to an event, or why it is refused.
+type Told<W> = Result<FloorAnswer, FloorRefusal<W>>;
+
+/// What was answered to events that came one after another.
+type Answers<W, A> = Vec<Told<W>, A>;
+
+/// Why a floor does not begin.
+#[derive(Clone, Copy, Debug, PartialEq, Eq, Error)]
+pub enum FloorFault {
+    /// There are 1 to 16 sessions.
+    #[error("there must be 1 to 16 sessions")]
+    Sessions,
+    /// A growth was refused.
+    #[error("out of memory")]
+    NoMemory,
+}
+
+/// A desk, and for each session how many entries it has seen or heard of. Contracts see the opening
+/// content, the journal's limit, and the machine: journal, published count and seen counts. That no
+/// session has seen more than is published stands in this type.
+#[derive(Drop)]
+pub struct Floor<L: Live, A: Allocator + Copy = Global> {
+    desk: Desk<L, Plain<L, A>, A>,
+    seen: Vec<u64, A>,
+}
+
+impl<L: Live, A: Allocator + Copy> Model for Floor<L, A> {
+    ghost use Rattle.std.specs.Prelude.{length};
+    ghost use Rattle.cq_desk.specs.History.{edits_of};
+    ghost use Rattle.cq_desk.specs.Plain.{AreWithin};
+    ghost use Rattle.cq_desk.specs.Standing.{StandingRecord};
+
+    ghost Value = { StandingRecord L.Content L.Edit };
+
+    ghost view = { λ f. record { opening = f.desk.publisher.opening; limit = f.desk.limit; machine = record { journal = f.desk.journal; published = length (edits_of f.desk.publisher.history); seen = f.seen.items } } };
+
+    ghost invariant = { λ f. AreWithin (length (edits_of f.desk.publisher.history)) f.seen.items };
+}
+
+impl From<NoMemory> for FloorFault {
+    ghost from_gives = { λ _ fault. fault ≡ faults.NoMemory };
+
+    fn from(_e: NoMemory) -> FloorFault {
+        FloorFault::NoMemory
+    }
+}
+
+impl From<AllocError> for FloorFault {
+    ghost from_gives = { λ _ fault. fault ≡ faults.NoMemory };
+
+    fn from(_e: AllocError) -> FloorFault {
+        FloorFault::NoMemory
+    }
+}
+
+/// So many sessions that have seen nothing.
+fn unseen<A: Allocator>(alloc: A, sessions: usize) -> Result<Vec<u64, A>, AllocError>
+    ensures { IfOk result (λ seen. seen.items ≡ replicate sessions 0) }
+{
+    let mut seen = Vec::new(alloc);
+    seen.resize(sessions, 0)?;
+    Ok(seen)
+}
+
+impl<L: Live, A: Allocator + Copy> Floor<L, A> {
+    /// The floor over the state, with an empty journal that may hold so many entries, and so many
+    /// sessions, numbered from 0.
+    ///
+    /// # Errors
+    /// `Sessions` where there are not 1 to 16, before anything else; `NoMemory` where a growth was
+    /// refused.
+    pub fn begin(
+        alloc: A,
+        state: L,
+        journal: usize,
+        sessions: usize,
+    ) -> Result<Floor<L, A>, FloorFault>
+        ensures { Answers faults.NoMemory (sessions_fault sessions) (record { opening = L.content state; limit = journal; machine = opening_machine sessions }) result }
+    {
+        if !(1..=16).contains(&sessions) {
+            return Err(FloorFault::Sessions);
+        }
+        let seen = unseen(alloc, sessions)?;
+        let working = state.copy()?;
+        let publisher = Plain::begin(alloc, state)?;
+        let desk = Desk::begin(alloc, working, publisher, journal);
+        Ok(Floor { desk, seen })
+    }
+
+    /// The published state.
+    pub fn board(&self) -> &L
+        ensures { L.content result.now ≡ published_content L.after self.now.opening self.now.machine }
+    {
+        self.desk.publisher().published()
+    }
+
+    /// The working state, which is what the whole journal leaves.
+    pub fn working(&self) -> &L
+        ensures { L.content result.now ≡ working_content L.after self.now.opening self.now.machine }
+    {
+        self.desk.working()
+    }
+
+    /// How many entries the session has seen or heard of. `None` where there is no session of that
+    /// number.
+    pub fn seen(&self, session: usize) -> Option<u64>
+        ensures value { result ≡ slice_get self.now.machine.seen session }
+        ensures within { IfSome result (λ count. count ≤ self.now.machine.published) }
+    {
+        self.seen.get(session).copied()
+    }
+
+    /// The accepted edits with their authors, the earliest first.
+    pub fn journal(&self) -> &[Entry<L::Edit>]
+        ensures { result.now ≡ self.now.machine.journal }
+    {
+        self.desk.journal()
+    }
+
+    /// How many entries are published.
+    pub fn published_count(&self) -> u64
+        ensures { result ≡ self.now.machine.published }
+    {
+        self.desk.published_count()
+    }
+
+    fn enter(&mut self, author: usize, edit: L::Edit) -> Told<L::Why>
+        ensures answer { IsTold (answer_to L.after L.why self.old.opening self.old.limit self.old.machine (Enter author edit)) result }
+        ensures ok { OnOk result (self.new ≡ record self.old { machine = moved self.old.machine (Enter author edit) }) }
+        ensures err { OnErr result (self.new ≡ self.old) }
+    {
+        if author >= self.seen.len() {
+            return Err(FloorRefusal::NoSession);
+        }
+        match self.desk.enter(author, edit) {
+            Ok(number) => Ok(FloorAnswer::Entered(number)),
+            Err(Refused::JournalFull) => Err(FloorRefusal::JournalFull),
+            Err(Refused::Not(why)) => Err(FloorRefusal::Not(why)),
+            Err(Refused::NoMemory) => Err(FloorRefusal::NoMemory),
+        }
+    }
+
+    fn publish(&mut self) -> Told<L::Why>
+        ensures answer { IsTold (answer_to L.after L.why self.old.opening self.old.limit self.old.machine Publish) result }
+        ensures ok { OnOk result (self.new ≡ record self.old { machine = moved self.old.machine Publish }) }
+        ensures err { OnErr result (self.new ≡ self.old) }
+    {
+        let _ = self.desk.publisher();
+        match self.desk.publish(&()) {
+            Ok(count) => Ok(FloorAnswer::Published(count)),
+            Err(NoMemory) => Err(FloorRefusal::NoMemory),
+        }
+    }
+
+    /// A look of the session: how many entries are published, which is never below what the session
+    /// had seen or heard of. What it shows is `board`. `None` where there is no session of that
+    /// number; nothing has changed then.
+    pub fn look(&mut self, session: usize) -> Option<u64>
+        ensures none { IfNone result (length self.old.machine.seen ≤ session) }
+        ensures session { IfSome result (λ _. session < length self.old.machine.seen) }
+        ensures count { IfSome result (λ count. count ≡ self.old.machine.published) }
+        ensures seen { IfSome result (λ count. seen_by self.old.machine session ≤ count) }
+        ensures after { MatchOption result (self.new ≡ self.old) (λ _. self.new ≡ record self.old { machine = moved self.old.machine (Look session) }) }
+    {
+        if session >= self.seen.len() {
+            return None;
+        }
+        let count = self.desk.published_count();
+        self.seen[session] = count;
+        Some(count)
+    }
+
+    fn hear(&mut self, session: usize, count: u64) -> Told<L::Why>
+        ensures answer { IsTold (answer_to L.after L.why self.old.opening self.old.limit self.old.machine (Hear session count)) result }
+        ensures ok { OnOk result (self.new ≡ record self.old { machine = moved self.old.machine (Hear session count) }) }
+        ensures err { OnErr result (self.new ≡ self.old) }
+    {
+        if session >= self.seen.len() {
+            return Err(FloorRefusal::NoSession);
+        }
+        if count > self.desk.published_count() {
+            return Err(FloorRefusal::Ahead);
+        }
+        let heard = self.seen[session].max(count);
+        self.seen[session] = heard;
+        Ok(FloorAnswer::Heard(heard))
+    }
+
+    /// Does what the event asks for, and answers it as the floor machine does.
+    ///
+    /// # Errors
+    /// `NoSession`, `Ahead`, `JournalFull`, `Not`, in this order; `NoMemory` where a growth was
+    /// refused, which may take the place of `Not`. Nothing has changed then.
+    pub fn step(&mut self, event: FloorEvent<L::Edit>) -> Told<L::Why>
+        ensures answer { IsTold (answer_to L.after L.why self.old.opening self.old.limit self.old.machine event) result }
+        ensures ok { OnOk result (self.new ≡ stepped L.after L.why self.old event) }
+        ensures err { OnErr result (self.new ≡ self.old) }
+    {
+        match event {
+            FloorEvent::Enter { author, edit } => self.enter(author, edit),
+            FloorEvent::Publish => self.publish(),
+            FloorEvent::Look { session } => match self.look(session) {
+                Some(count) => Ok(FloorAnswer::Looked(count)),
+                None => Err(FloorRefusal::NoSession),
+            },
+            FloorEvent::Hear { session, count } => self.hear(session, count),
+        }
+    }
+
+    /// Takes an event, and answers it. There is no answer where memory was wanting.
+    fn take_step(&mut self, event: FloorEvent<L::Edit>) -> Option<Told<L::Why>>
+        ensures { MatchOption result ((self.new ≡ self.old) × MayWant (answer_to L.after L.why self.old.opening self.old.limit self.old.machine event)) (λ told.
+            (told ≡ answer_to L.after L.why self.old.opening self.old.limit self.old.machine event)
+            × (self.new ≡ stepped L.after L.why self.old event)) }
+    {
+        match self.step(event) {
+            Err(FloorRefusal::NoMemory) => None,
+            told => Some(told),
+        }
+    }
+
+    /// Takes the events one after another, and answers each: a refused one changes nothing and stops
+    /// nobody. After them the working state has what the whole journal leaves, and the published one
+    /// what its published front leaves, as `working` and `board` say.
+    ///
+    /// # Errors
+    /// The answers to the events before the one at which a growth was refused. That one and those
+    /// behind it have not happened. There are none where there was no room for the answers.
+    pub fn play(
+        &mut self,
+        events: Vec<FloorEvent<L::Edit>, A>,
+    ) -> Result<Answers<L::Why, A>, Answers<L::Why, A>>
+        ensures answers { IfOk result (λ answers. answers.items ≡ answers_to L.after L.why self.old.opening self.old.limit self.old.machine events.items) }
+        ensures after { OnOk result (self.new ≡ played L.after L.why self.old events.items) }
+        ensures front { IfErr result (λ answers. answers.items ≡ answers_to L.after L.why self.old.opening self.old.limit self.old.machine (take (length answers.items) events.items)) }
+        ensures after_front { IfErr result (λ answers. self.new ≡ played L.after L.why self.old (take (length answers.items) events.items)) }
+        ensures rest { IfErr result (λ answers. length answers.items < length events.items) }
+        ensures stop { IfErr result (λ answers. (answers.items ≡ []) ⊎ StopsAt L.after L.why self.new (drop (length answers.items) events.items)) }
+    {
+        let alloc = *events.allocator();
+        let mut answers = Vec::new(alloc);
+        if answers.reserve(events.len()).is_err() {
+            return Err(answers);
+        }
+        for event in events {
+            let Some(told) = self.take_step(event) else {
+                return Err(answers);
+            };
+            answers.push_reserved(told);
+        }
+        Ok(answers)
+    }
+}
