@@ -4,12 +4,12 @@ use Rattle.std.proofs.Math.Nat.{le-max_left, max-le}
 use Rattle.std.proofs.lemmas.Bool.{leb-true, ltb-true}
 use Rattle.std.specs.Option.{option_copied}
 use Rattle.cq_desk.specs.Plain.{AreWithin}
-use Rattle.cq_desk.specs.declared.floor_event.FloorEvent.{FloorEvent}
-use Rattle.cq_desk.specs.declared.floor_event.FloorEvent.TheVariants.{Enter, Publish, Look, Hear}
-use Rattle.cq_desk.specs.declared.floor_event.FloorAnswer.{FloorAnswer}
-use Rattle.cq_desk.specs.declared.floor_event.FloorAnswer.TheVariants.{Looked, Heard}
-use Rattle.cq_desk.specs.declared.floor_event.FloorRefusal.{FloorRefusal}
-use Rattle.cq_desk.specs.declared.floor_event.FloorRefusal.TheVariants.{NoSession, Ahead}
+use Rattle.cq_desk.specs.declared.event.Event.{Event}
+use Rattle.cq_desk.specs.declared.event.Event.TheVariants.{Enter, Publish, Look, Hear}
+use Rattle.cq_desk.specs.declared.event.Answer.{Answer}
+use Rattle.cq_desk.specs.declared.event.Answer.TheVariants.{Looked, Heard}
+use Rattle.cq_desk.specs.declared.event.StepFault.{StepFault}
+use Rattle.cq_desk.specs.declared.event.StepFault.TheVariants.{NoSession, Ahead}
 use Rattle.cq_desk.specs.Machine.{MachineRecord, opening_machine, seen_by, moved, unless_refused, answer_to, machine_after, machine_run}
 use Rattle.cq_desk.proofs.Cutting.{within-more}
 use Rattle.cq_desk.proofs.Counting.{within-get, within-set, within-replicate}
@@ -35,12 +35,12 @@ record IsSound {E : Type 0} (m : MachineRecord E) : Type 0 where
   pub seen : AreWithin m.published m.seen
   pub front : m.published ≤ length m.journal
 
-either : {E W : Type 0} (P : MachineRecord E → Type 0) (r : Result FloorAnswer (FloorRefusal W)) (m n : MachineRecord E) → P m → P n → P (unless_refused r m n)
+either : {E W : Type 0} (P : MachineRecord E → Type 0) (r : Result Answer (StepFault W)) (m n : MachineRecord E) → P m → P n → P (unless_refused r m n)
 either P (Ok a) m n p q = q
 either P (Err e) m n p q = p
 
 -- where a test that fails refuses
-tested : {E W : Type 0} (P : MachineRecord E → Type 0) (none short : Bool) (a : FloorAnswer) (f g : FloorRefusal W) (m n : MachineRecord E) → P m → (short ≡ true → P n) → P (unless_refused {E = E} {W = W} (if none then Err f else (if short then Ok a else Err g)) m n)
+tested : {E W : Type 0} (P : MachineRecord E → Type 0) (none short : Bool) (a : Answer) (f g : StepFault W) (m n : MachineRecord E) → P m → (short ≡ true → P n) → P (unless_refused {E = E} {W = W} (if none then Err f else (if short then Ok a else Err g)) m n)
 tested P true short a f g m n p q = p
 tested P false true a f g m n p q = q refl
 tested P false false a f g m n p q = p
@@ -49,7 +49,7 @@ is_short : (n m : ℕ) → nat_le n m ≡ true → n ≤ m
 is_short n m is = leb-true n m is
 
 module _ {E C W : Type 0} (after : C → E → C) (why : C → E → Option W) (opening : C) (limit : ℕ) where
-  sound_after : (m : MachineRecord E) (e : FloorEvent E) → IsSound m → IsSound (machine_after after why opening limit m e)
+  sound_after : (m : MachineRecord E) (e : Event E) → IsSound m → IsSound (machine_after after why opening limit m e)
   sound_after m (Enter author edit) s =
       either IsSound (answer_to after why opening limit m (Enter author edit)) m (moved m (Enter author edit)) s
       record { seen = s.seen; front = let n = length-append m.journal (record { author = author; edit = edit } ∷ []) in let f = s.front in omega (arith, n, f) }
@@ -61,7 +61,7 @@ module _ {E C W : Type 0} (after : C → E → C) (why : C → E → Option W) (
       tested IsSound (nat_le (length m.seen) session) (nat_le count m.published) (Heard (max (seen_by m session) count)) NoSession Ahead m (moved m (Hear session count)) s
       (λ l. record { seen = within-set m.published m.seen session (max (seen_by m session) count) s.seen (max-le (within-seen m.published m.seen session s.seen) (is_short count m.published l)); front = s.front })
 
-  grows_after : (m : MachineRecord E) (e : FloorEvent E) (k : ℕ) → IsSound m → seen_by m k ≤ seen_by (machine_after after why opening limit m e) k
+  grows_after : (m : MachineRecord E) (e : Event E) (k : ℕ) → IsSound m → seen_by m k ≤ seen_by (machine_after after why opening limit m e) k
   grows_after m (Enter author edit) k s = either (λ n. seen_by m k ≤ seen_by n k) (answer_to after why opening limit m (Enter author edit)) m (moved m (Enter author edit)) (omega arith) (omega arith)
   grows_after m Publish k s = omega arith
   grows_after m (Look session) k s =
@@ -71,36 +71,36 @@ module _ {E C W : Type 0} (after : C → E → C) (why : C → E → Option W) (
       either (λ n. seen_by m k ≤ seen_by n k) (answer_to after why opening limit m (Hear session count)) m (moved m (Hear session count)) (omega arith)
       (set-grows m.seen session (max (seen_by m session) count) k (le-max_left (seen_by m session) count))
 
-  sound_run : (m : MachineRecord E) (es : List (FloorEvent E)) → IsSound m → IsSound (machine_run after why opening limit m es)
+  sound_run : (m : MachineRecord E) (es : List (Event E)) → IsSound m → IsSound (machine_run after why opening limit m es)
   sound_run m [] s = s
   sound_run m (e ∷ es) s = sound_run (machine_after after why opening limit m e) es (sound_after m e s)
 
-  grows_run : (m : MachineRecord E) (es : List (FloorEvent E)) (k : ℕ) → IsSound m → seen_by m k ≤ seen_by (machine_run after why opening limit m es) k
+  grows_run : (m : MachineRecord E) (es : List (Event E)) (k : ℕ) → IsSound m → seen_by m k ≤ seen_by (machine_run after why opening limit m es) k
   grows_run m [] k s = omega arith
   grows_run m (e ∷ es) k s = let one = grows_after m e k s in let rest = grows_run (machine_after after why opening limit m e) es k (sound_after m e s) in omega (arith, one, rest)
 
-  run-append : (m : MachineRecord E) (es more : List (FloorEvent E)) → machine_run after why opening limit m (es ++ more) ≡ machine_run after why opening limit (machine_run after why opening limit m es) more
+  run-append : (m : MachineRecord E) (es more : List (Event E)) → machine_run after why opening limit m (es ++ more) ≡ machine_run after why opening limit (machine_run after why opening limit m es) more
   run-append m [] more = refl
   run-append m (e ∷ es) more = run-append (machine_after after why opening limit m e) es more
 
   opens : (sessions : ℕ) → IsSound (opening_machine {E = E} sessions)
   opens sessions = record { seen = within-replicate 0 sessions; front = omega arith }
 
-  pub seen_grows : (sessions k : ℕ) (es more : List (FloorEvent E)) → seen_by (machine_run after why opening limit (opening_machine sessions) es) k ≤ seen_by (machine_run after why opening limit (opening_machine sessions) (es ++ more)) k
+  pub seen_grows : (sessions k : ℕ) (es more : List (Event E)) → seen_by (machine_run after why opening limit (opening_machine sessions) es) k ≤ seen_by (machine_run after why opening limit (opening_machine sessions) (es ++ more)) k
   seen_grows sessions k es more =
       let m = machine_run after why opening limit (opening_machine sessions) es in
       subst (λ n. seen_by m k ≤ seen_by n k) (sym (run-append (opening_machine sessions) es more)) (grows_run m more k (sound_run (opening_machine sessions) es (opens sessions)))
 
-  pub published_front : (sessions : ℕ) (es : List (FloorEvent E)) → (machine_run after why opening limit (opening_machine sessions) es).published ≤ length (machine_run after why opening limit (opening_machine sessions) es).journal
+  pub published_front : (sessions : ℕ) (es : List (Event E)) → (machine_run after why opening limit (opening_machine sessions) es).published ≤ length (machine_run after why opening limit (opening_machine sessions) es).journal
   published_front sessions es = (sound_run (opening_machine sessions) es (opens sessions)).front
 
-  abbrev look_none : Result FloorAnswer (FloorRefusal W)
+  abbrev look_none : Result Answer (StepFault W)
   look_none = Err NoSession
 
   look_count : (m : MachineRecord E) (k count : ℕ) → answer_to after why opening limit m (Look k) ≡ Ok (Looked count) → m.published ≡ count
   look_count m k count is = elim (nat_le (length m.seen) k) as (λ b. (if b then look_none else Ok (Looked m.published)) ≡ Ok (Looked count) → m.published ≡ count) [ true ↦ λ p. cc | false ↦ λ p. cc ] is
 
-  pub looked_on : (sessions k count : ℕ) (es : List (FloorEvent E)) → answer_to after why opening limit (machine_run after why opening limit (opening_machine sessions) es) (Look k) ≡ Ok (Looked count) → seen_by (machine_run after why opening limit (opening_machine sessions) es) k ≤ count
+  pub looked_on : (sessions k count : ℕ) (es : List (Event E)) → answer_to after why opening limit (machine_run after why opening limit (opening_machine sessions) es) (Look k) ≡ Ok (Looked count) → seen_by (machine_run after why opening limit (opening_machine sessions) es) k ≤ count
   looked_on sessions k count es is =
       let m = machine_run after why opening limit (opening_machine sessions) es in
       subst (λ n. seen_by m k ≤ n) (look_count m k count is) (within-seen m.published m.seen k (sound_run (opening_machine sessions) es (opens sessions)).seen)

@@ -1,5 +1,4 @@
 pub mod Journal
-pub mod Floor
 pub mod History
 pub mod Replies
 pub mod Desk

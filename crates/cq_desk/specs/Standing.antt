@@ -1,12 +1,12 @@
 -- What contracts see of a floor, and what its type says. (this project's profile)
 use Rattle.std.specs.Prelude.{◌≡◌, ℕ, List, [], ◌∷◌, nat_le, ◌&&◌, if◌then◌else◌, Option, Some, None, ⊤, Result, Ok, Err}
-use Rattle.cq_desk.specs.declared.floor_event.FloorAnswer.{FloorAnswer}
-use Rattle.cq_desk.specs.declared.floor_event.FloorAnswer.TheVariants.{Entered, Published, Looked, Heard}
-use Rattle.cq_desk.specs.declared.floor_event.FloorRefusal.{FloorRefusal}
-use Rattle.cq_desk.specs.declared.floor_event.FloorRefusal.TheVariants.{NoSession, Ahead, JournalFull, Not, NoMemory}
+use Rattle.cq_desk.specs.declared.event.Answer.{Answer}
+use Rattle.cq_desk.specs.declared.event.Answer.TheVariants.{Entered, Published, Looked, Heard}
+use Rattle.cq_desk.specs.declared.event.StepFault.{StepFault}
+use Rattle.cq_desk.specs.declared.event.StepFault.TheVariants.{NoSession, Ahead, JournalFull, Not, NoMemory}
 use Rattle.cq_desk.specs.declared.floor.FloorFault.{FloorFault}
 use Rattle.cq_desk.specs.declared.floor.FloorFault.TheVariants.{Sessions}
-use Rattle.cq_desk.specs.declared.floor_event.FloorEvent.{FloorEvent}
+use Rattle.cq_desk.specs.declared.event.Event.{Event}
 use Rattle.cq_desk.specs.Machine.{MachineRecord, answer_to, machine_after, machine_run}
 
 -- The content before the first event, how many entries the journal may hold, and the machine.
@@ -20,15 +20,15 @@ abbrev pub sessions_fault : ℕ → Option FloorFault
 sessions_fault sessions = if nat_le 1 sessions && nat_le sessions 16 then None else Some Sessions
 
 -- The floor after that event.
-abbrev pub stepped : {C E W : Type 0} → (C → E → C) → (C → E → Option W) → StandingRecord C E → FloorEvent E → StandingRecord C E
+abbrev pub stepped : {C E W : Type 0} → (C → E → C) → (C → E → Option W) → StandingRecord C E → Event E → StandingRecord C E
 stepped after why floor event = record floor { machine = machine_after after why floor.opening floor.limit floor.machine event }
 
 -- The floor after events that come one after another.
-abbrev pub played : {C E W : Type 0} → (C → E → C) → (C → E → Option W) → StandingRecord C E → List (FloorEvent E) → StandingRecord C E
+abbrev pub played : {C E W : Type 0} → (C → E → C) → (C → E → Option W) → StandingRecord C E → List (Event E) → StandingRecord C E
 played after why floor events = record floor { machine = machine_run after why floor.opening floor.limit floor.machine events }
 
 -- Want of memory is answered only where an edit or a publish needs some: where the machine would enter, refuse for the state's reason, or publish.
-abbrev pub MayWant : {W : Type 0} → Result FloorAnswer (FloorRefusal W) → Type 0
+abbrev pub MayWant : {W : Type 0} → Result Answer (StepFault W) → Type 0
 MayWant (Ok (Entered number)) = ⊤
 MayWant (Ok (Published count)) = ⊤
 MayWant (Err (Not reason)) = ⊤
@@ -40,7 +40,7 @@ MayWant (Err JournalFull) = ⊥
 MayWant (Err NoMemory) = ⊥
 
 -- What is answered is what the machine answers, or want of memory.
-abbrev pub IsTold : {W : Type 0} → Result FloorAnswer (FloorRefusal W) → Result FloorAnswer (FloorRefusal W) → Type 0
+abbrev pub IsTold : {W : Type 0} → Result Answer (StepFault W) → Result Answer (StepFault W) → Type 0
 IsTold answer (Ok told) = answer ≡ Ok told
 IsTold answer (Err NoSession) = answer ≡ Err NoSession
 IsTold answer (Err Ahead) = answer ≡ Err Ahead
@@ -49,6 +49,6 @@ IsTold answer (Err (Not reason)) = answer ≡ Err (Not reason)
 IsTold answer (Err NoMemory) = MayWant answer
 
 -- The first of the events that have not happened is one at which memory may be wanting.
-abbrev pub StopsAt : {C E W : Type 0} → (C → E → C) → (C → E → Option W) → StandingRecord C E → List (FloorEvent E) → Type 0
+abbrev pub StopsAt : {C E W : Type 0} → (C → E → C) → (C → E → Option W) → StandingRecord C E → List (Event E) → Type 0
 StopsAt after why floor [] = ⊥
 StopsAt after why floor (event ∷ events) = MayWant (answer_to after why floor.opening floor.limit floor.machine event)

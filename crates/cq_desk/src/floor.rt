@@ -3,12 +3,12 @@
 ghost use Rattle.std.specs.Prelude.{◌≡◌, ◌≤◌, ◌<◌, ◌⊎◌, [], length, fold, replicate, take, drop, OnOk, OnErr, IfOk, IfErr, IfNone, IfSome, MatchOption, slice_get};
 ghost use Rattle.cq_desk.specs.declared.floor.FloorFault.TheVariants as faults;
 ghost use Rattle.cq_desk.specs.Machine.{opening_machine, answer_to, machine_after, machine_run, answers_to, moved, seen_by, working_content, published_content};
-ghost use Rattle.cq_desk.specs.declared.floor_event.FloorEvent.TheVariants.{Enter, Publish, Look, Hear};
+ghost use Rattle.cq_desk.specs.declared.event.Event.TheVariants.{Enter, Publish, Look, Hear};
 ghost use Rattle.cq_atom.specs.Answer.{Answers};
 ghost use Rattle.cq_desk.specs.Standing.{IsTold, MayWant, StopsAt, sessions_fault, stepped, played};
 
 use crate::desk::Desk;
-use crate::floor_event::{FloorAnswer, FloorEvent, FloorRefusal};
+use crate::event::{Answer, Event, StepFault};
 use crate::journal::Entry;
 use crate::live::{Live, NoMemory};
 use crate::plain::Plain;
@@ -18,7 +18,7 @@ use std::marker::Model;
 use thiserror::Error;
 
 /// The answer to an event, or why it is refused.
-type Told<W> = Result<FloorAnswer, FloorRefusal<W>>;
+type Told<W> = Result<Answer, StepFault<W>>;
 
 /// What was answered to events that came one after another.
 type Answers<W, A> = Vec<Told<W>, A>;
@@ -149,13 +149,13 @@ impl<L: Live, A: Allocator + Copy> Floor<L, A> {
         ensures err { OnErr result (self.new ≡ self.old) }
     {
         if author >= self.seen.len() {
-            return Err(FloorRefusal::NoSession);
+            return Err(StepFault::NoSession);
         }
         match self.desk.enter(author, edit) {
-            Ok(number) => Ok(FloorAnswer::Entered(number)),
-            Err(Refused::JournalFull) => Err(FloorRefusal::JournalFull),
-            Err(Refused::Not(why)) => Err(FloorRefusal::Not(why)),
-            Err(Refused::NoMemory) => Err(FloorRefusal::NoMemory),
+            Ok(number) => Ok(Answer::Entered(number)),
+            Err(Refused::JournalFull) => Err(StepFault::JournalFull),
+            Err(Refused::Not(why)) => Err(StepFault::Not(why)),
+            Err(Refused::NoMemory) => Err(StepFault::NoMemory),
         }
     }
 
@@ -166,8 +166,8 @@ impl<L: Live, A: Allocator + Copy> Floor<L, A> {
     {
         let _ = self.desk.publisher();
         match self.desk.publish(&()) {
-            Ok(count) => Ok(FloorAnswer::Published(count)),
-            Err(NoMemory) => Err(FloorRefusal::NoMemory),
+            Ok(count) => Ok(Answer::Published(count)),
+            Err(NoMemory) => Err(StepFault::NoMemory),
         }
     }
 
@@ -195,14 +195,14 @@ impl<L: Live, A: Allocator + Copy> Floor<L, A> {
         ensures err { OnErr result (self.new ≡ self.old) }
     {
         if session >= self.seen.len() {
-            return Err(FloorRefusal::NoSession);
+            return Err(StepFault::NoSession);
         }
         if count > self.desk.published_count() {
-            return Err(FloorRefusal::Ahead);
+            return Err(StepFault::Ahead);
         }
         let heard = self.seen[session].max(count);
         self.seen[session] = heard;
-        Ok(FloorAnswer::Heard(heard))
+        Ok(Answer::Heard(heard))
     }
 
     /// Does what the event asks for, and answers it as the floor machine does.
@@ -210,30 +210,30 @@ impl<L: Live, A: Allocator + Copy> Floor<L, A> {
     /// # Errors
     /// `NoSession`, `Ahead`, `JournalFull`, `Not`, in this order; `NoMemory` where a growth was
     /// refused, which may take the place of `Not`. Nothing has changed then.
-    pub fn step(&mut self, event: FloorEvent<L::Edit>) -> Told<L::Why>
+    pub fn step(&mut self, event: Event<L::Edit>) -> Told<L::Why>
         ensures answer { IsTold (answer_to L.after L.why self.old.opening self.old.limit self.old.machine event) result }
         ensures ok { OnOk result (self.new ≡ stepped L.after L.why self.old event) }
         ensures err { OnErr result (self.new ≡ self.old) }
     {
         match event {
-            FloorEvent::Enter { author, edit } => self.enter(author, edit),
-            FloorEvent::Publish => self.publish(),
-            FloorEvent::Look { session } => match self.look(session) {
-                Some(count) => Ok(FloorAnswer::Looked(count)),
-                None => Err(FloorRefusal::NoSession),
+            Event::Enter { author, edit } => self.enter(author, edit),
+            Event::Publish => self.publish(),
+            Event::Look { session } => match self.look(session) {
+                Some(count) => Ok(Answer::Looked(count)),
+                None => Err(StepFault::NoSession),
             },
-            FloorEvent::Hear { session, count } => self.hear(session, count),
+            Event::Hear { session, count } => self.hear(session, count),
         }
     }
 
     /// Takes an event, and answers it. There is no answer where memory was wanting.
-    fn take_step(&mut self, event: FloorEvent<L::Edit>) -> Option<Told<L::Why>>
+    fn take_step(&mut self, event: Event<L::Edit>) -> Option<Told<L::Why>>
         ensures { MatchOption result ((self.new ≡ self.old) × MayWant (answer_to L.after L.why self.old.opening self.old.limit self.old.machine event)) (λ told.
             (told ≡ answer_to L.after L.why self.old.opening self.old.limit self.old.machine event)
             × (self.new ≡ stepped L.after L.why self.old event)) }
     {
         match self.step(event) {
-            Err(FloorRefusal::NoMemory) => None,
+            Err(StepFault::NoMemory) => None,
             told => Some(told),
         }
     }
@@ -247,7 +247,7 @@ impl<L: Live, A: Allocator + Copy> Floor<L, A> {
     /// behind it have not happened. There are none where there was no room for the answers.
     pub fn play(
         &mut self,
-        events: Vec<FloorEvent<L::Edit>, A>,
+        events: Vec<Event<L::Edit>, A>,
     ) -> Result<Answers<L::Why, A>, Answers<L::Why, A>>
         ensures answers { IfOk result (λ answers. answers.items ≡ answers_to L.after L.why self.old.opening self.old.limit self.old.machine events.items) }
         ensures after { OnOk result (self.new ≡ played L.after L.why self.old events.items) }

@@ -15,11 +15,11 @@
 //! postconditions, matched queries and groundings, and `looks_never_fall` that no session sees less
 //! than it had seen or heard of.
 //!
-//! The room above uses one contract of this crate most: `Desk::submit` answers each edit as the
-//! journal before it says (`specs/Replies`), enters exactly those that it numbers, and ends in a
+//! The room above uses one contract of this crate most: `Floor::step` answers an event as the floor
+//! machine does, and leaves the machine as that event leaves it. `Desk::submit` answers each edit as
+//! the journal before it says (`specs/Replies`), enters exactly those that it numbers, and ends in a
 //! publish after which they stand at the end of the last publication, or says where memory was
-//! wanting. The output of a script is stated by an older machine of one session (`specs/Floor`, with
-//! `Event`, `Answer`, `StepFault`), which stands until that statement is moved over.
+//! wanting.
 //!
 //! Not here: how a pool is kept from one edit to the next, what is shown of it, and threads.
 #![tactic(auto)]
@@ -28,7 +28,6 @@ mod board;
 mod desk;
 mod event;
 mod floor;
-mod floor_event;
 mod headline;
 mod journal;
 mod live;
@@ -40,7 +39,6 @@ mod reply;
 pub use desk::Desk;
 pub use event::{Answer, Event, StepFault};
 pub use floor::{Floor, FloorFault};
-pub use floor_event::{FloorAnswer, FloorEvent, FloorRefusal};
 pub use headline::looks_never_fall;
 pub use journal::Entry;
 pub use live::{Live, NoMemory};

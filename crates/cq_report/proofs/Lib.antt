@@ -3,7 +3,7 @@ pub mod Pieces
 pub mod Left
 pub mod Onward
 pub mod Putting
-pub mod Pools
+pub mod Refused
 pub mod Answering
 pub mod Cutting
 pub mod Kept

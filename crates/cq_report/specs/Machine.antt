@@ -5,11 +5,12 @@ use Rattle.cq_rel.specs.Tables.{Declaration, declaration, declare_fault}
 use Rattle.cq_text.specs.declared.command.CommandKind.TheVariants as commands
 use Rattle.cq_board.specs.declared.limits.Limits.{Limits}
 use Rattle.cq_board.specs.declared.edit.EditKind.TheVariants as edits
-use Rattle.cq_board.specs.Pool.{opening_pool}
-use Rattle.cq_board.specs.Edits.{Edit}
+use Rattle.cq_board.specs.Pool.{PoolRecord, opening_pool}
+use Rattle.cq_board.specs.Edits.{Edit, why, pool_after}
 use Rattle.cq_desk.specs.declared.event.Event.{Event}
 use Rattle.cq_desk.specs.declared.event.Event.TheVariants as events
-use Rattle.cq_desk.specs.Floor.{Setting, FloorRecord, opening_floor, published_pool, floor_after, answer_to}
+use Rattle.cq_desk.specs.Machine.{opening_machine, answer_to, published_content}
+use Rattle.cq_desk.specs.Standing.{StandingRecord, stepped}
 use Rattle.cq_report.specs.declared.limits.TheConstants.{POOL_LIMIT, JOURNAL_LIMIT}
 use Rattle.cq_report.specs.declared.stage.Stage.{Stage}
 use Rattle.cq_report.specs.declared.stage.Stage.TheVariants.{Setup, Serving}
@@ -21,10 +22,9 @@ pub record SetupRecord : Type 0 where
   pub catalog : List Declaration
   pub limits : Limits
 
--- The floor machine at work: what never changes of it, and what it has come to.
-pub record ServingRecord : Type 0 where
-  pub setting : Setting
-  pub floor : FloorRecord
+-- A floor over a pool: the opening pool, how many entries the journal may hold, and the floor machine.
+abbrev pub ServingRecord : Type 0
+ServingRecord = StandingRecord PoolRecord Edit
 
 -- A script is in its setup, or the floor serves it.
 abbrev pub State : Type 0
@@ -56,12 +56,9 @@ limit (Serving serving) limits = (Serving serving, late_line)
 
 -- ---- the floor
 
--- What a setup opens: a floor over its relations and under its limits, without rows, queries and entries.
+-- What a setup opens: a floor with one session, over the relations and under the limits, without rows, queries and entries.
 abbrev pub opened : SetupRecord → ServingRecord
-opened setup = record {
-  setting = record { opening = opening_pool setup.catalog setup.limits; most_entries = setup.limits.journal; sessions = 1 };
-  floor = opening_floor;
-}
+opened setup = record { opening = opening_pool setup.catalog setup.limits; limit = setup.limits.journal; machine = opening_machine 1 }
 
 -- The floor to which an event comes: where the setup lasts, the event ends it.
 abbrev pub serving_of : State → ServingRecord
@@ -70,12 +67,15 @@ serving_of (Serving serving) = serving
 
 -- The floor behind an event.
 abbrev pub after : ServingRecord → Event Edit → ServingRecord
-after serving event = record serving { floor = floor_after serving.setting serving.floor event }
+after = stepped pool_after why
+
+-- The pool that a look shows: what the published front of the journal leaves.
+abbrev pub shown : ServingRecord → PoolRecord
+shown serving = published_content pool_after serving.opening serving.machine
 
 -- The reply to an event: what is shown is the pool that is published then.
 abbrev pub told : ServingRecord → Event Edit → List ℕ
-told serving event =
-    reply_lines (published_pool serving.setting (after serving event).floor) (answer_to serving.setting serving.floor event)
+told serving event = reply_lines (shown (after serving event)) (answer_to pool_after why serving.opening serving.limit serving.machine event)
 
 -- An event of the one session, whose number is 0.
 abbrev pub happen : State → Event Edit → State × List ℕ

@@ -3,16 +3,16 @@ use Rattle.std.specs.Prelude.{ℕ, List, [], ◌++◌, codes, decimal, Result, O
 use Rattle.cq_atom.specs.declared.fault.Part.{Part}
 use Rattle.cq_atom.specs.declared.fault.Part.TheVariants.{Posts, Heads, Body}
 use Rattle.cq_rel.specs.declared.fault.CatalogFault.{CatalogFault}
-use Rattle.cq_rel.specs.declared.fault.CatalogFault.TheVariants.{BadName, BadArity, Declared, CatalogFull, NoMemory}
+use Rattle.cq_rel.specs.declared.fault.CatalogFault.TheVariants as catalogs
 use Rattle.cq_text.specs.declared.fault.Kind.{Kind}
 use Rattle.cq_text.specs.declared.fault.Kind.TheVariants as kinds
 use Rattle.cq_board.specs.declared.edit.Why.{Why}
 use Rattle.cq_board.specs.declared.edit.Why.TheVariants.{PoolFull, NameTaken, NotAnswer, UnknownRelation, Arity, NoSuchName, RowPresent, RowAbsent}
 use Rattle.cq_board.specs.Pool.{PoolRecord}
 use Rattle.cq_desk.specs.declared.event.Answer.{Answer}
-use Rattle.cq_desk.specs.declared.event.Answer.TheVariants.{Entered, Published, Looked}
+use Rattle.cq_desk.specs.declared.event.Answer.TheVariants.{Entered, Published, Looked, Heard}
 use Rattle.cq_desk.specs.declared.event.StepFault.{StepFault}
-use Rattle.cq_desk.specs.declared.event.StepFault.TheVariants.{NoSession, JournalFull, Not}
+use Rattle.cq_desk.specs.declared.event.StepFault.TheVariants.{NoSession, Ahead, JournalFull, Not, NoMemory}
 use Rattle.cq_report.specs.Report.{line, report}
 
 abbrev pub kind_word : Kind → List ℕ
@@ -41,11 +41,11 @@ late_line = refused_line (codes "Late")
 
 -- Why a relation is not declared. Want of memory has no line: it ends the run.
 abbrev pub catalog_line : CatalogFault → List ℕ
-catalog_line BadName = refused_line (codes "BadName")
-catalog_line BadArity = refused_line (codes "BadArity")
-catalog_line Declared = refused_line (codes "Declared")
-catalog_line CatalogFull = refused_line (codes "CatalogFull")
-catalog_line NoMemory = []
+catalog_line catalogs.BadName = refused_line (codes "BadName")
+catalog_line catalogs.BadArity = refused_line (codes "BadArity")
+catalog_line catalogs.Declared = refused_line (codes "Declared")
+catalog_line catalogs.CatalogFull = refused_line (codes "CatalogFull")
+catalog_line catalogs.NoMemory = []
 
 abbrev pub part_word : Part → List ℕ
 part_word Posts = codes "posts"
@@ -63,9 +63,12 @@ why_words NoSuchName = codes "NoSuchName"
 why_words RowPresent = codes "RowPresent"
 why_words RowAbsent = codes "RowAbsent"
 
--- Why an event is refused. A session that is not there has no line: the one session of a script is.
+-- Why an event is refused. A session that is not there has no line, since the one session of a script is; a count that is not
+-- published has none, since nobody is told of one; and want of memory has none, since it ends the run.
 abbrev pub refusal_line : StepFault Why → List ℕ
 refusal_line NoSession = []
+refusal_line Ahead = []
+refusal_line NoMemory = []
 refusal_line JournalFull = refused_line (codes "JournalFull")
 refusal_line (Not reason) = refused_line (why_words reason)
 
@@ -85,11 +88,12 @@ end_line = line (codes "end")
 abbrev pub show_block : ℕ → PoolRecord → List ℕ
 show_block count pool = show_line count ++ report pool ++ end_line
 
--- An answer in words; a look also shows its pool.
+-- An answer in words; a look also shows its pool. What a session is told of has no line: nobody is told of anything.
 abbrev pub answer_lines : PoolRecord → Answer → List ℕ
 answer_lines shown (Entered n) = entered_line n
 answer_lines shown (Published p) = published_line p
 answer_lines shown (Looked p) = show_block p shown
+answer_lines shown (Heard p) = []
 
 abbrev pub reply_lines : PoolRecord → Result Answer (StepFault Why) → List ℕ
 reply_lines shown (Ok answer) = answer_lines shown answer

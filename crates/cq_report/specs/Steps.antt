@@ -4,7 +4,6 @@ pub mod Put
 pub mod Left
 pub mod Writing
 pub mod Laws
-pub mod Floor
 pub mod Kept
 pub mod Serving
 pub mod Replay

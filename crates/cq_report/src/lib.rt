@@ -10,7 +10,7 @@
 #![tactic(auto)]
 
 mod fault;
-mod floor;
+mod happening;
 mod limits;
 mod line;
 mod machine;

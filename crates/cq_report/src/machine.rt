@@ -1,8 +1,7 @@
 //! The machine of a script, line by line.
 
 ghost use Rattle.std.specs.Prelude.{◌≡◌, ◌<◌, ◌^◌, OnOk, IfErr};
-ghost use Rattle.cq_desk.specs.declared.event.Event.{Event};
-ghost use Rattle.cq_board.specs.Edits.{Edit};
+ghost use Rattle.cq_desk.specs.declared.event.Event.TheVariants.{Enter};
 ghost use Rattle.cq_report.specs.declared.stage.Stage.TheVariants.{Serving};
 ghost use Rattle.cq_report.specs.Reading.{Reading, Reads, IsReading};
 ghost use Rattle.cq_report.specs.Machine.{begin_state, serving_of, declare, limit, happen, next, reply};
@@ -10,7 +9,7 @@ ghost use Rattle.cq_report.specs.Steps.Written.{Puts, Breaks, Fails};
 ghost use Rattle.cq_report.specs.Steps.Put.{Put};
 
 use crate::fault::RunFault;
-use crate::floor::Floor;
+use crate::happening::{BoardFloor, happen, open};
 use crate::output::Output;
 use crate::page::Page;
 use crate::reply::{catalog_line, fault_line, late_line, ok_line};
@@ -18,20 +17,24 @@ use crate::reporting::put_line;
 use crate::setup::Setup;
 use crate::stage::Stage;
 use cq_board::{Edit, EditKind, Limits};
+use cq_desk::Event;
 use cq_rel::CatalogFault;
 use cq_text::{Command, CommandKind, Sink, TextFault, read_command};
 use std::alloc::{AllocError, Allocator};
 use std::marker::Model;
 use std::mem;
 
+/// The number of the one session that a script has.
+const SESSION: usize = 0;
+
 /// What serves the next line: the setup of a script, and then its floor. Contracts see the state.
 #[derive(Drop)]
-pub(crate) struct Machine<A: Allocator> {
+pub(crate) struct Machine<A: Allocator + Copy> {
     alloc: A,
-    stage: Stage<Setup<A>, Floor<A>>,
+    stage: Stage<Setup<A>, BoardFloor<A>>,
 }
 
-impl<A: Allocator> Model for Machine<A> {
+impl<A: Allocator + Copy> Model for Machine<A> {
     ghost use Rattle.cq_report.specs.Machine.{State};
 
     ghost Value = { State };
@@ -97,10 +100,27 @@ impl<A: Allocator + Copy> Machine<A> {
     {
         if let Stage::Setup(setup) = &mut self.stage {
             let setup = mem::replace(setup, Setup::begin(self.alloc));
-            let floor = Floor::open(self.alloc, setup)?;
+            let floor = open(self.alloc, setup)?;
             mem::drop(mem::replace(&mut self.stage, Stage::Serving(floor)));
         }
         Ok(())
+    }
+
+    /// Answers an event of the session.
+    fn happen<W: Sink>(
+        &mut self,
+        event: Event<Edit<A>>,
+        output: &mut Output<'_, W, A>,
+    ) -> Result<(), RunFault>
+        requires { W.write_failures output.old.sink.now < 2 ^ 62 }
+        ensures state { OnOk result (self.new ≡ (happen self.old event).0) }
+        ensures put { Put W.taken W.write_failures output.old output.new (happen self.old event).1 result }
+    {
+        self.open()?;
+        match &mut self.stage {
+            Stage::Setup(_) => unreachable!(),
+            Stage::Serving(floor) => happen(self.alloc, floor, event, output),
+        }
     }
 
     /// Answers an edit.
@@ -110,40 +130,16 @@ impl<A: Allocator + Copy> Machine<A> {
         output: &mut Output<'_, W, A>,
     ) -> Result<(), RunFault>
         requires { W.write_failures output.old.sink.now < 2 ^ 62 }
-        ensures state { OnOk result (self.new ≡ (happen self.old (Event.Enter 0 edit)).0) }
-        ensures put { Put W.taken W.write_failures output.old output.new (happen self.old (Event.Enter 0 edit)).1 result }
+        ensures state { OnOk result (self.new ≡ (happen self.old (Enter 0 edit)).0) }
+        ensures put { Put W.taken W.write_failures output.old output.new (happen self.old (Enter 0 edit)).1 result }
     {
-        self.open()?;
-        match &mut self.stage {
-            Stage::Setup(_) => unreachable!(),
-            Stage::Serving(floor) => floor.enter(edit, output),
-        }
-    }
-
-    /// Answers a publish.
-    fn publish<W: Sink>(&mut self, output: &mut Output<'_, W, A>) -> Result<(), RunFault>
-        requires { W.write_failures output.old.sink.now < 2 ^ 62 }
-        ensures state { OnOk result (self.new ≡ (happen self.old Event.Publish).0) }
-        ensures put { Put W.taken W.write_failures output.old output.new (happen self.old Event.Publish).1 result }
-    {
-        self.open()?;
-        match &mut self.stage {
-            Stage::Setup(_) => unreachable!(),
-            Stage::Serving(floor) => floor.publish(output),
-        }
-    }
-
-    /// Answers a look.
-    fn show<W: Sink>(&mut self, output: &mut Output<'_, W, A>) -> Result<(), RunFault>
-        requires { W.write_failures output.old.sink.now < 2 ^ 62 }
-        ensures state { OnOk result (self.new ≡ (happen self.old (Event.Look 0)).0) }
-        ensures put { Put W.taken W.write_failures output.old output.new (happen self.old (Event.Look 0)).1 result }
-    {
-        self.open()?;
-        match &mut self.stage {
-            Stage::Setup(_) => unreachable!(),
-            Stage::Serving(floor) => floor.show(output),
-        }
+        self.happen(
+            Event::Enter {
+                author: SESSION,
+                edit,
+            },
+            output,
+        )
     }
 
     /// Answers a command.
@@ -164,8 +160,8 @@ impl<A: Allocator + Copy> Machine<A> {
             CommandKind::Withdraw { name } => self.enter(EditKind::Withdraw { name }, output),
             CommandKind::Insert { row } => self.enter(EditKind::Insert { row }, output),
             CommandKind::Delete { row } => self.enter(EditKind::Delete { row }, output),
-            CommandKind::Publish => self.publish(output),
-            CommandKind::Show => self.show(output),
+            CommandKind::Publish => self.happen(Event::Publish, output),
+            CommandKind::Show => self.happen(Event::Look { session: SESSION }, output),
         }
     }
 

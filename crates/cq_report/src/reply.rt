@@ -1,8 +1,7 @@
 //! Reply lines.
 
 ghost use Rattle.std.specs.Prelude.{◌≡◌, ◌++◌, codes, decimal, IfOk, string_bytes};
-ghost use Rattle.cq_report.specs.Reply.{kind_word, fault_line, refused_line, ok_line, late_line, catalog_line, part_word, why_words, published_line, show_line, end_line};
-ghost use Rattle.cq_report.specs.Steps.Floor.{edit_line};
+ghost use Rattle.cq_report.specs.Reply.{kind_word, fault_line, refused_line, ok_line, late_line, catalog_line, part_word, why_words, refusal_line, entered_line, published_line, show_line, end_line};
 
 use cq_atom::Part;
 use cq_board::Why;
@@ -103,20 +102,26 @@ fn why_line<A: Allocator>(alloc: A, reason: Why) -> Result<String<A>, AllocError
     }
 }
 
-/// The reply to an edit: the number of its entry, or why it is refused. The session of a script is
-/// there.
-pub(crate) fn edit_line<A: Allocator>(
+/// The reply to an event that is refused. The session of a script is there, and nobody is told of
+/// anything; want of memory ends the run.
+pub(crate) fn refusal_line<A: Allocator>(
     alloc: A,
-    answer: Result<u64, StepFault<Why>>,
+    refusal: StepFault<Why>,
 ) -> Result<String<A>, AllocError>
-    ensures { IfOk result (λ text. string_bytes text ≡ edit_line answer) }
+    ensures { IfOk result (λ text. string_bytes text ≡ refusal_line refusal) }
 {
-    match answer {
-        Ok(entry) => format!(in alloc; "ok {entry}\n"),
-        Err(StepFault::NoSession) => Ok(String::new(alloc)),
-        Err(StepFault::JournalFull) => word_line(alloc, "JournalFull"),
-        Err(StepFault::Not(reason)) => why_line(alloc, reason),
+    match refusal {
+        StepFault::JournalFull => word_line(alloc, "JournalFull"),
+        StepFault::Not(reason) => why_line(alloc, reason),
+        StepFault::NoSession | StepFault::Ahead | StepFault::NoMemory => Ok(String::new(alloc)),
     }
+}
+
+/// The reply to an edit: the number of its entry.
+pub(crate) fn entered_line<A: Allocator>(alloc: A, entry: u64) -> Result<String<A>, AllocError>
+    ensures { IfOk result (λ text. string_bytes text ≡ entered_line entry) }
+{
+    format!(in alloc; "ok {entry}\n")
 }
 
 /// The reply to a publish.

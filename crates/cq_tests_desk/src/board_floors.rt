@@ -2,29 +2,33 @@
 
 use cq_atom::{Atom, Bad, Name, Query, Row, Term, Value};
 use cq_board::{Board, Edit, EditKind, Limits, Why};
-use cq_desk::{Floor, FloorAnswer, FloorEvent, FloorRefusal};
+use cq_desk::{Answer, Event, Floor, StepFault, looks_never_fall};
 use cq_rel::Catalog;
 use std::alloc::Global;
 
 type BoardFloor = Floor<Board, Global>;
 
-type Answer = Result<FloorAnswer, FloorRefusal<Why>>;
+type Told = Result<Answer, StepFault<Why>>;
 
-/// A floor with one session over a board, which has one relation where that is asked.
-fn floor(alloc: Global, relation: bool, pool: usize, journal: usize) -> Option<BoardFloor> {
+/// A board of such a limit, with one relation where that is asked.
+pub fn board(alloc: Global, relation: bool, pool: usize) -> Option<Board> {
     let mut catalog = Catalog::empty(alloc);
     if relation && catalog.declare("Flights", 2).is_err() {
         return None;
     }
-    let limits = Limits { pool, journal: 9 };
-    match Board::begin(alloc, catalog, limits) {
-        Ok(board) => Floor::begin(alloc, board, journal, 1).ok(),
-        Err(_) => None,
+    Board::begin(alloc, catalog, Limits { pool, journal: 9 }).ok()
+}
+
+/// A floor with one session over such a board.
+fn floor(alloc: Global, relation: bool, pool: usize, journal: usize) -> Option<BoardFloor> {
+    match board(alloc, relation, pool) {
+        Some(board) => Floor::begin(alloc, board, journal, 1).ok(),
+        None => None,
     }
 }
 
 /// The list of that one.
-fn one<T: Drop>(alloc: Global, item: T) -> Result<Vec<T>, Bad> {
+pub fn one<T: Drop>(alloc: Global, item: T) -> Result<Vec<T>, Bad> {
     let mut list = Vec::new(alloc);
     list.push(item)?;
     Ok(list)
@@ -38,44 +42,44 @@ fn answer(alloc: Global) -> Result<Query, Bad> {
 }
 
 /// What the session enters so is answered so.
-fn enters(floor: &mut BoardFloor, edit: Result<Edit, Bad>, answer: Answer) -> bool {
+fn enters(floor: &mut BoardFloor, edit: Result<Edit, Bad>, answer: Told) -> bool {
     match edit {
-        Ok(edit) => floor.step(FloorEvent::Enter { author: 0, edit }) == answer,
+        Ok(edit) => floor.step(Event::Enter { author: 0, edit }) == answer,
         Err(_) => false,
     }
 }
 
-fn post(alloc: Global, name: &str, query: Result<Query, Bad>) -> Result<Edit, Bad> {
+pub fn post(alloc: Global, name: &str, query: Result<Query, Bad>) -> Result<Edit, Bad> {
     let query = query?;
     let name = Name::new(alloc, name)?;
     Ok(EditKind::Post { name, query })
 }
 
-fn looks(floor: &mut BoardFloor, session: usize, answer: Answer) -> bool {
-    floor.step(FloorEvent::Look { session }) == answer
+fn looks(floor: &mut BoardFloor, session: usize, answer: Told) -> bool {
+    floor.step(Event::Look { session }) == answer
 }
 
-fn hears(floor: &mut BoardFloor, count: u64, answer: Answer) -> bool {
-    floor.step(FloorEvent::Hear { session: 0, count }) == answer
+fn hears(floor: &mut BoardFloor, count: u64, answer: Told) -> bool {
+    floor.step(Event::Hear { session: 0, count }) == answer
 }
 
 fn publishes(floor: &mut BoardFloor, count: u64) -> bool {
-    floor.step(FloorEvent::Publish) == Ok(FloorAnswer::Published(count))
+    floor.step(Event::Publish) == Ok(Answer::Published(count))
 }
 
 fn takes_steps(alloc: Global, floor: &mut BoardFloor) -> bool {
-    looks(floor, 0, Ok(FloorAnswer::Looked(0)))
+    looks(floor, 0, Ok(Answer::Looked(0)))
         && enters(
             floor,
             post(alloc, "a", answer(alloc)),
-            Ok(FloorAnswer::Entered(1)),
+            Ok(Answer::Entered(1)),
         )
-        && looks(floor, 0, Ok(FloorAnswer::Looked(0)))
+        && looks(floor, 0, Ok(Answer::Looked(0)))
         && publishes(floor, 1)
-        && looks(floor, 0, Ok(FloorAnswer::Looked(1)))
-        && hears(floor, 2, Err(FloorRefusal::Ahead))
-        && hears(floor, 0, Ok(FloorAnswer::Heard(1)))
-        && looks(floor, 1, Err(FloorRefusal::NoSession))
+        && looks(floor, 0, Ok(Answer::Looked(1)))
+        && hears(floor, 2, Err(StepFault::Ahead))
+        && hears(floor, 0, Ok(Answer::Heard(1)))
+        && looks(floor, 1, Err(StepFault::NoSession))
 }
 
 #[test]
@@ -86,20 +90,44 @@ fn floor_steps(rt: HostRuntime) {
     }
 }
 
+/// The working board and the published one, and looks by their own call.
+fn shows_boards(alloc: Global, floor: &mut BoardFloor) -> bool {
+    enters(
+        floor,
+        post(alloc, "a", answer(alloc)),
+        Ok(Answer::Entered(1)),
+    ) && floor.working_board().len() == 1
+        && floor.published_board().len() == 0
+        && floor.look(0) == Some(0)
+        && publishes(floor, 1)
+        && floor.published_board().len() == 1
+        && floor.look(0) == Some(1)
+        && floor.look(1).is_none()
+}
+
+#[test]
+fn boards_and_looks(rt: HostRuntime) {
+    looks_never_fall::<Board>();
+    match floor(rt.alloc(), false, 9, 9) {
+        Some(mut floor) => assert!(rt; shows_boards(rt.alloc(), &mut floor)),
+        None => assert!(rt; false),
+    }
+}
+
 /// The journal's limit is met before the name that is taken.
 fn meets_journal_limit(alloc: Global, floor: &mut BoardFloor) -> bool {
     enters(
         floor,
         post(alloc, "a", answer(alloc)),
-        Ok(FloorAnswer::Entered(1)),
+        Ok(Answer::Entered(1)),
     ) && enters(
         floor,
         post(alloc, "b", answer(alloc)),
-        Ok(FloorAnswer::Entered(2)),
+        Ok(Answer::Entered(2)),
     ) && enters(
         floor,
         post(alloc, "a", answer(alloc)),
-        Err(FloorRefusal::JournalFull),
+        Err(StepFault::JournalFull),
     ) && publishes(floor, 2)
 }
 
@@ -108,11 +136,11 @@ fn meets_pool_limit(alloc: Global, floor: &mut BoardFloor) -> bool {
     enters(
         floor,
         post(alloc, "a", answer(alloc)),
-        Ok(FloorAnswer::Entered(1)),
+        Ok(Answer::Entered(1)),
     ) && enters(
         floor,
         post(alloc, "a", answer(alloc)),
-        Err(FloorRefusal::Not(Why::PoolFull)),
+        Err(StepFault::Not(Why::PoolFull)),
     )
 }
 
@@ -137,12 +165,12 @@ fn flight(alloc: Global, place: &str) -> Result<Row, Bad> {
     Row::new(alloc, "Flights", values)
 }
 
-fn insert(alloc: Global, place: &str) -> Result<Edit, Bad> {
+pub fn insert(alloc: Global, place: &str) -> Result<Edit, Bad> {
     let row = flight(alloc, place)?;
     Ok(EditKind::Insert { row })
 }
 
-fn delete(alloc: Global, place: &str) -> Result<Edit, Bad> {
+pub fn delete(alloc: Global, place: &str) -> Result<Edit, Bad> {
     let row = flight(alloc, place)?;
     Ok(EditKind::Delete { row })
 }
@@ -157,7 +185,7 @@ fn atom(alloc: Global, relation: &str, paris: bool) -> Result<Atom, Bad> {
 }
 
 /// The query `{} R(x) <- Flights(x, Paris)`.
-fn to_paris(alloc: Global) -> Result<Query, Bad> {
+pub fn to_paris(alloc: Global) -> Result<Query, Bad> {
     let heads = one(alloc, atom(alloc, "R", false)?)?;
     let body = one(alloc, atom(alloc, "Flights", true)?)?;
     Query::new(alloc, Vec::new(alloc), heads, body)
@@ -165,7 +193,7 @@ fn to_paris(alloc: Global) -> Result<Query, Bad> {
 
 /// Whether a look shows so many entries, a matched query, and so many groundings of it.
 fn shows(floor: &mut BoardFloor, name: &Name, count: u64, groundings: usize) -> bool {
-    looks(floor, 0, Ok(FloorAnswer::Looked(count)))
+    looks(floor, 0, Ok(Answer::Looked(count)))
         && floor.board().is_matched(name) == Some(true)
         && match floor.board().groundings(name) {
             Some(found) => found.count() == groundings,
@@ -174,15 +202,15 @@ fn shows(floor: &mut BoardFloor, name: &Name, count: u64, groundings: usize) -> 
 }
 
 fn publishes_groundings(alloc: Global, floor: &mut BoardFloor, name: &Name) -> bool {
-    enters(floor, insert(alloc, "Paris"), Ok(FloorAnswer::Entered(1)))
+    enters(floor, insert(alloc, "Paris"), Ok(Answer::Entered(1)))
         && enters(
             floor,
             post(alloc, "k", to_paris(alloc)),
-            Ok(FloorAnswer::Entered(2)),
+            Ok(Answer::Entered(2)),
         )
         && publishes(floor, 2)
-        && enters(floor, delete(alloc, "Paris"), Ok(FloorAnswer::Entered(3)))
-        && enters(floor, insert(alloc, "Rome"), Ok(FloorAnswer::Entered(4)))
+        && enters(floor, delete(alloc, "Paris"), Ok(Answer::Entered(3)))
+        && enters(floor, insert(alloc, "Rome"), Ok(Answer::Entered(4)))
         && shows(floor, name, 2, 1)
         && publishes(floor, 4)
         && shows(floor, name, 4, 0)

@@ -6,7 +6,7 @@ use cq_desk::{Desk, End, Plain, Reply, Submitted};
 use cq_rel::{Catalog, CatalogFault};
 use std::alloc::Global;
 
-type BoardDesk = Desk<Board, Plain<Board>>;
+pub type BoardDesk = Desk<Board, Plain<Board>>;
 
 /// A desk over a board with one relation.
 fn desk(alloc: Global) -> Result<BoardDesk, CatalogFault> {
@@ -20,7 +20,7 @@ fn desk(alloc: Global) -> Result<BoardDesk, CatalogFault> {
     over(alloc, board)
 }
 
-fn over(alloc: Global, board: Board) -> Result<BoardDesk, CatalogFault> {
+pub fn over(alloc: Global, board: Board) -> Result<BoardDesk, CatalogFault> {
     let working = board.copy()?;
     match Plain::begin(alloc, board) {
         Ok(publisher) => Ok(Desk::begin(alloc, working, publisher, 9)),

@@ -2,13 +2,13 @@
 
 use crate::growths::is_borne;
 use crate::tally::{Full, Tally};
-use cq_desk::{Floor, FloorAnswer, FloorEvent, FloorFault, FloorRefusal, NoMemory};
+use cq_desk::{Answer, Event, Floor, FloorFault, NoMemory, StepFault};
 use cq_tests_growths::{Outcome, Tried, refusals};
 use std::alloc::{Allocator, Global};
 
 type TallyFloor<A = Global> = Floor<Tally<A>, A>;
 
-type Answer = Result<FloorAnswer, FloorRefusal<Full>>;
+type Told = Result<Answer, StepFault<Full>>;
 
 /// A floor over an empty tally.
 fn floor<A: Allocator + Copy>(
@@ -32,16 +32,16 @@ fn sessions_from_1_to_16(rt: HostRuntime) {
     assert!(rt; fault(rt.alloc(), 17) == Some(FloorFault::Sessions));
 }
 
-fn enters<A: Allocator + Copy>(floor: &mut TallyFloor<A>, author: usize, edit: u8) -> Answer {
-    floor.step(FloorEvent::Enter { author, edit })
+fn enters<A: Allocator + Copy>(floor: &mut TallyFloor<A>, author: usize, edit: u8) -> Told {
+    floor.step(Event::Enter { author, edit })
 }
 
-fn hears(floor: &mut TallyFloor, session: usize, count: u64) -> Answer {
-    floor.step(FloorEvent::Hear { session, count })
+fn hears(floor: &mut TallyFloor, session: usize, count: u64) -> Told {
+    floor.step(Event::Hear { session, count })
 }
 
-fn looks(floor: &mut TallyFloor, session: usize) -> Answer {
-    floor.step(FloorEvent::Look { session })
+fn looks(floor: &mut TallyFloor, session: usize) -> Told {
+    floor.step(Event::Look { session })
 }
 
 /// Whether the working state has these bytes, and the published one those.
@@ -59,15 +59,15 @@ fn have_seen(floor: &TallyFloor, first: u64, second: u64) -> bool {
 
 /// Two sessions see apart from each other, and a look shows no more than is published.
 fn sees_apart(floor: &mut TallyFloor) -> bool {
-    enters(floor, 1, 5) == Ok(FloorAnswer::Entered(1))
-        && floor.step(FloorEvent::Publish) == Ok(FloorAnswer::Published(1))
-        && enters(floor, 0, 6) == Ok(FloorAnswer::Entered(2))
+    enters(floor, 1, 5) == Ok(Answer::Entered(1))
+        && floor.step(Event::Publish) == Ok(Answer::Published(1))
+        && enters(floor, 0, 6) == Ok(Answer::Entered(2))
         && stands(floor, &[5, 6], &[5])
-        && looks(floor, 1) == Ok(FloorAnswer::Looked(1))
+        && looks(floor, 1) == Ok(Answer::Looked(1))
         && have_seen(floor, 0, 1)
-        && hears(floor, 0, 2) == Err(FloorRefusal::Ahead)
-        && hears(floor, 0, 1) == Ok(FloorAnswer::Heard(1))
-        && hears(floor, 1, 0) == Ok(FloorAnswer::Heard(1))
+        && hears(floor, 0, 2) == Err(StepFault::Ahead)
+        && hears(floor, 0, 1) == Ok(Answer::Heard(1))
+        && hears(floor, 1, 0) == Ok(Answer::Heard(1))
         && have_seen(floor, 1, 1)
 }
 
@@ -81,12 +81,12 @@ fn two_sessions(rt: HostRuntime) {
 
 /// The tests in their order: the session, the count that is heard, the journal's limit, the state.
 fn refuses_in_order(floor: &mut TallyFloor) -> bool {
-    hears(floor, 1, 7) == Err(FloorRefusal::NoSession)
-        && enters(floor, 0, 1) == Ok(FloorAnswer::Entered(1))
-        && enters(floor, 0, 2) == Ok(FloorAnswer::Entered(2))
-        && enters(floor, 0, 3) == Ok(FloorAnswer::Entered(3))
-        && enters(floor, 1, 4) == Err(FloorRefusal::NoSession)
-        && looks(floor, 1) == Err(FloorRefusal::NoSession)
+    hears(floor, 1, 7) == Err(StepFault::NoSession)
+        && enters(floor, 0, 1) == Ok(Answer::Entered(1))
+        && enters(floor, 0, 2) == Ok(Answer::Entered(2))
+        && enters(floor, 0, 3) == Ok(Answer::Entered(3))
+        && enters(floor, 1, 4) == Err(StepFault::NoSession)
+        && looks(floor, 1) == Err(StepFault::NoSession)
         && stands(floor, &[1, 2, 3], &[])
 }
 
@@ -95,30 +95,30 @@ fn refusals_in_order(rt: HostRuntime) {
     match (floor(rt.alloc(), 3, 1), floor(rt.alloc(), 4, 1)) {
         (Ok(mut three), Ok(mut four)) => {
             assert!(rt; refuses_in_order(&mut three) && refuses_in_order(&mut four));
-            assert!(rt; enters(&mut three, 0, 4) == Err(FloorRefusal::JournalFull));
-            assert!(rt; enters(&mut four, 0, 4) == Err(FloorRefusal::Not(Full)));
+            assert!(rt; enters(&mut three, 0, 4) == Err(StepFault::JournalFull));
+            assert!(rt; enters(&mut four, 0, 4) == Err(StepFault::Not(Full)));
         }
         _ => assert!(rt; false),
     }
 }
 
 /// Enters two bytes, publishes and looks, a refused edit among them.
-fn events<A: Allocator + Copy>(alloc: A) -> Result<Vec<FloorEvent<u8>, A>, NoMemory> {
+fn events<A: Allocator + Copy>(alloc: A) -> Result<Vec<Event<u8>, A>, NoMemory> {
     let mut events = Vec::new(alloc);
-    events.push(FloorEvent::Enter { author: 0, edit: 5 })?;
-    events.push(FloorEvent::Enter { author: 9, edit: 7 })?;
-    events.push(FloorEvent::Enter { author: 0, edit: 6 })?;
-    events.push(FloorEvent::Publish)?;
-    events.push(FloorEvent::Look { session: 0 })?;
+    events.push(Event::Enter { author: 0, edit: 5 })?;
+    events.push(Event::Enter { author: 9, edit: 7 })?;
+    events.push(Event::Enter { author: 0, edit: 6 })?;
+    events.push(Event::Publish)?;
+    events.push(Event::Look { session: 0 })?;
     Ok(events)
 }
 
-const ANSWERS: [Answer; 5] = [
-    Ok(FloorAnswer::Entered(1)),
-    Err(FloorRefusal::NoSession),
-    Ok(FloorAnswer::Entered(2)),
-    Ok(FloorAnswer::Published(2)),
-    Ok(FloorAnswer::Looked(2)),
+const ANSWERS: [Told; 5] = [
+    Ok(Answer::Entered(1)),
+    Err(StepFault::NoSession),
+    Ok(Answer::Entered(2)),
+    Ok(Answer::Published(2)),
+    Ok(Answer::Looked(2)),
 ];
 
 struct Step;
@@ -135,9 +135,9 @@ impl Tried for Step {
 fn entered<A: Allocator + Copy>(floor: &mut TallyFloor<A>) -> Outcome {
     match enters(floor, 0, 5) {
         Ok(_) => published(floor),
-        Err(FloorRefusal::NoMemory) => Outcome::refused_if(
+        Err(StepFault::NoMemory) => Outcome::refused_if(
             stands(floor, &[], &[])
-                && enters(floor, 0, 5) == Ok(FloorAnswer::Entered(1))
+                && enters(floor, 0, 5) == Ok(Answer::Entered(1))
                 && stands(floor, &[5], &[]),
         ),
         Err(_) => Outcome::Wrong,
@@ -145,11 +145,11 @@ fn entered<A: Allocator + Copy>(floor: &mut TallyFloor<A>) -> Outcome {
 }
 
 fn published<A: Allocator + Copy>(floor: &mut TallyFloor<A>) -> Outcome {
-    match floor.step(FloorEvent::Publish) {
+    match floor.step(Event::Publish) {
         Ok(_) => Outcome::done_if(stands(floor, &[5], &[5])),
-        Err(FloorRefusal::NoMemory) => Outcome::refused_if(
+        Err(StepFault::NoMemory) => Outcome::refused_if(
             stands(floor, &[5], &[])
-                && floor.step(FloorEvent::Publish) == Ok(FloorAnswer::Published(1))
+                && floor.step(Event::Publish) == Ok(Answer::Published(1))
                 && stands(floor, &[5], &[5]),
         ),
         Err(_) => Outcome::Wrong,
@@ -168,10 +168,7 @@ impl Tried for Play {
 }
 
 /// What came of the events: all answers, or those of a front, and the bytes that this front leaves.
-fn played<A: Allocator + Copy>(
-    floor: &mut TallyFloor<A>,
-    events: Vec<FloorEvent<u8>, A>,
-) -> Outcome {
+fn played<A: Allocator + Copy>(floor: &mut TallyFloor<A>, events: Vec<Event<u8>, A>) -> Outcome {
     match floor.play(events) {
         Ok(answers) => {
             Outcome::done_if(
@@ -182,7 +179,7 @@ fn played<A: Allocator + Copy>(
     }
 }
 
-fn stopped<A: Allocator + Copy>(floor: &TallyFloor<A>, answers: &[Answer]) -> bool {
+fn stopped<A: Allocator + Copy>(floor: &TallyFloor<A>, answers: &[Told]) -> bool {
     match answers.len() {
         0 => stands(floor, &[], &[]),
         2 => stands(floor, &[5], &[]) && answers == &ANSWERS[..2],

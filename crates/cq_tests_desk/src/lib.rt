@@ -5,6 +5,8 @@
 #[cfg(test)]
 mod board_floors;
 #[cfg(test)]
+mod board_submits;
+#[cfg(test)]
 mod boards;
 #[cfg(test)]
 mod desks;

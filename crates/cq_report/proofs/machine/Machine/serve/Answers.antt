@@ -7,5 +7,5 @@ use Rattle.cq_report.proofs.machine.Machine.serve.Goals as goal
 
 pub returns-in-Publish-clause-put : goal.returns-in-Publish-clause-put
 returns-in-Publish-clause-put g c =
-    subst (λ (command : CommandContent). Put g.W.Sink.taken g.W.Sink.write_failures c.args.output.now c.publish.new.output (serve c.args.self.now (Reads command)).1 c.publish.result)
-    (sym c.in-Publish.is) c.publish.ensures.put
+    subst (λ (command : CommandContent). Put g.W.Sink.taken g.W.Sink.write_failures c.args.output.now c.happen.new.output (serve c.args.self.now (Reads command)).1 c.happen.result)
+    (sym c.in-Publish.is) c.happen.ensures.put

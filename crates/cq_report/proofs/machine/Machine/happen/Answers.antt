@@ -2,7 +2,7 @@ use Rattle.std.proofs.Common.{◌≡◌}
 use Rattle.std.proofs.lemmas.Result.{err_from_is_err_and}
 use Rattle.cq_report.specs.Machine.{serving_of}
 use Rattle.cq_report.proofs.Putting.{Putting-begin, Put-starved}
-use Rattle.cq_report.proofs.machine.Machine.enter.Goals as goal
+use Rattle.cq_report.proofs.machine.Machine.happen.Goals as goal
 
 pub returns-in_err-open-clause-put : goal.returns-in_err-open-clause-put
 returns-in_err-open-clause-put g c =
@@ -12,4 +12,4 @@ returns-in_err-open-clause-put g c =
 pub returns-clause-put : goal.returns-clause-put
 returns-clause-put g c =
     let now : c.in-Serving.floor ≡ serving_of c.args.self.now = cc (c.self.view_is, c.in-Serving.is, c.in_ok-open.ensures) in
-    rw (← now) c.enter.ensures.put
+    rw (← now) c.happen.ensures.put

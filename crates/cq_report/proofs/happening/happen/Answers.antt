@@ -1,0 +1,35 @@
+use Rattle.std.proofs.Common.{◌≡◌, ◌∙◌, ℕ, List, ap, sym, subst}
+use Rattle.std.specs.Prelude.{Ok, Err}
+use Rattle.cq_board.specs.Edits.{why, pool_after}
+use Rattle.cq_desk.specs.Machine.{answer_to}
+use Rattle.cq_report.specs.Reply.{refusal_line, answer_lines, reply_lines}
+use Rattle.cq_report.specs.Machine.{after, shown}
+use Rattle.cq_report.specs.Steps.Put.{Put}
+use Rattle.cq_report.proofs.Answering.{on_ok}
+use Rattle.cq_report.proofs.Refused.{refused_after, told_refusal}
+use Rattle.cq_report.proofs.happening.happen.Goals as goal
+
+pub returns-in-Ok : goal.returns-in-Ok
+returns-in-Ok g c =
+    let floor = c.args.floor.now in
+    let event = c.args.event in
+    let answer = c.in-Ok.answer in
+    let told : answer_to pool_after why floor.opening floor.limit floor.machine event ≡ Ok answer = c.in-Ok.ensures.answer in
+    let board : c.board.result.now ≡ shown (after floor event) = c.board.ensures ∙ ap shown c.in-Ok.ensures.ok in
+    record {
+      state = on_ok c.put_answer.result _ c.in-Ok.ensures.ok;
+      put = subst (λ (bytes : List ℕ). Put g.W.Sink.taken g.W.Sink.write_failures c.args.output.now c.put_answer.new.output bytes c.put_answer.result)
+      (ap (λ pool. answer_lines pool answer) board ∙ sym (ap (reply_lines (shown (after floor event))) told)) c.put_answer.ensures;
+    }
+
+pub returns-in_default : goal.returns-in_default
+returns-in_default g c =
+    let floor = c.args.floor.now in
+    let event = c.args.event in
+    let refusal = c.in-Err.refusal in
+    let told : answer_to pool_after why floor.opening floor.limit floor.machine event ≡ Err refusal = told_refusal _ refusal c.in_default.not-NoMemory c.in-Err.ensures.answer in
+    record {
+      state = on_ok c.put_line.result _ (c.in-Err.ensures.err ∙ sym (refused_after floor event refusal told));
+      put = subst (λ (bytes : List ℕ). Put g.W.Sink.taken g.W.Sink.write_failures c.args.output.now c.put_line.new.output bytes c.put_line.result)
+      (sym (ap (reply_lines (shown (after floor event))) told)) (c.put_line.ensures (refusal_line refusal) c.refusal_line.ensures);
+    }

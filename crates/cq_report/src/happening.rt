@@ -1,0 +1,92 @@
+//! What happens on the floor of a script.
+
+ghost use Rattle.std.specs.Prelude.{◌≡◌, ◌<◌, ◌^◌, OnOk, IfOk};
+ghost use Rattle.cq_report.specs.Machine.{opened, after, told};
+ghost use Rattle.cq_report.specs.Reply.{show_block, answer_lines};
+ghost use Rattle.cq_report.specs.Steps.Put.{Put};
+
+use crate::fault::RunFault;
+use crate::output::Output;
+use crate::page::Page;
+use crate::reply::{end_line, entered_line, published_line, refusal_line, show_line};
+use crate::reporting::{put_line, put_report};
+use crate::setup::Setup;
+use cq_board::{Board, Edit};
+use cq_desk::{Answer, Event, Floor, StepFault};
+use cq_text::Sink;
+use std::alloc::{AllocError, Allocator};
+
+/// A floor over a board.
+pub(crate) type BoardFloor<A> = Floor<Board<A>, A>;
+
+/// How many sessions a script has. Its one session has the number 0.
+const SESSIONS: usize = 1;
+
+/// The floor that the setup opens. One session may be, so a floor that does not begin has met want
+/// of memory.
+pub(crate) fn open<A: Allocator + Copy>(
+    alloc: A,
+    setup: Setup<A>,
+) -> Result<BoardFloor<A>, AllocError>
+    ensures { IfOk result (λ floor. floor ≡ opened setup) }
+{
+    let (catalog, limits) = setup.into_parts();
+    let board = Board::begin(alloc, catalog, limits)?;
+    match Floor::begin(alloc, board, limits.journal, SESSIONS) {
+        Ok(floor) => Ok(floor),
+        Err(_) => Err(AllocError),
+    }
+}
+
+/// Puts what a look shows: the count, the report on the board, and an end.
+fn put_shown<W: Sink, A: Allocator + Copy>(
+    alloc: A,
+    board: &Board<A>,
+    count: u64,
+    output: &mut Output<'_, W, A>,
+) -> Result<(), RunFault>
+    requires { W.write_failures output.old.sink.now < 2 ^ 62 }
+    ensures { Put W.taken W.write_failures output.old output.new (show_block count board.now) result }
+{
+    put_line(show_line(alloc, count), output)?;
+    put_report(alloc, board, output)?;
+    output.put_text(end_line())
+}
+
+/// Puts an answer; a look also shows the board. Nobody is told of anything.
+fn put_answer<W: Sink, A: Allocator + Copy>(
+    alloc: A,
+    board: &Board<A>,
+    answer: Answer,
+    output: &mut Output<'_, W, A>,
+) -> Result<(), RunFault>
+    requires { W.write_failures output.old.sink.now < 2 ^ 62 }
+    ensures { Put W.taken W.write_failures output.old output.new (answer_lines board.now answer) result }
+{
+    match answer {
+        Answer::Entered(entry) => put_line(entered_line(alloc, entry), output),
+        Answer::Published(count) => put_line(published_line(alloc, count), output),
+        Answer::Looked(count) => put_shown(alloc, board, count, output),
+        Answer::Heard(_) => Ok(()),
+    }
+}
+
+/// Takes an event of the session, and puts the reply.
+pub(crate) fn happen<W: Sink, A: Allocator + Copy>(
+    alloc: A,
+    floor: &mut BoardFloor<A>,
+    event: Event<Edit<A>>,
+    output: &mut Output<'_, W, A>,
+) -> Result<(), RunFault>
+    requires { W.write_failures output.old.sink.now < 2 ^ 62 }
+    ensures state { OnOk result (floor.new ≡ after floor.old event) }
+    ensures put { Put W.taken W.write_failures output.old output.new (told floor.old event) result }
+{
+    match floor.step(event) {
+        Ok(answer) => put_answer(alloc, floor.board(), answer, output),
+        Err(refusal) => match refusal {
+            StepFault::NoMemory => Err(RunFault::NoMemory),
+            _ => put_line(refusal_line(alloc, refusal), output),
+        },
+    }
+}
