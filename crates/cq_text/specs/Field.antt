@@ -28,6 +28,6 @@ number_of_field (b ∷ bs) =
 -- The value that a field stands for: that number, else the text of its bytes; none where they are no text.
 abbrev pub value_of_field : List ℕ → Option ValueContent
 value_of_field field = elim (number_of_field field) [
-    | Some n ↦ Some (Number n)
-    | None ↦ (if is_text field then Some (Text field) else None)
-  ]
+  | Some n ↦ Some (Number n)
+  | None ↦ (if is_text field then Some (Text field) else None)
+]
