@@ -1,6 +1,6 @@
 -- The records of a text, and the faults of records.
-use Rattle.std.proofs.Common.{◌≡◌, ◌≤◌, ◌<◌, ℕ, ◌+◌, ◌-◌, suc, zero, List, [], ◌∷◌, ◌++◌, length, take, filter_map, Option, Some, None, Bool, true, false, refl, ap, ◌∙◌, append_assoc, arith, length-append}
-use Rattle.std.specs.Prelude.{if◌then◌else◌, ◌&&◌, Ok}
+use Rattle.std.proofs.Common.{◌≡◌, ◌≤◌, ◌<◌, ℕ, ◌+◌, ◌-◌, suc, zero, List, [], ◌∷◌, ◌++◌, length, take, filter_map, Option, Some, None, Bool, true, false, refl, ap, ◌∙◌, append_assoc, arith, length-append, subst, sym}
+use Rattle.std.specs.Prelude.{if◌then◌else◌, ◌&&◌, Ok, Err, Result, IfOk, IfErr, IfSome}
 use Rattle.std.specs.List.{list_all, enumerate_from, cons_option}
 use Rattle.std.proofs.lemmas.List.{append-nil}
 use Rattle.csv.specs.Machine.{Read, ends_at_end, field_after, fields_after, is_end, next_record, step}
@@ -12,6 +12,7 @@ use Rattle.csv.specs.declared.parser.State.TheVariants as st
 use Rattle.cq_atom.specs.Answer.{Answers}
 use Rattle.cq_atom.specs.Atom.{RowRecord}
 use Rattle.cq_atom.specs.declared.fault.Bad.{Bad}
+use Rattle.cq_text.specs.Device.{ReadWhole}
 use Rattle.cq_rel.specs.declared.fault.CsvFault.{CsvFault}
 use Rattle.cq_rel.specs.declared.fault.CsvFault.TheVariants.{BadName, BadArity, Device, Width, Text, NoMemory}
 use Rattle.cq_rel.specs.Csv.{CsvRecord, IfOfRecord, first_of, is_field, record_fault, records_fault}
@@ -245,3 +246,27 @@ module _ {V : Type 0} (h : List ℕ → Option V) (p : List ℕ → Bool) where
           on : (o : Option V) → filter_map h (l ++ (f ∷ [])) ≡ filter_map h l ++ (v ∷ []) → cons_option o (filter_map h (l ++ (f ∷ []))) ≡ cons_option o (filter_map h l) ++ (v ∷ [])
           on None e = e
           on (Some w) e = ap (λ (vs : List V). w ∷ vs) e
+
+-- ---- what was read
+
+-- what holds of all bytes that were read holds of the bytes that the source told
+of_input : (left left' : Option (List ℕ)) (bytes : List ℕ) (P : List ℕ → Type 0) → ReadWhole left left' bytes → P bytes → IfSome left P
+of_input None left' bytes P whole p = tt
+of_input (Some input) None bytes P whole p = absurd whole.read
+of_input (Some input) (Some rest) bytes P whole p =
+    let is : input ≡ bytes = whole.read ∙ ap (λ (r : List ℕ). bytes ++ r) whole.at_end ∙ append-nil bytes in
+    subst P (sym is) p
+
+module _ (left left' : Option (List ℕ)) (bytes : List ℕ) (whole : ReadWhole left left' bytes) where
+  pub rows_of_input : {V : Type 0} (r : Result V CsvFault) (Q : V → List ℕ → Type 0) → IfOk r (λ v. Q v bytes) → IfOk r (λ v. IfSome left (Q v))
+  rows_of_input (Ok v) Q h = of_input left left' bytes (Q v) whole h
+  rows_of_input (Err fault) Q h = tt
+
+  pub fault_of_input : {V : Type 0} (r : Result V CsvFault) (Q : CsvFault → List ℕ → Type 0) → IfErr r (λ fault. IfOfRecord fault (Q fault bytes)) → IfErr r (λ fault. IfOfRecord fault (IfSome left (Q fault)))
+  fault_of_input (Ok v) Q h = tt
+  fault_of_input (Err BadName) Q h = tt
+  fault_of_input (Err BadArity) Q h = tt
+  fault_of_input (Err (Device turn)) Q h = tt
+  fault_of_input (Err (Width index)) Q h = of_input left left' bytes (Q (Width index)) whole h
+  fault_of_input (Err (Text index)) Q h = of_input left left' bytes (Q (Text index)) whole h
+  fault_of_input (Err NoMemory) Q h = tt
