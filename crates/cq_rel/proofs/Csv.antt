@@ -4,7 +4,7 @@ use Rattle.std.specs.Prelude.{if◌then◌else◌, ◌&&◌, Ok, Err, Result, If
 use Rattle.std.specs.List.{list_all, enumerate_from, cons_option}
 use Rattle.std.proofs.lemmas.List.{append-nil}
 use Rattle.csv.specs.Machine.{Read, ends_at_end, field_after, fields_after, is_end, next_record, step}
-use Rattle.csv.specs.Reading.{Reached, records, records_from, strip_bom, is_bom}
+use Rattle.csv.specs.Reading.{AreRecords, Reached, records, records_from, records_next, strip_bom, is_bom}
 use Rattle.csv.specs.Records.{field_at}
 use Rattle.csv.specs.declared.parser.Config.{Config}
 use Rattle.csv.specs.declared.parser.State.{State}
@@ -115,6 +115,34 @@ are_all cfg xs rows s2 ys h none =
     let n : ℕ = (length xs + 1) - length rows in
     let count : length xs + 1 ≡ length rows + n = omega (arith, few) in
     begins_with cfg (length xs + 1) n st.StartRecord xs rows s2 ys count h ∙ ap (λ (l : List CsvRecord). rows ++ l) (none-more cfg n s2 ys none) ∙ append-nil rows
+
+-- all records, and none behind them
+joined : (cfg : Config) (n : ℕ) (s : State) (xs : List ℕ) (o : Option Read) → next_record cfg s [] [] xs ≡ o → ((p : Read) → next_record cfg s [] [] xs ≡ Some p → AreRecords cfg p.1 p.2 (records_from cfg n p.1 p.2))
+    → AreRecords cfg s xs (records_next (records_from cfg n) o)
+unfolding Reached
+joined cfg n s xs None e more = (s, xs, (refl, refl), e)
+joined cfg n s xs (Some p) e more =
+    let r = more p e in
+    (r.0, r.1, (p, e, refl, r.2), r.3)
+
+all_at_end : (cfg : Config) (n : ℕ) → AreRecords cfg st.StartRecord [] (records_from cfg n st.StartRecord [])
+unfolding Reached
+all_at_end cfg n = rw (none-more cfg n st.StartRecord [] (none-at-start cfg)) (st.StartRecord, [], (refl, refl), none-at-start cfg)
+
+all_behind : (cfg : Config) (n : ℕ) (s : State) (xs : List ℕ) → length xs ≤ n → ((s2 : State) (ys : List ℕ) → length ys < n → AreRecords cfg s2 ys (records_from cfg n s2 ys))
+    → (p : Read) → next_record cfg s [] [] xs ≡ Some p → AreRecords cfg p.1 p.2 (records_from cfg n p.1 p.2)
+all_behind cfg n s [] h all p e =
+    let left = last-left cfg s p e in
+    rw (left.0, left.1) (all_at_end cfg n)
+all_behind cfg n s (c ∷ rest) h all p e = all p.1 p.2 (omega (arith, h, few-left _ (length rest) p (shorter cfg s [] [] c rest) e))
+
+all_from : (cfg : Config) (n : ℕ) (s : State) (xs : List ℕ) → length xs < n → AreRecords cfg s xs (records_from cfg n s xs)
+unfolding records_from
+all_from cfg zero s xs h = let never : ⊥ = omega (arith, h) in absurd never
+all_from cfg (suc n) s xs h = joined cfg n s xs (next_record cfg s [] [] xs) refl (all_behind cfg n s xs (omega (arith, h)) (all_from cfg n))
+
+pub all_are : (cfg : Config) (xs : List ℕ) → AreRecords cfg st.StartRecord xs (records cfg xs)
+all_are cfg xs = all_from cfg (length xs + 1) st.StartRecord xs (omega arith)
 
 -- a record more
 reached_more : (cfg : Config) (s : State) (xs : List ℕ) (rows : List CsvRecord) (s2 : State) (ys : List ℕ) (q : Read) → Reached cfg s xs rows s2 ys → next_record cfg s2 [] [] ys ≡ Some q → Reached cfg s xs (rows ++ (q.0 ∷ [])) q.1 q.2
