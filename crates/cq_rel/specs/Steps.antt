@@ -1,3 +1,4 @@
--- What only private steps are stated with: how tables are kept.
+-- What only private steps are stated with: how tables are kept, and how CSV is read.
 pub mod Table
 pub mod Kept
+pub mod Csv

@@ -4,18 +4,24 @@
 //! `insert` and `delete` say the whole content that they leave, a refused call leaves it as it was,
 //! and `rows_of` shows the rows of one relation in order of their values, for a search in them.
 //!
+//! `read_csv` makes rows of CSV, as `specs/Csv` says which, and puts them into no table.
+//!
 //! Contracts see a catalog as the list of its `Declaration`s, and tables as a `TablesRecord`.
 //!
-//! Not here: rows from CSV, and which rows a query's body finds.
+//! Not here: which rows a query's body finds.
 #![tactic(auto)]
 
 mod catalog;
 mod fault;
 mod limits;
+mod reading;
+mod records;
 mod table;
 mod tables;
 
 pub use catalog::Catalog;
-pub use fault::{CatalogFault, RowFault};
+pub use fault::{CatalogFault, CsvFault, RowFault};
 pub use limits::MAX_RELATIONS;
+pub use reading::read_csv;
+pub use records::all_records;
 pub use tables::Tables;

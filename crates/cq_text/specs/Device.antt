@@ -1,6 +1,7 @@
 -- A device whose calls are counted, as contracts see it (this project's profile).
-use Rattle.std.specs.Prelude.{◌≡◌, ℕ, List, ◌++◌, Option}
-use Rattle.std.specs.Io.KnownBytes.{Appends}
+use Rattle.std.specs.Prelude.{◌≡◌, ℕ, ◌+◌, List, ◌++◌, Option, ◌⊎◌}
+use Rattle.std.specs.Io.KnownBytes.{Appends, Consumes, IsAtEnd}
+use Rattle.cq_text.specs.declared.limits.TheConstants.{MAX_READS}
 
 -- the device itself, the number of reads made of it, and the number of its calls that failed
 pub record CountedRecord (D : Type 0) : Type 0 where
@@ -14,3 +15,14 @@ pub record TakesFront (taken taken' : Option (List ℕ)) (bytes : List ℕ) : Ty
   pub rest : List ℕ
   pub took : Appends taken taken' front
   pub whole : front ++ rest ≡ bytes
+
+-- These are all the bytes that a reader had left, and it is at its end.
+pub record ReadWhole (left left' : Option (List ℕ)) (bytes : List ℕ) : Type 0 where
+  pub read : Consumes left left' bytes
+  pub at_end : IsAtEnd left'
+
+-- The turn is the number of the read that failed; or all the reads that a call may make were made, and the turn is one more.
+abbrev pub FailedAtTurn : (turn reads reads' failures failures' : ℕ) → Type 0
+FailedAtTurn turn reads reads' failures failures' =
+    ((reads' ≡ reads + turn) × (failures' ≡ failures + 1))
+    ⊎ ((turn ≡ MAX_READS + 1) × (reads' ≡ reads + MAX_READS) × (failures' ≡ failures))

@@ -1,5 +1,6 @@
 pub mod Token
 pub mod Lexing
+pub mod Field
 pub mod Grammar
 pub mod Fault
 pub mod Views

@@ -71,7 +71,8 @@ fn is_plain(digits: &[u8]) -> bool
     }
 }
 
-fn positive(digits: &[u8]) -> Option<i64>
+/// The number that digits alone are, where it is a good one.
+pub(crate) fn positive(digits: &[u8]) -> Option<i64>
     ensures { number_or_bad result ≡ positive digits.now }
 {
     let magnitude = magnitude(digits)?;
@@ -81,7 +82,8 @@ fn positive(digits: &[u8]) -> Option<i64>
     i64::try_from(magnitude).ok()
 }
 
-fn negative(digits: &[u8]) -> Option<i64>
+/// The number that digits are behind a minus, where it is a good one.
+pub(crate) fn negative(digits: &[u8]) -> Option<i64>
     ensures { number_or_bad result ≡ negative digits.now }
 {
     let magnitude = magnitude(digits)?;

@@ -4,6 +4,7 @@
 //! line is refused with its first fault, by kind and offset. `read_query` and `read_ground_atom` do the
 //! same with a query and with a row alone. `specs/Lexing` says which tokens a text
 //! has, `specs/Grammar` which of them stand for what, and `specs/Fault` which fault is the first.
+//! `read_field` reads a field of CSV as the value that `specs/Field` gives it.
 //! Bytes come from a `Source` and go to a `Sink`, which count their calls; `Counted` makes either of
 //! a device of std.
 //!
@@ -14,6 +15,7 @@ mod binding;
 mod command;
 mod counted;
 mod fault;
+mod field;
 mod lexing;
 mod limits;
 mod printing;
@@ -27,7 +29,8 @@ mod word;
 pub use command::{Command, CommandKind};
 pub use counted::Counted;
 pub use fault::{Kind, TextFault};
-pub use limits::{MAX_COUNT, MAX_LINE};
+pub use field::read_field;
+pub use limits::{MAX_COUNT, MAX_LINE, MAX_PIECE, MAX_READS};
 pub use printing::{print_atom, print_query, print_row, print_values};
 pub use reading::{one_reading, read_command, read_ground_atom, read_query};
 pub use sink::{Sink, write_all};

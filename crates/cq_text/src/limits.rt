@@ -5,3 +5,9 @@ pub const MAX_LINE: usize = 131_072;
 
 /// The most that `limits` may name, of pending queries and of journal entries.
 pub const MAX_COUNT: usize = 1_000_000;
+
+/// The most reads of one call that reads a source to its end.
+pub const MAX_READS: u32 = 1_048_576;
+
+/// The most bytes that one read of such a call asks for.
+pub const MAX_PIECE: usize = 4096;

@@ -38,7 +38,7 @@ fn content<A: Allocator>(alloc: A, bytes: &[u8]) -> Result<Option<(Vec<u8, A>, u
 }
 
 /// The text that bytes are, if they are one.
-fn text_of<A: Allocator>(alloc: A, bytes: &[u8]) -> Result<Option<Value<A>>, TextFault>
+pub(crate) fn text_of<A: Allocator>(alloc: A, bytes: &[u8]) -> Result<Option<Value<A>>, TextFault>
     ensures text { IfOk result (λ found. found ≡ text_of bytes.now) }
     ensures memory { IfErr result (λ fault. fault ≡ TextFault.NoMemory) }
 {

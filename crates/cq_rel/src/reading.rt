@@ -1,0 +1,123 @@
+//! Reads CSV from a source.
+
+ghost use Rattle.std.specs.Prelude.{◌≡◌, ◌<◌, ◌≤◌, ◌+◌, ◌^◌, [], None, Some, length, map, OnOk, IfOk, IfErr, IfSome, MatchResult};
+ghost use Rattle.std.specs.Io.KnownBytes.{IsAtEnd};
+ghost use Rattle.cq_text.specs.Device.{FailedAtTurn, ReadWhole};
+ghost use Rattle.cq_rel.specs.Csv.{IfOfCall, IfOfDevice, IfOfRecord, IsOfDevice, call_fault, csv_records, records_fault, row_of_record};
+
+use crate::fault::CsvFault;
+use crate::records::rows_of;
+use cq_atom::{MAX_ARITY, Row, is_relation_text};
+use cq_text::{MAX_PIECE, MAX_READS, Source};
+use std::alloc::{Allocator, Global};
+
+/// Reads pieces to the end, and adds them to the bytes. All that it works with is lent, so that no exit has
+/// anything to let go.
+fn read_pieces<A: Allocator, R: Source>(
+    piece: &mut [u8],
+    source: &mut R,
+    bytes: &mut Vec<u8, A>,
+) -> Result<(), CsvFault>
+    requires piece { 0 < length piece.old }
+    requires bytes { bytes.old.items ≡ [] }
+    requires reads { R.reads_made source.old < 2 ^ 62 }
+    requires failures { R.failures_met source.old < 2 ^ 62 }
+    ensures whole { OnOk result (ReadWhole (R.left source.old) (R.left source.new) bytes.new.items) }
+    ensures call { IfErr result (λ fault. IfOfCall fault ⊥) }
+    ensures record { IfErr result (λ fault. IfOfRecord fault ⊥) }
+    ensures turn { IfErr result (λ fault. IfOfDevice fault (λ turn. FailedAtTurn turn (R.reads_made source.old) (R.reads_made source.new) (R.failures_met source.old) (R.failures_met source.new))) }
+    ensures reads { R.reads_made source.new ≤ R.reads_made source.old + MAX_READS }
+    ensures failures { MatchResult result (λ _. R.failures_met source.new ≡ R.failures_met source.old) (λ fault. (IsOfDevice fault → ⊥) → R.failures_met source.new ≡ R.failures_met source.old) }
+{
+    for i in 0..MAX_READS {
+        let Ok(len) = source.read(piece) else {
+            return Err(CsvFault::Device {
+                turn: u64::from(i) + 1,
+            });
+        };
+        if len == 0 {
+            return Ok(());
+        }
+        bytes.extend_from_slice(&piece[..len])?;
+    }
+    Err(CsvFault::Device {
+        turn: u64::from(MAX_READS) + 1,
+    })
+}
+
+/// All bytes that the source has left.
+fn read_whole<A: Allocator, R: Source>(alloc: A, source: &mut R) -> Result<Vec<u8, A>, CsvFault>
+    requires reads { R.reads_made source.old < 2 ^ 62 }
+    requires failures { R.failures_met source.old < 2 ^ 62 }
+    ensures whole { IfOk result (λ bytes. ReadWhole (R.left source.old) (R.left source.new) bytes.items) }
+    ensures call { IfErr result (λ fault. IfOfCall fault ⊥) }
+    ensures record { IfErr result (λ fault. IfOfRecord fault ⊥) }
+    ensures turn { IfErr result (λ fault. IfOfDevice fault (λ turn. FailedAtTurn turn (R.reads_made source.old) (R.reads_made source.new) (R.failures_met source.old) (R.failures_met source.new))) }
+    ensures reads { R.reads_made source.new ≤ R.reads_made source.old + MAX_READS }
+    ensures failures { MatchResult result (λ _. R.failures_met source.new ≡ R.failures_met source.old) (λ fault. (IsOfDevice fault → ⊥) → R.failures_met source.new ≡ R.failures_met source.old) }
+{
+    let mut bytes = Vec::new(alloc);
+    let mut piece = [0u8; MAX_PIECE];
+    read_pieces(&mut piece, source, &mut bytes)?;
+    Ok(bytes)
+}
+
+/// Why nothing is read.
+fn call_fault(relation: &str, arity: usize) -> Option<CsvFault>
+    ensures { result ≡ call_fault relation.now arity }
+{
+    if !is_relation_text(relation) {
+        return Some(CsvFault::BadName);
+    }
+    if arity == 0 || arity > MAX_ARITY {
+        return Some(CsvFault::BadArity);
+    }
+    None
+}
+
+/// Reads CSV, and answers one row of the relation for each record, in order; doubles are rows as well.
+///
+/// All bytes are read first, by reads of up to 4,096 bytes, of which there are at most 1,048,576. Their
+/// records are those of the crate `csv` with its default settings, where no record is a header. The
+/// time is in proportion to the bytes. The bytes and the rows are on `alloc`; that crate keeps the
+/// record that it reads on `heap`.
+///
+/// # Errors
+///
+/// Before any read `BadName` unless the bytes are a name that begins with an upper-case letter, and then
+/// `BadArity` unless the arity is 1 to 8. `Device` tells the number, from 1, of the read that failed,
+/// and 1,048,577 where no read failed and none came to the end. Then the first record at fault is told, counted
+/// from 0: `Width` where the number of its fields is not the arity, else `Text` where a field is no
+/// value. `NoMemory` where a growth was refused.
+pub fn read_csv<A: Allocator + Copy, R: Source>(
+    alloc: A,
+    heap: Global,
+    source: &mut R,
+    relation: &str,
+    arity: usize,
+) -> Result<Vec<Row<A>, A>, CsvFault>
+    requires reads { R.reads_made source.old < 2 ^ 62 }
+    requires failures { R.failures_met source.old < 2 ^ 62 }
+
+    // A relation that cannot be is told before any read, and else never.
+    ensures refused { IfSome (call_fault relation.now arity) (λ fault. (result ≡ Err fault) × (source.new ≡ source.old)) }
+    ensures call { IfErr result (λ fault. IfOfCall fault (call_fault relation.now arity ≡ Some fault)) }
+
+    // Where the bytes are known, the rows of all records, or the fault of the first record at fault.
+    ensures rows { IfOk result (λ rows. IfSome (R.left source.old) (λ input. (records_fault arity (csv_records input) ≡ None) × (rows.items ≡ map (row_of_record relation.now) (csv_records input)))) }
+    ensures record { IfErr result (λ fault. IfOfRecord fault (IfSome (R.left source.old) (λ input. records_fault arity (csv_records input) ≡ Some fault))) }
+
+    // Either is told at the end of the bytes.
+    ensures end { MatchResult result (λ _. IsAtEnd (R.left source.new)) (λ fault. IfOfRecord fault (IsAtEnd (R.left source.new))) }
+
+    // Whose fault it was.
+    ensures turn { IfErr result (λ fault. IfOfDevice fault (λ turn. FailedAtTurn turn (R.reads_made source.old) (R.reads_made source.new) (R.failures_met source.old) (R.failures_met source.new))) }
+    ensures reads { R.reads_made source.new ≤ R.reads_made source.old + MAX_READS }
+    ensures read_failures { MatchResult result (λ _. R.failures_met source.new ≡ R.failures_met source.old) (λ fault. (IsOfDevice fault → ⊥) → R.failures_met source.new ≡ R.failures_met source.old) }
+{
+    if let Some(fault) = call_fault(relation, arity) {
+        return Err(fault);
+    }
+    let bytes = read_whole(alloc, source)?;
+    rows_of(alloc, heap, bytes.as_slice(), relation, arity)
+}

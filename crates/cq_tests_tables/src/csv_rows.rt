@@ -1,0 +1,219 @@
+//! Rows from CSV: worked texts, each fault, failing and endless sources, and each growth refused in turn.
+
+use cq_atom::Row;
+use cq_refusing::Refusing;
+use cq_rel::{CsvFault, all_records, read_csv};
+use cq_text::{Counted, print_row};
+use std::alloc::{AllocError, Allocator, Global};
+use std::io::{self, ErrorKind, Read};
+use std::mem;
+
+/// 255 bytes.
+const LONG: &[u8; 255] =
+    b"aaaaaaaaaaaaaaaaaaaaaaaaaaaaaaaaaaaaaaaaaaaaaaaaaaaaaaaaaaaaaaaaaaaaaaaaaaaaaaaaaaaaaaaaaaaaaaaaaaaaaaaaaaaaaaaaaaaaaaaaaaaaaaaaaaaaaaaaaaaaaaaaaaaaaaaaaaaaaaaaaaaaaaaaaaaaaaaaaaaaaaaaaaaaaaaaaaaaaaaaaaaaaaaaaaaaaaaaaaaaaaaaaaaaaaaaaaaaaaaaaaaaaaaaaaaaaaa";
+
+/// Whether each row is printed so.
+fn are_printed<A: Allocator + Copy>(
+    alloc: A,
+    rows: &[Row<A>],
+    printed: &[&str],
+) -> Result<bool, AllocError> {
+    for (row, printed) in rows.iter().zip(printed) {
+        if print_row(alloc, row)?.as_str() != *printed {
+            return Ok(false);
+        }
+    }
+    Ok(rows.len() == printed.len())
+}
+
+/// Whether CSV over `T` gives rows that are printed so.
+fn gives(heap: Global, text: &[u8], arity: usize, printed: &[&str]) -> bool {
+    match read_csv(heap, heap, &mut Counted::new(text), "T", arity) {
+        Ok(rows) => are_printed(heap, &rows, printed) == Ok(true),
+        Err(_) => false,
+    }
+}
+
+#[test]
+fn csv_to_inserts(rt: HostRuntime) {
+    // Each text has these records and no others.
+    all_records();
+    for (text, arity, printed) in [
+        (
+            b"122,Paris\n\"123\",\"Pa\"\"ris\"\n007,\n".as_slice(),
+            2,
+            [
+                r#"T(122, "Paris")"#,
+                r#"T(123, "Pa\"ris")"#,
+                r#"T("007", "")"#,
+            ]
+            .as_slice(),
+        ),
+        // Doubles, and each end of a record.
+        (
+            b"1\r2\r\n1\n3",
+            1,
+            ["T(1)", "T(2)", "T(1)", "T(3)"].as_slice(),
+        ),
+        // Empty lines are no records, and a line of a comma is one.
+        (
+            b"\n\r\n1,2\n\n\r,\n\n",
+            2,
+            ["T(1, 2)", r#"T("", "")"#].as_slice(),
+        ),
+        // A byte order mark in front is dropped, and another one is not.
+        (b"\xef\xbb\xbf1", 1, ["T(1)"].as_slice()),
+        (
+            b"\xef\xbb\xbf\xef\xbb\xbf1",
+            1,
+            ["T(\"\u{feff}1\")"].as_slice(),
+        ),
+        // No byte, one byte, quotes in the middle, commas in quotes, spaces, numbers at their ends.
+        (b"", 8, [].as_slice()),
+        (b"x", 1, [r#"T("x")"#].as_slice()),
+        (
+            b"a\"b\",\"c,d\", 1",
+            3,
+            [r#"T("a\"b\"", "c,d", " 1")"#].as_slice(),
+        ),
+        (
+            b"-9223372036854775808,9223372036854775807,-0,9223372036854775808,-,0,1-2,00",
+            8,
+            [
+                r#"T(-9223372036854775808, 9223372036854775807, "-0", "9223372036854775808", "-", 0, "1-2", "00")"#,
+            ].as_slice(),
+        ),
+    ] {
+        assert!(rt; gives(rt.alloc(), text, arity, printed), "{text:?}");
+    }
+}
+
+/// Why CSV gives no rows, if it gives none.
+fn fault_of(heap: Global, text: &[u8], relation: &str, arity: usize) -> Option<CsvFault> {
+    read_csv(heap, heap, &mut Counted::new(text), relation, arity).err()
+}
+
+#[test]
+fn csv_faults(rt: HostRuntime) {
+    for (text, arity, fault) in [
+        (
+            b"a,b\nc\n".as_slice(),
+            2,
+            Some(CsvFault::Width { index: 1 }),
+        ),
+        (b"\xff\n", 1, Some(CsvFault::Text { index: 0 })),
+        (b"\xff,b\n", 1, Some(CsvFault::Width { index: 0 })),
+        (b"\xff\na,b", 1, Some(CsvFault::Text { index: 0 })),
+        (b"\"a\nb\",1", 2, Some(CsvFault::Text { index: 0 })),
+        (b"1,2\n3,\x7f\n4", 2, Some(CsvFault::Text { index: 1 })),
+        (b"1,2,3,4,5,6,7,8", 8, None),
+        (b"1,2,3,4,5,6,7,8,9", 8, Some(CsvFault::Width { index: 0 })),
+        (LONG, 1, None),
+        (b"", 1, None),
+        (b"", 0, Some(CsvFault::BadArity)),
+        (b"", 9, Some(CsvFault::BadArity)),
+    ] {
+        assert!(rt; fault_of(rt.alloc(), text, "T", arity) == fault, "{text:?}");
+    }
+    assert!(rt; fault_of(rt.alloc(), b"\xff", "t", 0) == Some(CsvFault::BadName));
+}
+
+/// Whether a text of a byte more than a text may have is no value.
+fn is_too_long(heap: Global) -> Result<bool, AllocError> {
+    let mut text = Vec::new(heap);
+    text.extend_from_slice(LONG)?;
+    text.push(b'a')?;
+    Ok(fault_of(heap, &text, "T", 1) == Some(CsvFault::Text { index: 0 }))
+}
+
+#[test]
+fn csv_text_of_256_bytes(rt: HostRuntime) {
+    assert!(rt; is_too_long(rt.alloc()) == Ok(true));
+}
+
+/// Gives one byte a read, and fails at one of the reads, and at a read into room for other than 4,096 bytes.
+#[derive(Drop)]
+struct Failing<'a> {
+    rest: &'a [u8],
+    good: u64,
+}
+
+impl<'a> Read for Failing<'a> {
+    fn read(&mut self, buf: &mut [u8]) -> io::Result<usize> {
+        if self.good == 0 || buf.len() != 4096 {
+            return Err(ErrorKind::TimedOut.into());
+        }
+        self.good -= 1;
+        let count = self.rest.len().min(buf.len()).min(1);
+        let (front, rest) = self.rest.split_at(count);
+        buf[..count].copy_from_slice(front);
+        self.rest = rest;
+        Ok(count)
+    }
+}
+
+/// The answer where so many reads are good.
+fn failing_at(heap: Global, good: u64) -> Option<CsvFault> {
+    let mut source = Counted::new(Failing {
+        rest: b"a,b\nc",
+        good,
+    });
+    read_csv(heap, heap, &mut source, "T", 2).err()
+}
+
+#[test]
+fn csv_reads_that_fail(rt: HostRuntime) {
+    for good in 0..6 {
+        let told = failing_at(rt.alloc(), good);
+        assert!(rt; told == Some(CsvFault::Device { turn: good + 1 }), "{good}");
+    }
+    assert!(rt; failing_at(rt.alloc(), 6) == Some(CsvFault::Width { index: 1 }));
+}
+
+/// Gives a line feed at each read.
+#[derive(Drop)]
+struct Endless;
+
+impl Read for Endless {
+    fn read(&mut self, buf: &mut [u8]) -> io::Result<usize> {
+        if buf.is_empty() {
+            return Ok(0);
+        }
+        buf[0] = b'\n';
+        Ok(1)
+    }
+}
+
+#[test]
+fn endless_reader(rt: HostRuntime) {
+    let told = read_csv(rt.alloc(), rt.alloc(), &mut Counted::new(Endless), "T", 1);
+    assert!(rt; told.err() == Some(CsvFault::Device { turn: 1_048_577 }));
+}
+
+const WORKED: &[u8] = b"122,Paris\n\"123\",\"Pa\"\"ris\"\n007,\n";
+
+/// Whether the worked text is read on the allocator; else whether memory was wanting.
+fn is_read<A: Allocator + Copy>(alloc: A, heap: Global) -> Result<bool, CsvFault> {
+    let rows = read_csv(alloc, heap, &mut Counted::new(WORKED), "T", 2)?;
+    let count = rows.len();
+    mem::drop(rows);
+    Ok(count == 3)
+}
+
+/// How many growths of reading the worked text can be refused, each of which is told as want of memory.
+fn refusals(heap: Global) -> Option<u64> {
+    for left in 0..64 {
+        let refusing = Refusing::new(heap, left);
+        match (is_read(&refusing, heap), refusing.has_refused()) {
+            (Ok(true), false) => return Some(left),
+            (Err(CsvFault::NoMemory), true) => {}
+            _ => return None,
+        }
+    }
+    None
+}
+
+#[test]
+fn refused_growth_in_csv(rt: HostRuntime) {
+    assert!(rt; matches!(refusals(rt.alloc()), Some(8..)));
+}
