@@ -170,7 +170,14 @@ fn keep(
 ) -> Result<bool, AllocError> {
     for _ in 0..30 {
         let text = drawn_row(alloc, draws)?;
-        let changed = change(alloc, query, tables, found, text.as_str(), &mut Meter::new());
+        let changed = change(
+            alloc,
+            query,
+            tables,
+            found,
+            text.as_str(),
+            &mut Meter::new(),
+        );
         if !changed || !are_all(alloc, query, tables, found) {
             return Ok(false);
         }
@@ -230,7 +237,9 @@ fn two_hundred_lists_of_changes(rt: HostRuntime) -> Result<(), Fail> {
 struct Gaining;
 
 const PATHS: &str = "{} R(x, z) <- T(x, y), T(y, z)";
+
 const PATH_ROWS: [&str; 2] = ["T(1, 2)", "T(3, 1)"];
+
 const LOOP: &str = "T(1, 1)";
 
 /// Whether a refused gain left the groundings as they were, and the same call then succeeds.
