@@ -5,6 +5,8 @@
 #[cfg(test)]
 mod catalogs;
 #[cfg(test)]
+mod changes;
+#[cfg(test)]
 mod csv_rows;
 #[cfg(test)]
 mod groundings;
