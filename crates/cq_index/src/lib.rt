@@ -1,0 +1,5 @@
+//! An index of atoms.
+#![tactic(auto)]
+
+mod buckets;
+mod key;
