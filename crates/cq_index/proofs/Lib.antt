@@ -1,1 +1,4 @@
 pub mod Changes
+pub mod Views
+pub mod Indexed
+pub mod Listed

@@ -1,6 +1,7 @@
 -- An index of atoms, and which of its atoms may unify with a given one. (this project's profile)
 use Rattle.std.specs.Prelude.{◌≡◌, ℕ, Bool, true, false, ◌&&◌, nat_eq, List, [], ◌∷◌, length, map, filter, Option, Some, None}
 use Rattle.std.specs.FinMap.{FinMap, entries, get}
+use Rattle.std.specs.Option.{option_map_or}
 use Rattle.std.specs.Ordering.{nat_cmp, int_eq}
 use Rattle.std.specs.Str.{bytes_eq}
 use Rattle.cq_atom.specs.declared.value.Content.TheVariants.{Number, Text}
@@ -37,6 +38,10 @@ may_agree (Some v) (Some w) = same_value v w
 -- The atom may unify with the given one, by relation, arity and first argument: a test of no more than these.
 abbrev pub is_candidate : AtomRecord → AtomRecord → Bool
 is_candidate given a = bytes_eq a.relation given.relation && (nat_eq (length a.terms) (length given.terms) && may_agree (first_constant a) (first_constant given))
+
+-- An atom at the place passes that test.
+abbrev pub is_candidate_at : AtomMap → AtomRecord → ℕ → Bool
+is_candidate_at index given place = option_map_or (is_candidate given) (get index place) false
 
 -- The places of the atoms that pass that test, rising.
 abbrev pub candidates_of : AtomMap → AtomRecord → List ℕ

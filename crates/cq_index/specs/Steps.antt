@@ -2,3 +2,4 @@
 pub mod Keys
 pub mod Buckets
 pub mod Same
+pub mod Kept

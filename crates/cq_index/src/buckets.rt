@@ -2,7 +2,7 @@
 
 ghost use Rattle.std.specs.Prelude.{◌≡◌, ℕ, false, nat_eq, IsTrue, OnOk, OnErr};
 ghost use Rattle.std.specs.List.{list_any, IsDistinct};
-ghost use Rattle.cq_index.specs.Steps.Buckets.{holds, Puts, Takes, Keeps};
+ghost use Rattle.cq_index.specs.Steps.Buckets.{holds, Puts, Takes, Keeps, IsNowhere, PutsBoth, TakesBoth};
 
 use crate::key::Key;
 use indexmap::{IndexMap, IndexSet};
@@ -73,6 +73,41 @@ pub fn take<A: Allocator + Copy>(buckets: &mut Buckets<A>, key: &Key<A>, place: 
     if take_place(buckets, key, place) {
         let _empty = buckets.swap_remove(key);
     }
+}
+
+/// Puts the place into the buckets of both keys, or into none.
+pub fn put_both<A: Allocator + Copy>(
+    alloc: A,
+    buckets: &mut Buckets<A>,
+    own: &Key<A>,
+    group: &Key<A>,
+    place: usize,
+) -> Result<(), AllocError>
+    requires { IsNowhere buckets.old.entries place }
+    ensures ok { OnOk result (PutsBoth buckets.old.entries own.now group.now place buckets.new.entries) }
+    ensures err { OnErr result (Keeps buckets.old.entries buckets.new.entries) }
+{
+    put(alloc, buckets, own, place)?;
+    match put(alloc, buckets, group, place) {
+        Ok(()) => Ok(()),
+        Err(refused) => {
+            take(buckets, own, place);
+            Err(refused)
+        }
+    }
+}
+
+/// Takes the place out of the buckets of both keys. Takes no memory.
+pub fn take_both<A: Allocator + Copy>(
+    buckets: &mut Buckets<A>,
+    own: &Key<A>,
+    group: &Key<A>,
+    place: usize,
+)
+    ensures { TakesBoth buckets.old.entries own.now group.now place buckets.new.entries }
+{
+    take(buckets, own, place);
+    take(buckets, group, place);
 }
 
 /// The places in the bucket of the key.

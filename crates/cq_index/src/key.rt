@@ -1,6 +1,6 @@
 //! The keys of buckets.
 
-ghost use Rattle.std.specs.Prelude.{◌≡◌, IfOk};
+ghost use Rattle.std.specs.Prelude.{◌≡◌, is_some, IfOk};
 ghost use Rattle.cq_index.specs.Index.{first_constant};
 ghost use Rattle.cq_index.specs.Steps.Keys.{first_of, key_of, open_of, group_of};
 
@@ -105,4 +105,11 @@ pub fn group_of<A: Allocator + Copy>(alloc: A, atom: &Atom<A>) -> Result<Key<A>,
     let relation = name_of(alloc, atom.relation())?;
     let arity = atom.terms().len();
     Ok(Key { relation, arity, first: First::Any })
+}
+
+/// Whether the atom begins with a constant.
+pub fn begins_with_constant<A: Allocator>(atom: &Atom<A>) -> bool
+    ensures { result ≡ is_some (first_constant atom.now) }
+{
+    atom.terms()[0].as_constant().is_some()
 }

@@ -2,4 +2,8 @@
 #![tactic(auto)]
 
 mod buckets;
+mod index;
+mod kept;
 mod key;
+
+pub use index::AtomIndex;

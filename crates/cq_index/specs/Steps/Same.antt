@@ -61,7 +61,7 @@ same_key-is k l h =
 pub same_key-refl : {A : Type 0} (k : Key A) → same_key k k ≡ true
 same_key-refl k = rw ((bytes_eq-Decides k.relation k.relation).1 refl, (Decides-eqb k.arity k.arity).1 refl, same_first-refl k.first) refl
 
-both_true : (a b : Bool) → (a ≡ true → b ≡ true) → (b ≡ true → a ≡ true) → a ≡ b
+pub both_true : (a b : Bool) → (a ≡ true → b ≡ true) → (b ≡ true → a ≡ true) → a ≡ b
 both_true true b f g = sym (f refl)
 both_true false true f g = g refl
 both_true false false f g = refl
