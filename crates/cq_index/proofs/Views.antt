@@ -64,3 +64,6 @@ module _ {A : Type 0} (es : List (ℕ × Kept A)) (m : FinMap nat_cmp AtomRecord
 
   pub present_at : (a : AtomRecord) → from_entries (map atom_entry es) ≡ m → get m p ≡ Some a → is_some (kept_at es p) ≡ true
   present_at a is some = sym is_some-atom_at ∙ ap is_some (sym (get-view es p) ∙ ap (λ n. get n p) is ∙ some)
+
+  pub present_here : from_entries (map atom_entry es) ≡ m → is_some (get m p) ≡ true → is_some (kept_at es p) ≡ true
+  present_here is some = sym is_some-atom_at ∙ ap is_some (sym (get-view es p) ∙ ap (λ n. get n p) is) ∙ some

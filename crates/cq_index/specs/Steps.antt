@@ -3,3 +3,4 @@ pub mod Keys
 pub mod Buckets
 pub mod Same
 pub mod Kept
+pub mod Picks

@@ -1,6 +1,6 @@
 //! The index.
 
-ghost use Rattle.std.specs.Prelude.{◌≡◌, ◌↔◌, ◌+◌, ℕ, nat_eq, Some, None, IsTrue, IfOk, OnOk, OnErr, length, min};
+ghost use Rattle.std.specs.Prelude.{◌≡◌, ◌↔◌, ◌+◌, ℕ, nat_eq, Some, None, IsSome, IsTrue, IfOk, OnOk, OnErr, length, min};
 ghost use Rattle.std.specs.FinMap as map;
 ghost use Rattle.std.specs.List.{Contains, list_any, IsDistinct};
 ghost use Rattle.std.specs.List.Sorted.{IsStrictlyIncreasing};
@@ -134,5 +134,49 @@ impl<A: Allocator + Copy> AtomIndex<A> {
         let mut places = self.gathered(*self.kept.allocator(), atom)?;
         places.sort_unstable();
         Ok(places)
+    }
+
+    /// Whether the atom at the place unifies with the given one: one test, which the meter counts.
+    fn unifies_at(&self, place: usize, atom: &Atom<A>, meter: &mut Meter) -> bool
+        requires { IsSome (map.get self.now place) }
+        ensures unifies { IsTrue result ↔ IsPartnerAt self.now atom.now place }
+        ensures ticks { meter.new ≡ min (meter.old + 1) u64.MAX }
+    {
+        let kept = self.kept.get(&place).unwrap();
+        unify(atom, &kept.atom, meter)
+    }
+
+    /// The places of the atoms that unify with the given one, rising. The meter counts one test for
+    /// each candidate.
+    ///
+    /// # Errors
+    /// `AllocError` where a growth was refused; the meter may have counted some tests then.
+    pub fn partners(&self, atom: &Atom<A>, meter: &mut Meter) -> Result<Vec<usize, A>, AllocError>
+        ensures exact { IfOk result (λ places. (p : ℕ) → Contains places.items p ↔ IsPartnerAt self.now atom.now p) }
+        ensures rising { IfOk result (λ places. IsStrictlyIncreasing places.items) }
+        ensures ticks { OnOk result (meter.new ≡ min (meter.old + length (candidates_of self.now atom.now)) u64.MAX) }
+    {
+        let candidates = self.candidates(atom)?;
+        let mut partners = Vec::new(*self.kept.allocator());
+        for place in &candidates {
+            if self.unifies_at(*place, atom, meter) {
+                partners.push(*place)?;
+            }
+        }
+        Ok(partners)
+    }
+
+    /// An index with the same atoms at the same places, on the same allocator.
+    ///
+    /// # Errors
+    /// `AllocError` where a growth was refused.
+    pub fn copy(&self) -> Result<AtomIndex<A>, AllocError>
+        ensures { IfOk result (λ copy. copy ≡ self.now) }
+    {
+        let mut copy = AtomIndex::begin(*self.kept.allocator());
+        for (place, kept) in &self.kept {
+            copy.add(*place, &kept.atom)?;
+        }
+        Ok(copy)
     }
 }
