@@ -7,3 +7,4 @@ pub mod Joined
 pub mod Gathered
 pub mod Picked
 pub mod Partners
+pub mod Copied

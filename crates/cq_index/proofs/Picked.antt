@@ -1,5 +1,7 @@
 -- What is picked from a rising list of candidates.
-use Rattle.std.proofs.Common.{◌≡◌, ◌↔◌, ◌⊎◌, ℕ, Bool, true, false, ◌||◌, nat_eq, List, [], ◌∷◌, ◌++◌, Contains, inl, inr, refl, sym, ap, subst, ◌∙◌}
+use Rattle.std.proofs.Common.{◌≡◌, ◌↔◌, ◌⊎◌, ℕ, ◌+◌, ◌<◌, ◌≤◌, length, drop, get_or, drop-cons, add-one, append_assoc, Bool, true, false, ◌||◌, nat_eq, List, [], ◌∷◌, ◌++◌, Contains, inl, inr, refl, sym, ap, subst, ◌∙◌}
+use Rattle.std.proofs.Math.ListN.{drop_of_length-le}
+use Rattle.std.proofs.lemmas.List.{append-nil}
 use Rattle.std.specs.List.{list_any, AllByRecursion}
 use Rattle.std.specs.List.Sorted.{IsStrictlySortedBy, IsStrictlyIncreasing}
 use Rattle.std.specs.Ordering.{nat_cmp}
@@ -46,3 +48,23 @@ module _ (P : ℕ → Type 0) where
   picked_exact xs ys picks all p =
       ((λ h. picked_in xs ys picks p (list_any-from_Contains nat_eq_equiv p ys h)),
        (λ is. Contains-from_any (λ x y. (Decides-eqb x y).0) p ys (in_picked xs ys picks p (all p is) is)))
+
+  -- ---- one more of the list
+
+  next_of : (xs : List ℕ) (i : ℕ) → i < length xs → drop i xs ≡ get_or xs i 0 ∷ drop (i + 1) xs
+  next_of xs i h = drop-cons xs i 0 h ∙ ap (λ k. get_or xs i 0 ∷ drop k xs) (sym (add-one i))
+
+  pub picks_pushed : (xs : List ℕ) (i : ℕ) (done after : List ℕ) → i < length xs → after ≡ done ++ get_or xs i 0 ∷ [] → P (get_or xs i 0)
+      → ((rest : List ℕ) → Picks P (drop i xs) rest → Picks P xs (done ++ rest)) → (rest : List ℕ) → Picks P (drop (i + 1) xs) rest → Picks P xs (after ++ rest)
+  picks_pushed xs i done after h pushed is so_far rest picks =
+      let here : Picks P (drop i xs) (get_or xs i 0 ∷ rest) = subst (λ l. Picks P l (get_or xs i 0 ∷ rest)) (sym (next_of xs i h)) (inl (is, rest, refl, picks)) in
+      subst (Picks P xs) (sym (ap (λ l. l ++ rest) pushed ∙ append_assoc done (get_or xs i 0 ∷ []) rest)) (so_far (get_or xs i 0 ∷ rest) here)
+
+  pub picks_passed : (xs : List ℕ) (i : ℕ) (done after : List ℕ) → i < length xs → after ≡ done → (P (get_or xs i 0) → ⊥)
+      → ((rest : List ℕ) → Picks P (drop i xs) rest → Picks P xs (done ++ rest)) → (rest : List ℕ) → Picks P (drop (i + 1) xs) rest → Picks P xs (after ++ rest)
+  picks_passed xs i done after h same is_not so_far rest picks =
+      let here : Picks P (drop i xs) rest = subst (λ l. Picks P l rest) (sym (next_of xs i h)) (inr (is_not, picks)) in
+      subst (λ l. Picks P xs (l ++ rest)) (sym same) (so_far rest here)
+
+  pub picks_end : (xs : List ℕ) (i : ℕ) (done : List ℕ) → length xs ≤ i → ((rest : List ℕ) → Picks P (drop i xs) rest → Picks P xs (done ++ rest)) → Picks P xs done
+  picks_end xs i done h so_far = subst (Picks P xs) (append-nil done) (so_far [] (subst (λ l. Picks P l []) (sym (drop_of_length-le xs h)) refl))

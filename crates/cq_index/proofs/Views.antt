@@ -28,7 +28,7 @@ pub nat_turned : (p q : ℕ) → eq_by_cmp nat_cmp p q ≡ nat_eq q p
 nat_turned p q = (eq_by_cmp_equiv nat_cmp_total).symm p q ∙ nat_tie q p
 
 module _ {A : Type 0} where
-  find-kept : (es : List (ℕ × Kept A)) (p : ℕ) → find nat_cmp p (map atom_entry es) ≡ atom_at es p
+  pub find-kept : (es : List (ℕ × Kept A)) (p : ℕ) → find nat_cmp p (map atom_entry es) ≡ atom_at es p
   find-kept [] p = refl
   find-kept (e ∷ es) p = rw (nat_tie p e.0) (by_bool (nat_eq p e.0) _
       (λ t. rw t refl)

@@ -156,6 +156,7 @@ impl<A: Allocator + Copy> AtomIndex<A> {
         ensures rising { IfOk result (λ places. IsStrictlyIncreasing places.items) }
         ensures ticks { OnOk result (meter.new ≡ min (meter.old + length (candidates_of self.now atom.now)) u64.MAX) }
     {
+        let _counted = meter.count();
         let candidates = self.candidates(atom)?;
         let mut partners = Vec::new(*self.kept.allocator());
         for place in &candidates {
