@@ -1,7 +1,6 @@
 -- What a change of one bucket changes.
-use Rattle.std.proofs.Common.{◌≡◌, ℕ, Bool, true, false, cond, ◌&&◌, ◌||◌, not, nat_eq, List, Option, Some, None, Result, Ok, Err, OnErr, refl, sym, ap, ◌∙◌}
+use Rattle.std.proofs.Common.{◌≡◌, ℕ, Bool, true, false, cond, ◌&&◌, ◌||◌, not, nat_eq, List, Option, Result, Ok, Err, OnErr, refl, sym, ap, ◌∙◌}
 use Rattle.std.specs.Map.{lookup}
-use Rattle.std.specs.HashSet.{contains}
 use Rattle.cq_index.specs.declared.key.Key.{Key}
 use Rattle.cq_index.specs.Steps.Keys.{same_key}
 use Rattle.std.proofs.lemmas.Bool.Decides.{Decides-eqb}

@@ -1,5 +1,5 @@
 -- A copy that is made place by place.
-use Rattle.std.proofs.Common.{◌≡◌, ℕ, Bool, true, false, nat_eq, List, [], ◌∷◌, ◌++◌, map, append_assoc, Option, Some, None, refl, sym, ap, subst, ◌∙◌}
+use Rattle.std.proofs.Common.{◌≡◌, ℕ, false, nat_eq, List, [], ◌∷◌, ◌++◌, map, None, refl, sym, ap, subst, ◌∙◌}
 use Rattle.std.specs.List.{AllByRecursion, IsDistinct}
 use Rattle.std.specs.Map.{keys_of}
 use Rattle.std.specs.Ordering.{nat_cmp}
@@ -7,10 +7,10 @@ use Rattle.std.specs.Cmp.{nat_eq_equiv}
 use Rattle.std.proofs.lemmas.Cmp.{nat_cmp_total}
 use Rattle.std.proofs.lemmas.List.{map-append}
 use Rattle.std.specs.Option.{option_map}
-use Rattle.std.specs.FinMap.{FinMap, from_entries, find, get, insert, get-from_entries, from_entries_push, nat_cmp-IsAntisymmetric}
+use Rattle.std.specs.FinMap.{FinMap, from_entries, find, get, insert, from_entries_push, nat_cmp-IsAntisymmetric}
 use Rattle.cq_atom.specs.Atom.{AtomRecord}
 use Rattle.cq_index.specs.declared.kept.Kept.{Kept}
-use Rattle.cq_index.specs.Steps.Kept.{atom_entry, kept_at, atom_at}
+use Rattle.cq_index.specs.Steps.Kept.{atom_entry, kept_at}
 use Rattle.cq_index.proofs.Views.{get-view, find-kept}
 
 module _ {A : Type 0} where

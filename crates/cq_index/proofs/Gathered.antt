@@ -1,5 +1,5 @@
 -- What the buckets give are the candidates.
-use Rattle.std.proofs.Common.{◌≡◌, ◌↔◌, ℕ, Bool, true, false, ◌||◌, nat_eq, List, map, Option, Some, None, Result, Ok, Err, IfOk, is_some, Contains, refl, sym, ap, ◌∙◌}
+use Rattle.std.proofs.Common.{◌≡◌, ◌↔◌, ℕ, true, false, ◌||◌, nat_eq, List, map, Option, Some, None, Result, Ok, Err, IfOk, is_some, Contains, refl, sym, ap, ◌∙◌}
 use Rattle.std.specs.List.{list_any, IsDistinct}
 use Rattle.std.specs.List.Sorted.{IsStrictlyIncreasing, IsSorted, IsPermutation}
 use Rattle.std.specs.Option.{option_map_or}

@@ -7,7 +7,7 @@ use Rattle.cq_index.specs.declared.key.Key.{Key}
 use Rattle.cq_index.specs.declared.kept.Kept.{Kept}
 use Rattle.cq_index.specs.Steps.Keys.{same_key, key_of, group_of}
 use Rattle.cq_index.specs.Steps.Buckets.{Bucket, holds, IsNowhere, PutsBoth, TakesBoth}
-use Rattle.cq_index.specs.Steps.Kept.{kept_at, atom_at, Sets, belongs, is_keyed, AreIndexed}
+use Rattle.cq_index.specs.Steps.Kept.{kept_at, Sets, belongs, is_keyed, AreIndexed}
 use Rattle.cq_index.specs.Steps.Same.{by_bool, same_key-refl}
 
 put_here : (b : Bool) → (b && true || false) ≡ b

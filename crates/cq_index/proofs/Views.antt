@@ -1,13 +1,12 @@
 -- What is kept, as the finite map from places to atoms that contracts see.
-use Rattle.std.proofs.Common.{◌≡◌, ℕ, Bool, true, false, cond, nat_eq, List, [], ◌∷◌, map, Option, Some, None, is_some, refl, sym, ap, ◌∙◌}
+use Rattle.std.proofs.Common.{◌≡◌, ℕ, true, cond, nat_eq, List, [], ◌∷◌, map, Option, Some, None, is_some, refl, sym, ap, ◌∙◌}
 use Rattle.std.specs.Option.{option_map}
 use Rattle.std.specs.Ordering.{nat_cmp, eq_by_cmp, is_eq}
 use Rattle.std.specs.declared.cmp.Ordering.{Ordering}
 use Rattle.std.specs.declared.cmp.Ordering.TheVariants.{Less, Equal, Greater}
 use Rattle.std.proofs.lemmas.Cmp.{nat_cmp_total, eq_by_cmp_equiv}
 use Rattle.std.proofs.lemmas.Bool.Decides.{Decides-eqb}
-use Rattle.std.specs.FinMap.{FinMap, from_entries, find, get, insert, remove, empty, same_map, get-from_entries, get-insert, get-remove, nat_cmp-IsAntisymmetric}
-use Rattle.std.specs.Map.{lookup}
+use Rattle.std.specs.FinMap.{FinMap, from_entries, find, get, insert, remove, same_map, get-from_entries, get-insert, get-remove, nat_cmp-IsAntisymmetric}
 use Rattle.cq_atom.specs.Atom.{AtomRecord}
 use Rattle.cq_index.specs.declared.kept.Kept.{Kept}
 use Rattle.cq_index.specs.Steps.Kept.{atom_entry, kept_at, atom_at, Sets}

@@ -1,5 +1,5 @@
 -- The keys of buckets.
-use Rattle.std.specs.Prelude.{ℕ, Bool, true, false, ◌&&◌, nat_eq, length, Option, Some, None}
+use Rattle.std.specs.Prelude.{Bool, true, false, ◌&&◌, nat_eq, length, Option, Some, None}
 use Rattle.std.specs.Str.{bytes_eq}
 use Rattle.cq_index.specs.declared.key.First.{First}
 use Rattle.cq_index.specs.declared.key.First.TheVariants.{Any, Variable, Constant}

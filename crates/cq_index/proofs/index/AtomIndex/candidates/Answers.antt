@@ -1,6 +1,5 @@
-use Rattle.std.proofs.Common.{◌≡◌, Contains, sym, subst}
+use Rattle.std.proofs.Common.{sym, subst}
 use Rattle.std.specs.List.Sorted.{IsStrictlyIncreasing}
-use Rattle.cq_index.specs.Index.{candidates_of, IsCandidateAt}
 use Rattle.cq_index.proofs.Gathered.{listed_sorted, candidates_exact, candidates_increase}
 use Rattle.cq_index.proofs.index.AtomIndex.candidates.Goals as goal
 

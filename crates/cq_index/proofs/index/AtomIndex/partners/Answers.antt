@@ -1,9 +1,8 @@
-use Rattle.std.proofs.Common.{◌≡◌, ◌↔◌, ℕ, true, nat_eq, List, IsTrue, Contains, refl, sym, ap, subst, ◌∙◌, arith}
+use Rattle.std.proofs.Common.{◌≡◌, nat_eq, sym, ap, subst, ◌∙◌, arith}
 use Rattle.std.specs.List.{list_any}
 use Rattle.std.specs.List.Sorted.{IsStrictlySortedBy}
 use Rattle.std.specs.Ordering.{nat_cmp}
 use Rattle.cq_index.specs.Index.{IsPartnerAt, candidates_of}
-use Rattle.cq_index.specs.Steps.Picks.{Picks}
 use Rattle.cq_index.proofs.Picked.{picked_exact, picked_increase, picks_pushed, picks_passed, picks_end}
 use Rattle.cq_index.proofs.Listed.{candidates_rising}
 use Rattle.cq_index.proofs.Partners.{partner_is_candidate, some_at, passed_over}

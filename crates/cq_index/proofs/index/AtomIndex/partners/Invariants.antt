@@ -1,5 +1,5 @@
 use Rattle.std.proofs.Common.{◌≡◌, ℕ, ◌+◌, min, List, ◌++◌, drop}
-use Rattle.cq_index.specs.Index.{IsPartnerAt, candidates_of}
+use Rattle.cq_index.specs.Index.{IsPartnerAt}
 use Rattle.cq_index.specs.Steps.Picks.{Picks}
 use Rattle.cq_index.proofs.index.AtomIndex.partners.Given as goal
 

@@ -1,8 +1,7 @@
-use Rattle.std.proofs.Common.{◌≡◌, Some, IsTrue, is_some, sym, ap, ◌∙◌}
+use Rattle.std.proofs.Common.{IsTrue, sym, ap, ◌∙◌}
 use Rattle.std.specs.Option.{option_copied}
-use Rattle.std.specs.FinMap.{get}
 use Rattle.cq_index.proofs.Partners.{some_copied, partner_at}
-use Rattle.cq_index.proofs.Views.{get-view, present_here}
+use Rattle.cq_index.proofs.Views.{present_here}
 use Rattle.cq_index.proofs.index.AtomIndex.unifies_at.Goals as goal
 
 pub unwrap-kept-requires : goal.unwrap-kept-requires
