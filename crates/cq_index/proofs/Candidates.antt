@@ -93,7 +93,7 @@ candidate_of given a h =
     record {
       relation = (bytes_eq-Decides a.relation given.relation).0 (and_left _ _ h);
       arity = (Decides-eqb (length a.terms) (length given.terms)).0 (and_left _ _ rest);
-      first = agree_of (first_constant a) (first_constant given) (and_right (nat_eq (length a.terms) (length given.terms)) _ rest)
+      first = agree_of (first_constant a) (first_constant given) (and_right (nat_eq (length a.terms) (length given.terms)) _ rest);
     }
 
 pub of_candidate : (given a : AtomRecord) → IsCandidate given a → is_candidate given a ≡ true

@@ -52,10 +52,11 @@ module _ (m : FinMap nat_cmp AtomRecord) (given : AtomRecord) where
 
   -- the list of candidates has exactly the places that the definition says, and rises
   pub candidates_exact : (p : ℕ) → Contains (candidates_of m given) p ↔ IsCandidateAt m given p
-  candidates_exact p =
-      ((λ h. let f = found (get m p) (sym (candidates_members m given p) ∙ list_any-from_Contains nat_eq_equiv p (candidates_of m given) h) in f),
-       (λ h. Contains-from_any (λ x y. (Decides-eqb x y).0) p (candidates_of m given)
-         (candidates_members m given p ∙ ap (λ o. option_map_or (is_candidate given) o false) h.1 ∙ of_candidate given h.0 h.2)))
+  candidates_exact p = (
+    (λ h. let f = found (get m p) (sym (candidates_members m given p) ∙ list_any-from_Contains nat_eq_equiv p (candidates_of m given) h) in f),
+    (λ h. Contains-from_any (λ x y. (Decides-eqb x y).0) p (candidates_of m given)
+        (candidates_members m given p ∙ ap (λ o. option_map_or (is_candidate given) o false) h.1 ∙ of_candidate given h.0 h.2)),
+  )
 
   pub candidates_increase : IsStrictlyIncreasing (candidates_of m given)
   candidates_increase = IsStrictlyIncreasing-from_sorted (candidates_of m given) (candidates_rising m given)

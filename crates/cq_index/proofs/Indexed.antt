@@ -51,13 +51,13 @@ module _ {A : Type 0} where
   indexed_kept old new b0 b2 place x indexed absent is becomes puts = record {
     keyed = keyed_of old new place (Some x) becomes is indexed.keyed;
     places = λ k p. by_bool (nat_eq place p) _
-      (λ t.
+        (λ t.
         let none : holds b0 k p ≡ false = ap (λ q. holds b0 k q) (sym ((Decides-eqb place p).0 t)) ∙ nowhere_of old b0 place indexed absent k in
         let after : belongs (kept_at new p) k ≡ (same_key x.own k || same_key x.group k) = ap (λ o. belongs o k) (becomes p) ∙ rw t refl in
         puts k p ∙ rw (t, none) (put_here (same_key x.own k || same_key x.group k)) ∙ sym after)
-      (λ f.
+        (λ f.
         let after : belongs (kept_at new p) k ≡ belongs (kept_at old p) k = ap (λ o. belongs o k) (becomes p) ∙ rw f refl in
-        puts k p ∙ rw f (put_there (same_key x.own k || same_key x.group k) (holds b0 k p)) ∙ indexed.places k p ∙ sym after)
+        puts k p ∙ rw f (put_there (same_key x.own k || same_key x.group k) (holds b0 k p)) ∙ indexed.places k p ∙ sym after);
   }
 
   pub indexed_forgotten : (old new : List (ℕ × Kept A)) (b0 b2 : List (Key A × Bucket)) (place : ℕ) (x : Kept A) → AreIndexed old b0 → kept_at old place ≡ Some x
@@ -65,13 +65,13 @@ module _ {A : Type 0} where
   indexed_forgotten old new b0 b2 place x indexed present becomes takes = record {
     keyed = keyed_of old new place None becomes refl indexed.keyed;
     places = λ k p. by_bool (nat_eq place p) _
-      (λ t.
+        (λ t.
         let here : holds b0 k p ≡ (same_key x.own k || same_key x.group k) = ap (λ q. holds b0 k q) (sym ((Decides-eqb place p).0 t)) ∙ indexed.places k place ∙ ap (λ o. belongs o k) present in
         let after : belongs (kept_at new p) k ≡ false = ap (λ o. belongs o k) (becomes p) ∙ rw t refl in
         takes k p ∙ rw (t, here) (taken_here (same_key x.own k || same_key x.group k)) ∙ sym after)
-      (λ f.
+        (λ f.
         let after : belongs (kept_at new p) k ≡ belongs (kept_at old p) k = ap (λ o. belongs o k) (becomes p) ∙ rw f refl in
-        takes k p ∙ rw f (taken_there (same_key x.own k || same_key x.group k) (holds b0 k p)) ∙ indexed.places k p ∙ sym after)
+        takes k p ∙ rw f (taken_there (same_key x.own k || same_key x.group k) (holds b0 k p)) ∙ indexed.places k p ∙ sym after);
   }
 
 pub keyed_made : {A : Type 0} (x : Kept A) (a : AtomRecord) → x.atom ≡ a → x.own ≡ key_of a → x.group ≡ group_of a → is_keyed (Some x) ≡ true
@@ -94,5 +94,5 @@ from_ok (Err y) x e h = absurd cc
 pub indexed_empty : {A : Type 0} (kept : List (ℕ × Kept A)) (buckets : List (Key A × Bucket)) → kept ≡ [] → buckets ≡ [] → AreIndexed kept buckets
 indexed_empty {A} kept buckets none empty = record {
   keyed = λ p. ap (λ (es : List (ℕ × Kept A)). is_keyed (kept_at es p)) none;
-  places = λ k p. ap (λ (bs : List (Key A × Bucket)). holds bs k p) empty ∙ sym (ap (λ (es : List (ℕ × Kept A)). belongs (kept_at es p) k) none)
+  places = λ k p. ap (λ (bs : List (Key A × Bucket)). holds bs k p) empty ∙ sym (ap (λ (es : List (ℕ × Kept A)). belongs (kept_at es p) k) none);
 }

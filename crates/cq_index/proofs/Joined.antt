@@ -29,13 +29,14 @@ unfolding IsDistinct
 distinct_joined [] ys a b apart = b
 distinct_joined (x ∷ xs) ys a b apart =
     let here : list_any (nat_eq x) (x ∷ xs) ≡ true = left_true (nat_eq x x) _ ((Decides-eqb x x).1 refl) in
-    let away : list_any (nat_eq x) ys ≡ false = by_bool (list_any (nat_eq x) ys) _ (λ t. absurd (apart x here t)) (λ f. f) in
-    (all_joined (λ y. nat_eq x y ≡ false) xs ys a.0 (all_apart x ys away),
-     distinct_joined xs ys a.1 b (λ p i j. apart p (right_true (nat_eq p x) _ i) j))
+    let away : list_any (nat_eq x) ys ≡ false = by_bool (list_any (nat_eq x) ys) _ (λ t. absurd (apart x here t)) (λ f. f) in (
+      all_joined (λ y. nat_eq x y ≡ false) xs ys a.0 (all_apart x ys away),
+      distinct_joined xs ys a.1 b (λ p i j. apart p (right_true (nat_eq p x) _ i) j),
+    )
 
 pub joins : (xs ys zs : List ℕ) (left right : ℕ → Bool) → zs ≡ xs ++ ys → ((p : ℕ) → list_any (nat_eq p) xs ≡ left p) → ((p : ℕ) → list_any (nat_eq p) ys ≡ right p)
     → IsDistinct nat_eq xs → IsDistinct nat_eq ys → Joins zs left right
 joins xs ys zs left right is in_xs in_ys a b = record {
   members = λ p. ap (list_any (nat_eq p)) is ∙ list_any-append (nat_eq p) xs ys ∙ (λ i. in_xs p i || in_ys p i);
-  distinct = λ apart. rw is (distinct_joined xs ys a b (λ p i j. apart p (sym (in_xs p) ∙ i) (sym (in_ys p) ∙ j)))
+  distinct = λ apart. rw is (distinct_joined xs ys a b (λ p i j. apart p (sym (in_xs p) ∙ i) (sym (in_ys p) ∙ j)));
 }

@@ -26,9 +26,10 @@ some_copied (Some x) o e h = refl
 pub partner_at : {A : Type 0} (es : List (ℕ × Kept A)) (m : FinMap nat_cmp AtomRecord) (p : ℕ) → from_entries (map atom_entry es) ≡ m → (x : Kept A) (given : AtomRecord) (Says : Type 0)
     → kept_at es p ≡ Some x → Says ↔ Unify given x.atom → Says ↔ IsPartnerAt m given p
 partner_at es m p is x given Says at says =
-    let here : get m p ≡ Some x.atom = sym (sym (get-view es p) ∙ ap (λ n. get n p) is) ∙ ap (option_map (λ y. y.atom)) at in
-    ((λ h. (x.atom, here, says.0 h)),
-     (λ k. let same : x.atom ≡ k.0 = (let e : Some x.atom ≡ Some k.0 = sym here ∙ k.1 in cc) in says.1 (subst (λ a. Unify given a) (sym same) k.2)))
+    let here : get m p ≡ Some x.atom = sym (sym (get-view es p) ∙ ap (λ n. get n p) is) ∙ ap (option_map (λ y. y.atom)) at in (
+      (λ h. (x.atom, here, says.0 h)),
+      (λ k. let same : x.atom ≡ k.0 = (let e : Some x.atom ≡ Some k.0 = sym here ∙ k.1 in cc) in says.1 (subst (λ a. Unify given a) (sym same) k.2)),
+    )
 
 -- ---- atoms that unify are candidates
 
@@ -46,7 +47,7 @@ candidate_from_unify given a u =
     record {
       relation = ap (λ (x : AtomRecord). x.relation) same;
       arity = sym (length-map a.terms (term_under u.right)) ∙ ap length terms ∙ length-map given.terms (term_under u.left);
-      first = heads u.right u.left a.terms given.terms terms
+      first = heads u.right u.left a.terms given.terms terms;
     }
 
 pub partner_is_candidate : (m : FinMap nat_cmp AtomRecord) (given : AtomRecord) (p : ℕ) → IsPartnerAt m given p → list_any (nat_eq p) (candidates_of m given) ≡ true

@@ -45,9 +45,10 @@ module _ (P : ℕ → Type 0) where
   picked_increase xs ys picks sorted = IsStrictlyIncreasing-from_sorted ys (picked_sorted xs ys picks sorted)
 
   pub picked_exact : (xs ys : List ℕ) → Picks P xs ys → ((p : ℕ) → P p → list_any (nat_eq p) xs ≡ true) → (p : ℕ) → Contains ys p ↔ P p
-  picked_exact xs ys picks all p =
-      ((λ h. picked_in xs ys picks p (list_any-from_Contains nat_eq_equiv p ys h)),
-       (λ is. Contains-from_any (λ x y. (Decides-eqb x y).0) p ys (in_picked xs ys picks p (all p is) is)))
+  picked_exact xs ys picks all p = (
+    (λ h. picked_in xs ys picks p (list_any-from_Contains nat_eq_equiv p ys h)),
+    (λ is. Contains-from_any (λ x y. (Decides-eqb x y).0) p ys (in_picked xs ys picks p (all p is) is)),
+  )
 
   -- ---- one more of the list
 

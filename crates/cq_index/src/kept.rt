@@ -53,11 +53,7 @@ pub fn keep<A: Allocator + Copy>(
 }
 
 /// Lets go of what is kept at the place. Takes no memory.
-pub fn forget<A: Allocator + Copy>(
-    places: &mut Places<A>,
-    buckets: &mut Buckets<A>,
-    place: usize,
-)
+pub fn forget<A: Allocator + Copy>(places: &mut Places<A>, buckets: &mut Buckets<A>, place: usize)
     requires indexed { AreIndexed places.old.entries buckets.old.entries }
     requires present { IsSome (kept_at places.old.entries place) }
     ensures indexed { AreIndexed places.new.entries buckets.new.entries }

@@ -86,7 +86,11 @@ pub fn key_of<A: Allocator + Copy>(alloc: A, atom: &Atom<A>) -> Result<Key<A>, A
     let relation = name_of(alloc, atom.relation())?;
     let first = first_of(atom)?;
     let arity = atom.terms().len();
-    Ok(Key { relation, arity, first })
+    Ok(Key {
+        relation,
+        arity,
+        first,
+    })
 }
 
 /// The key of the bucket for the atoms with the same relation and arity that begin with a variable.
@@ -95,7 +99,11 @@ pub fn open_of<A: Allocator + Copy>(alloc: A, atom: &Atom<A>) -> Result<Key<A>, 
 {
     let relation = name_of(alloc, atom.relation())?;
     let arity = atom.terms().len();
-    Ok(Key { relation, arity, first: First::Variable })
+    Ok(Key {
+        relation,
+        arity,
+        first: First::Variable,
+    })
 }
 
 /// The key of the bucket for the atoms with the same relation and arity.
@@ -104,7 +112,11 @@ pub fn group_of<A: Allocator + Copy>(alloc: A, atom: &Atom<A>) -> Result<Key<A>,
 {
     let relation = name_of(alloc, atom.relation())?;
     let arity = atom.terms().len();
-    Ok(Key { relation, arity, first: First::Any })
+    Ok(Key {
+        relation,
+        arity,
+        first: First::Any,
+    })
 }
 
 /// Whether the atom begins with a constant.

@@ -71,5 +71,5 @@ same_key_equiv {A} = record {
   symm = λ k l. both_true (same_key k l) (same_key l k)
       (λ t. ap (λ (m : Key A). same_key l m) (same_key-is k l t) ∙ same_key-refl l)
       (λ t. ap (λ (m : Key A). same_key k m) (same_key-is l k t) ∙ same_key-refl k);
-  congr = λ k l m t. ap (λ (x : Key A). same_key x m) (same_key-is k l t)
+  congr = λ k l m t. ap (λ (x : Key A). same_key x m) (same_key-is k l t);
 }

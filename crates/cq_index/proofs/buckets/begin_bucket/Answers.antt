@@ -9,7 +9,7 @@ use Rattle.cq_index.proofs.buckets.begin_bucket.Goals as goal
 pub returns-clause-ok : goal.returns-clause-ok
 returns-clause-ok g c =
     let changes : (k : Key g.row.A.Denot) → lookup (same_key k) c.insert-2.new.self.entries ≡ cond (same_key c.args.key.now k) (Some c.insert.new.self) (lookup (same_key k) c.args.buckets.now.entries)
-        = λ k. c.in_ok-insert-2.ensures.updates.0 k ∙ ap (λ (l : Key g.row.A.Denot). cond (same_key l k) (Some c.insert.new.self) (lookup (same_key k) c.args.buckets.now.entries)) c.in_ok-copy.ensures in
+    = λ k. c.in_ok-insert-2.ensures.updates.0 k ∙ ap (λ (l : Key g.row.A.Denot). cond (same_key l k) (Some c.insert.new.self) (lookup (same_key k) c.args.buckets.now.entries)) c.in_ok-copy.ensures in
     put_in c.args.buckets.now.entries c.insert-2.new.self.entries c.args.key.now c.args.place (Some c.insert.new.self) changes
     (λ p. c.in_ok-insert.ensures.updates.0 p ∙ cond_in (nat_eq c.args.place p) _
-        ∙ ap (λ b. nat_eq c.args.place p || b) (ap (λ s. list_any (nat_eq p) s) c.new-bucket.ensures.empty ∙ sym (c.requires p)))
+    ∙ ap (λ b. nat_eq c.args.place p || b) (ap (λ s. list_any (nat_eq p) s) c.new-bucket.ensures.empty ∙ sym (c.requires p)))

@@ -31,5 +31,5 @@ loop-place-preserved g c =
     record {
       done = now.done ++ item ∷ [];
       split = split ∙ sym (append_assoc now.done (item ∷ []) c.next.new.self);
-      made = copied_more c.loop-place.copy c.add.new.self now.done item c.next.new.self whole now.made split distinct c.in_ok-add.ensures.ok
+      made = copied_more c.loop-place.copy c.add.new.self now.done item c.next.new.self whole now.made split distinct c.in_ok-add.ensures.ok;
     }

@@ -8,5 +8,5 @@ abbrev pub invariant-loop-place : goal.invariant-loop-place
 invariant-loop-place g l = record {
   done : List (ℕ × Kept g.row.A.Denot);
   split : l.initial.place-iterator ≡ done ++ l.place-iterator;
-  made : l.copy ≡ from_entries (map atom_entry done)
+  made : l.copy ≡ from_entries (map atom_entry done);
 }

@@ -12,7 +12,7 @@ use Rattle.cq_index.proofs.index.AtomIndex.partners.Goals as goal
 pub loop-place-init : goal.loop-place-init
 loop-place-init g c = record {
   counted = (let fits = c.count-counted.type_inv in omega (arith, c.count-counted.ensures));
-  picks = λ rest h. rw c.new-partners.ensures.items h
+  picks = λ rest h. rw c.new-partners.ensures.items h;
 }
 
 pub unifies_at-requires : goal.unifies_at-requires
@@ -27,7 +27,7 @@ loop-place-preserved g c = record {
         c.loop-place-test.true (ap (λ v. v.items) w.partners-is ∙ w.in_ok-push.ensures.items) (c.unifies_at.ensures.unifies.0 w.if-unifies_at.true) c.loop-place.invariant.picks
     | else-unifies_at w ↦ picks_passed (IsPartnerAt c.args.self.now c.args.atom.now) c.deref-place-items.result.now c.loop-place.place-index c.loop-place.partners.items c.if-unifies_at.partners.items
         c.loop-place-test.true (ap (λ v. v.items) w.partners-is) (passed_over c.unifies_at.result c.unifies_at.ensures.unifies w.if-unifies_at.false) c.loop-place.invariant.picks
-  ]
+  ];
 }
 
 pub returns-clause-exact : goal.returns-clause-exact
