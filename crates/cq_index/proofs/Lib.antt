@@ -1,0 +1,10 @@
+pub mod Changes
+pub mod Views
+pub mod Indexed
+pub mod Listed
+pub mod Candidates
+pub mod Joined
+pub mod Gathered
+pub mod Picked
+pub mod Partners
+pub mod Copied

@@ -1,0 +1,35 @@
+use Rattle.std.proofs.Common.{◌≡◌, ℕ, nat_eq, List, [], ◌∷◌, ◌++◌, append_assoc, refl, sym, ap, subst, ◌∙◌}
+use Rattle.std.specs.List.{IsDistinct}
+use Rattle.std.specs.Map.{keys_of}
+use Rattle.std.specs.Map.Iter.{deref_pair}
+use Rattle.std.proofs.lemmas.Map.Iter.{rest_more}
+use Rattle.cq_index.specs.declared.kept.Kept.{Kept}
+use Rattle.cq_index.proofs.Copied.{copied_absent, copied_more}
+use Rattle.cq_index.proofs.index.AtomIndex.copy.Goals as goal
+
+pub loop-place-init : goal.loop-place-init
+loop-place-init g c = record { done = []; split = refl; made = c.begin-copy.ensures }
+
+pub add-requires : goal.add-requires
+add-requires g c =
+    let whole = c.into_iter-place-iterator.result in
+    let gives = c.into_iter-place-iterator.ensures.into_iter_gives in
+    let distinct : IsDistinct nat_eq (keys_of whole) = subst (λ (l : List (ℕ × Kept g.row.A.Denot)). IsDistinct nat_eq (keys_of l)) (sym gives.0) gives.4 in
+    let now = c.loop-place.invariant in
+    let more = rest_more deref_pair c.loop-place.place-iterator c.next.new.self c.next.result (c.in-Some.place, c.in-Some.kept) c.in-Some.is c.next.ensures.steps in
+    copied_absent c.loop-place.copy now.done (c.in-Some.place.now, c.in-Some.kept.now) c.next.new.self whole now.made (now.split ∙ ap (λ l. now.done ++ l) more) distinct
+
+pub loop-place-preserved : goal.loop-place-preserved
+loop-place-preserved g c =
+    let whole = c.into_iter-place-iterator.result in
+    let gives = c.into_iter-place-iterator.ensures.into_iter_gives in
+    let distinct : IsDistinct nat_eq (keys_of whole) = subst (λ (l : List (ℕ × Kept g.row.A.Denot)). IsDistinct nat_eq (keys_of l)) (sym gives.0) gives.4 in
+    let now = c.loop-place.invariant in
+    let item : ℕ × Kept g.row.A.Denot = (c.in-Some.place.now, c.in-Some.kept.now) in
+    let more = rest_more deref_pair c.loop-place.place-iterator c.next.new.self c.next.result (c.in-Some.place, c.in-Some.kept) c.in-Some.is c.next.ensures.steps in
+    let split : whole ≡ now.done ++ item ∷ c.next.new.self = now.split ∙ ap (λ l. now.done ++ l) more in
+    record {
+      done = now.done ++ item ∷ [];
+      split = split ∙ sym (append_assoc now.done (item ∷ []) c.next.new.self);
+      made = copied_more c.loop-place.copy c.add.new.self now.done item c.next.new.self whole now.made split distinct c.in_ok-add.ensures.ok;
+    }

@@ -1,0 +1,6 @@
+-- What the private steps of the code are stated with; no part of what a reader must believe.
+pub mod Keys
+pub mod Buckets
+pub mod Same
+pub mod Kept
+pub mod Picks
