@@ -1,5 +1,5 @@
 -- Rows from CSV: which records bytes have, and which rows or which fault these give. (this project's profile)
-use Rattle.std.specs.Prelude.{◌≡◌, ℕ, Bool, not, nat_eq, List, [], ◌∷◌, length, map, filter_map, if◌then◌else◌, Option, Some, None, ◌⊎◌}
+use Rattle.std.specs.Prelude.{ℕ, Bool, not, nat_eq, List, [], ◌∷◌, length, filter_map, if◌then◌else◌, Option, Some, None}
 use Rattle.std.specs.List.{list_all, enumerate_from}
 use Rattle.std.specs.Option.{is_some}
 use Rattle.csv.specs.Reading.{default_config, records, strip_bom}

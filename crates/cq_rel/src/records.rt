@@ -1,10 +1,7 @@
 //! Rows of the records that bytes of CSV have.
 
-ghost use Rattle.std.specs.Prelude.{◌≡◌, ◌<◌, ◌⊎◌, [], None, Some, true, false, length, map, filter_map, IsTrue, IfOk, IfErr, OnOk};
+ghost use Rattle.std.specs.Prelude.{◌≡◌, ◌<◌, ◌⊎◌, [], None, Some, true, false, length, map, filter_map, IfOk, IfErr, OnOk};
 ghost use Rattle.std.specs.List.{list_all};
-ghost use Rattle.cq_atom.specs.Answer.{Answers};
-ghost use Rattle.cq_atom.specs.Text.{is_relation_name};
-ghost use Rattle.cq_atom.specs.Atom.{is_arity};
 ghost use Rattle.cq_text.specs.Field.{value_of_field};
 ghost use Rattle.csv.specs.Reading.{ReadRecord, default_config, records};
 ghost use Rattle.csv.specs.Records.{fields_of};
@@ -20,16 +17,16 @@ use std::alloc::{Allocator, Global};
 /// Adds the values of the record's fields.
 fn push_values<A: Allocator + Copy>(
     alloc: A,
-    record: &ByteRecord,
+    fields: &ByteRecord,
     index: usize,
     values: &mut Vec<Value<A>, A>,
 ) -> Result<(), CsvFault>
     requires { values.old.items ≡ [] }
-    ensures fields { OnOk result (list_all is_field (fields_of record.now) ≡ true) }
-    ensures values { OnOk result (values.new.items ≡ filter_map value_of_field (fields_of record.now)) }
-    ensures fault { IfErr result (λ fault. (fault ≡ CsvFault.NoMemory) ⊎ ((fault ≡ CsvFault.Text index) × (list_all is_field (fields_of record.now) ≡ false))) }
+    ensures fields { OnOk result (list_all is_field (fields_of fields.now) ≡ true) }
+    ensures values { OnOk result (values.new.items ≡ filter_map value_of_field (fields_of fields.now)) }
+    ensures fault { IfErr result (λ fault. (fault ≡ CsvFault.NoMemory) ⊎ ((fault ≡ CsvFault.Text index) × (list_all is_field (fields_of fields.now) ≡ false))) }
 {
-    for field in record {
+    for field in fields {
         match read_field(alloc, field) {
             Ok(value) => values.push(value)?,
             Err(TextFault::At { .. }) => return Err(CsvFault::Text { index }),
@@ -44,32 +41,32 @@ fn row_of<A: Allocator + Copy>(
     alloc: A,
     relation: &str,
     arity: usize,
-    record: &ByteRecord,
+    fields: &ByteRecord,
     index: usize,
 ) -> Result<Row<A>, CsvFault>
-    requires name { IsTrue (is_relation_name relation.now) }
-    requires arity { IsTrue (is_arity arity) }
-    ensures { Answers CsvFault.NoMemory (record_fault arity (index, fields_of record.now)) (row_of_record relation.now (fields_of record.now)) result }
+    ensures row { IfOk result (λ row. (record_fault arity (index, fields_of fields.now) ≡ None) × (row ≡ row_of_record relation.now (fields_of fields.now))) }
+    ensures fault { IfErr result (λ fault. (fault ≡ CsvFault.NoMemory) ⊎ (record_fault arity (index, fields_of fields.now) ≡ Some fault)) }
 {
-    if record.len() != arity {
+    if fields.len() != arity {
         return Err(CsvFault::Width { index });
     }
     let mut values = Vec::new(alloc);
-    push_values(alloc, record, index, &mut values)?;
+    push_values(alloc, fields, index, &mut values)?;
     match Row::new(alloc, relation, values) {
         Ok(row) => Ok(row),
+        // The relation and the number of its values are good, so that only memory can be wanting.
         Err(_) => Err(CsvFault::NoMemory),
     }
 }
 
 /// Reads the next record, if there is one.
-fn next_record(reader: &mut Reader<&[u8]>, record: &mut ByteRecord) -> Result<bool, CsvFault>
+fn next_record(reader: &mut Reader<&[u8]>, fields: &mut ByteRecord) -> Result<bool, CsvFault>
     requires { IsPlain reader.old }
-    ensures read { IfOk result (λ found. ReadRecord bytes_of reader.old reader.new found (fields_of record.new)) }
+    ensures read { IfOk result (λ found. ReadRecord bytes_of reader.old reader.new found (fields_of fields.new)) }
     ensures plain { IfOk result (λ found. found ≡ true → IsPlain reader.new) }
     ensures memory { IfErr result (λ fault. fault ≡ CsvFault.NoMemory) }
 {
-    match reader.read_byte_record(record) {
+    match reader.read_byte_record(fields) {
         Ok(found) => Ok(found),
         Err(error) => match error.kind() {
             // Bytes in memory are read without a failure.
@@ -86,11 +83,9 @@ fn push_rows<A: Allocator + Copy>(
     arity: usize,
     most: usize,
     reader: &mut Reader<&[u8]>,
-    record: &mut ByteRecord,
+    fields: &mut ByteRecord,
     rows: &mut Vec<Row<A>, A>,
 ) -> Result<(), CsvFault>
-    requires name { IsTrue (is_relation_name relation.now) }
-    requires arity { IsTrue (is_arity arity) }
     requires most { length (text_left reader.old) < most }
     requires start { IsAtStart reader.old }
     requires rows { rows.old.items ≡ [] }
@@ -100,10 +95,10 @@ fn push_rows<A: Allocator + Copy>(
     ensures memory { IfErr result (λ fault. IsInRecords fault) }
 {
     for index in 0..most {
-        if !next_record(reader, record)? {
+        if !next_record(reader, fields)? {
             return Ok(());
         }
-        rows.push(row_of(alloc, relation, arity, record, index)?)?;
+        rows.push(row_of(alloc, relation, arity, fields, index)?)?;
     }
     Ok(())
 }
@@ -116,8 +111,6 @@ pub(crate) fn rows_of<A: Allocator + Copy>(
     relation: &str,
     arity: usize,
 ) -> Result<Vec<Row<A>, A>, CsvFault>
-    requires name { IsTrue (is_relation_name relation.now) }
-    requires arity { IsTrue (is_arity arity) }
     ensures rows { IfOk result (λ rows. (records_fault arity (csv_records bytes.now) ≡ None) × (rows.items ≡ map (row_of_record relation.now) (csv_records bytes.now))) }
     ensures fault { IfErr result (λ fault. IfOfRecord fault (records_fault arity (csv_records bytes.now) ≡ Some fault)) }
     ensures memory { IfErr result (λ fault. IsInRecords fault) }
@@ -126,7 +119,7 @@ pub(crate) fn rows_of<A: Allocator + Copy>(
         .has_headers(false)
         .flexible(true)
         .from_reader(heap, bytes);
-    let mut record = ByteRecord::new(heap);
+    let mut fields = ByteRecord::new(heap);
     let mut rows = Vec::new(alloc);
     push_rows(
         alloc,
@@ -134,7 +127,7 @@ pub(crate) fn rows_of<A: Allocator + Copy>(
         arity,
         bytes.len() + 1,
         &mut reader,
-        &mut record,
+        &mut fields,
         &mut rows,
     )?;
     Ok(rows)

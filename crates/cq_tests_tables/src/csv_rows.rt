@@ -129,7 +129,7 @@ fn csv_text_of_256_bytes(rt: HostRuntime) {
     assert!(rt; is_too_long(rt.alloc()) == Ok(true));
 }
 
-/// Gives one byte a read, and fails at one of the reads.
+/// Gives one byte a read, and fails at one of the reads, and at a read into room for other than 4,096 bytes.
 #[derive(Drop)]
 struct Failing<'a> {
     rest: &'a [u8],
@@ -138,7 +138,7 @@ struct Failing<'a> {
 
 impl<'a> Read for Failing<'a> {
     fn read(&mut self, buf: &mut [u8]) -> io::Result<usize> {
-        if self.good == 0 {
+        if self.good == 0 || buf.len() != 4096 {
             return Err(ErrorKind::TimedOut.into());
         }
         self.good -= 1;

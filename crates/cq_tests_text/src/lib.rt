@@ -8,6 +8,8 @@ mod commands;
 #[cfg(test)]
 mod devices;
 #[cfg(test)]
+mod fields;
+#[cfg(test)]
 mod growths;
 #[cfg(test)]
 mod texts;

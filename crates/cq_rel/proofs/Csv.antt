@@ -1,0 +1,247 @@
+-- The records of a text, and the faults of records.
+use Rattle.std.proofs.Common.{◌≡◌, ◌≤◌, ◌<◌, ℕ, ◌+◌, ◌-◌, suc, zero, List, [], ◌∷◌, ◌++◌, length, take, filter_map, Option, Some, None, Bool, true, false, refl, ap, ◌∙◌, append_assoc, arith, length-append}
+use Rattle.std.specs.Prelude.{if◌then◌else◌, ◌&&◌, Ok}
+use Rattle.std.specs.List.{list_all, enumerate_from, cons_option}
+use Rattle.std.proofs.lemmas.List.{append-nil}
+use Rattle.csv.specs.Machine.{Read, ends_at_end, field_after, fields_after, is_end, next_record, step}
+use Rattle.csv.specs.Reading.{Reached, records, records_from, strip_bom, is_bom}
+use Rattle.csv.specs.Records.{field_at}
+use Rattle.csv.specs.declared.parser.Config.{Config}
+use Rattle.csv.specs.declared.parser.State.{State}
+use Rattle.csv.specs.declared.parser.State.TheVariants as st
+use Rattle.cq_atom.specs.Answer.{Answers}
+use Rattle.cq_atom.specs.Atom.{RowRecord}
+use Rattle.cq_atom.specs.declared.fault.Bad.{Bad}
+use Rattle.cq_rel.specs.declared.fault.CsvFault.{CsvFault}
+use Rattle.cq_rel.specs.declared.fault.CsvFault.TheVariants.{BadName, BadArity, Device, Width, Text, NoMemory}
+use Rattle.cq_rel.specs.Csv.{CsvRecord, IfOfRecord, first_of, is_field, record_fault, records_fault}
+use Rattle.std.proofs.lemmas.Bool.{eq-eqb}
+
+-- ---- the records of a text
+
+-- what a read leaves is no longer than n
+abbrev LeavesFew : Option Read → ℕ → Type 0
+LeavesFew None n = Unit {0}
+LeavesFew (Some q) n = length q.2 ≤ n
+
+few-at-end : (b : Bool) (fields : List (List ℕ)) → LeavesFew (if b then Some (fields, st.StartRecord, []) else None) 0
+few-at-end true fields = omega arith
+few-at-end false fields = tt
+
+few-if : (b : Bool) (fields : List (List ℕ)) (s : State) (rest : List ℕ) (o : Option Read) → LeavesFew o (length rest) → LeavesFew (if b then Some (fields, s, rest) else o) (length rest)
+few-if true fields s rest o h = omega arith
+few-if false fields s rest o h = h
+
+few-more : (o : Option Read) (n : ℕ) → LeavesFew o n → LeavesFew o (suc n)
+few-more None n h = tt
+few-more (Some q) n h = omega (arith, h)
+
+not_longer : (cfg : Config) (s : State) (fields : List (List ℕ)) (field : List ℕ) (xs : List ℕ) → LeavesFew (next_record cfg s fields field xs) (length xs)
+unfolding next_record
+not_longer cfg s fields field [] = few-at-end (ends_at_end s) (fields ++ (field ∷ []))
+not_longer cfg s fields field (c ∷ rest) = few-more _ (length rest) (few-if (is_end (step cfg s c).1) _ _ rest _ (not_longer cfg (step cfg s c).0 (fields_after (step cfg s c).1 fields field) (field_after (step cfg s c).1 c field) rest))
+
+-- a record takes a byte at least, where there is one
+shorter : (cfg : Config) (s : State) (fields : List (List ℕ)) (field : List ℕ) (c : ℕ) (rest : List ℕ) → LeavesFew (next_record cfg s fields field (c ∷ rest)) (length rest)
+unfolding next_record
+shorter cfg s fields field c rest = few-if (is_end (step cfg s c).1) _ _ rest _ (not_longer cfg (step cfg s c).0 (fields_after (step cfg s c).1 fields field) (field_after (step cfg s c).1 c field) rest)
+
+few-left : (o : Option Read) (n : ℕ) (q : Read) → LeavesFew o n → o ≡ Some q → length q.2 ≤ n
+few-left o n q h e = rw e at h
+
+-- behind the end of a text there is no record
+none-at-start : (cfg : Config) → next_record cfg st.StartRecord [] [] [] ≡ None
+unfolding next_record
+none-at-start cfg = refl
+
+-- the last record of a text that has no byte left
+last-left : (cfg : Config) (s : State) (q : Read) → next_record cfg s [] [] [] ≡ Some q → (q.1 ≡ st.StartRecord) × (q.2 ≡ [])
+unfolding next_record
+last-left cfg s q e = by (ends_at_end s) e
+  where
+    by : (b : Bool) → (if b then Some ([] ∷ [], st.StartRecord, []) else None) ≡ Some q → (q.1 ≡ st.StartRecord) × (q.2 ≡ [])
+    by true e = (cc e, cc e)
+    by false e = cc e
+
+none-behind : (cfg : Config) (rows : List CsvRecord) (s2 : State) (ys : List ℕ) → Reached cfg st.StartRecord [] rows s2 ys → rows ≡ []
+unfolding Reached
+none-behind cfg [] s2 ys h = refl
+none-behind cfg (r ∷ rs) s2 ys h = cc (h.1, none-at-start cfg)
+
+-- there are at most as many records as bytes, and one
+pub few_records : (cfg : Config) (s : State) (xs : List ℕ) (rows : List CsvRecord) (s2 : State) (ys : List ℕ) → Reached cfg s xs rows s2 ys → length rows ≤ length xs + 1
+unfolding Reached
+few_records cfg s xs [] s2 ys h = omega arith
+few_records cfg s [] (r ∷ rs) s2 ys h =
+    let left = last-left cfg s h.0 h.1 in
+    let none = none-behind cfg rs s2 ys (rw (left.0, left.1) at h.3) in
+    omega (arith, ap length none)
+few_records cfg s (c ∷ xs) (r ∷ rs) s2 ys h =
+    let left = few-left _ (length xs) h.0 (shorter cfg s [] [] c xs) h.1 in
+    omega (arith, left, few_records cfg h.0.1 h.0.2 rs s2 ys h.3)
+
+-- the records of a text begin with those that were read
+begins_with : (cfg : Config) (k n : ℕ) (s : State) (xs : List ℕ) (rows : List CsvRecord) (s2 : State) (ys : List ℕ) → k ≡ length rows + n → Reached cfg s xs rows s2 ys
+    → records_from cfg k s xs ≡ rows ++ records_from cfg n s2 ys
+unfolding Reached records_from
+begins_with cfg k n s xs [] s2 ys e h =
+    let same : k ≡ n = omega (arith, e) in
+    rw (h.0, h.1, same) refl
+begins_with cfg zero n s xs (r ∷ rs) s2 ys e h = let never : ⊥ = omega (arith, e) in absurd never
+begins_with cfg (suc k) n s xs (r ∷ rs) s2 ys e h = rw (h.1, h.2) (ap (λ (l : List CsvRecord). h.0.0 ∷ l) (begins_with cfg k n h.0.1 h.0.2 rs s2 ys (omega (arith, e)) h.3))
+
+none-more : (cfg : Config) (n : ℕ) (s : State) (ys : List ℕ) → next_record cfg s [] [] ys ≡ None → records_from cfg n s ys ≡ []
+unfolding records_from
+none-more cfg zero s ys e = refl
+none-more cfg (suc n) s ys e = rw e refl
+
+-- records that were read from the start, and what the text has behind them
+pub record AreFirst (cfg : Config) (xs : List ℕ) (rows : List CsvRecord) : Type 0 where
+  pub more : List CsvRecord
+  pub whole : records cfg xs ≡ rows ++ more
+
+pub are_first : (cfg : Config) (xs : List ℕ) (rows : List CsvRecord) (s2 : State) (ys : List ℕ) → Reached cfg st.StartRecord xs rows s2 ys → AreFirst cfg xs rows
+are_first cfg xs rows s2 ys h =
+    let few = few_records cfg st.StartRecord xs rows s2 ys h in
+    let n : ℕ = (length xs + 1) - length rows in
+    let count : length xs + 1 ≡ length rows + n = omega (arith, few) in
+    record { more = records_from cfg n s2 ys; whole = begins_with cfg (length xs + 1) n st.StartRecord xs rows s2 ys count h }
+
+-- they are all, where no record is behind them
+pub are_all : (cfg : Config) (xs : List ℕ) (rows : List CsvRecord) (s2 : State) (ys : List ℕ) → Reached cfg st.StartRecord xs rows s2 ys → next_record cfg s2 [] [] ys ≡ None → records cfg xs ≡ rows
+are_all cfg xs rows s2 ys h none =
+    let few = few_records cfg st.StartRecord xs rows s2 ys h in
+    let n : ℕ = (length xs + 1) - length rows in
+    let count : length xs + 1 ≡ length rows + n = omega (arith, few) in
+    begins_with cfg (length xs + 1) n st.StartRecord xs rows s2 ys count h ∙ ap (λ (l : List CsvRecord). rows ++ l) (none-more cfg n s2 ys none) ∙ append-nil rows
+
+-- a record more
+reached_more : (cfg : Config) (s : State) (xs : List ℕ) (rows : List CsvRecord) (s2 : State) (ys : List ℕ) (q : Read) → Reached cfg s xs rows s2 ys → next_record cfg s2 [] [] ys ≡ Some q → Reached cfg s xs (rows ++ (q.0 ∷ [])) q.1 q.2
+unfolding Reached
+reached_more cfg s xs [] s2 ys q h e = (q, rw (h.0, h.1) e, refl, (refl, refl))
+reached_more cfg s xs (r ∷ rs) s2 ys q h e = (h.0, h.1, h.2, reached_more cfg h.0.1 h.0.2 rs s2 ys q h.3 e)
+
+-- they are all, where they are more than the bytes
+pub are_all_by_count : (cfg : Config) (xs : List ℕ) (rows : List CsvRecord) (s2 : State) (ys : List ℕ) → Reached cfg st.StartRecord xs rows s2 ys → length xs < length rows → records cfg xs ≡ rows
+are_all_by_count cfg xs rows s2 ys h many = are_all cfg xs rows s2 ys h (by (next_record cfg s2 [] [] ys) refl)
+  where
+    by : (o : Option Read) → next_record cfg s2 [] [] ys ≡ o → o ≡ None
+    by None e = refl
+    by (Some q) e =
+        let never : ⊥ = omega (arith, many, length-append rows (q.0 ∷ []), few_records cfg st.StartRecord xs (rows ++ (q.0 ∷ [])) q.1 q.2 (reached_more cfg st.StartRecord xs rows s2 ys q h e)) in
+        absurd never
+
+-- a text is no longer without its byte order mark
+pub strip_bom-length : (xs : List ℕ) → length (strip_bom xs) ≤ length xs
+unfolding strip_bom
+strip_bom-length [] = omega arith
+strip_bom-length (a ∷ []) = omega arith
+strip_bom-length (a ∷ b ∷ []) = omega arith
+strip_bom-length (a ∷ b ∷ c ∷ rest) = by (is_bom a b c)
+  where
+    by : (is : Bool) → length (if is then rest else a ∷ b ∷ c ∷ rest) ≤ suc (suc (suc (length rest)))
+    by true = omega arith
+    by false = omega arith
+
+-- ---- the faults of records
+
+module _ (arity : ℕ) where
+  first_behind : (n : ℕ) (xs ys : List CsvRecord) → first_of (filter_map (record_fault arity) (enumerate_from n xs)) ≡ None
+      → first_of (filter_map (record_fault arity) (enumerate_from n (xs ++ ys))) ≡ first_of (filter_map (record_fault arity) (enumerate_from (n + length xs) ys))
+  first_behind n [] ys e = ap (λ (k : ℕ). first_of (filter_map (record_fault arity) (enumerate_from k ys))) (omega arith)
+  first_behind n (x ∷ xs) ys e =
+      by (record_fault arity (n, x)) e (first_behind (n + 1) xs ys) ∙ ap (λ (k : ℕ). first_of (filter_map (record_fault arity) (enumerate_from k ys))) (omega arith)
+    where
+      by : (o : Option CsvFault) → first_of (cons_option o (filter_map (record_fault arity) (enumerate_from (n + 1) xs))) ≡ None
+          → (first_of (filter_map (record_fault arity) (enumerate_from (n + 1) xs)) ≡ None → first_of (filter_map (record_fault arity) (enumerate_from (n + 1) (xs ++ ys))) ≡ first_of (filter_map (record_fault arity) (enumerate_from ((n + 1) + length xs) ys)))
+          → first_of (cons_option o (filter_map (record_fault arity) (enumerate_from (n + 1) (xs ++ ys)))) ≡ first_of (filter_map (record_fault arity) (enumerate_from ((n + 1) + length xs) ys))
+      by None e more = more e
+      by (Some fault) e more = cc e
+
+  at_place : (k n : ℕ) (r : CsvRecord) (more : List CsvRecord) (o : Option CsvFault) → k ≡ n → record_fault arity (n, r) ≡ o
+      → first_of (filter_map (record_fault arity) (enumerate_from k (r ∷ more))) ≡ first_of (cons_option o (filter_map (record_fault arity) (enumerate_from (k + 1) more)))
+  at_place k n r more o same e =
+      ap (λ (p : Option CsvFault). first_of (cons_option p (filter_map (record_fault arity) (enumerate_from (k + 1) more)))) (ap (λ (m : ℕ). record_fault arity (m, r)) same ∙ e)
+
+  -- a record more, without a fault
+  pub good_more : (read : List CsvRecord) (n : ℕ) (r : CsvRecord) → records_fault arity read ≡ None → length read ≡ n → record_fault arity (n, r) ≡ None → records_fault arity (read ++ (r ∷ [])) ≡ None
+  good_more read n r good count e = first_behind 0 read (r ∷ []) good ∙ at_place (0 + length read) n r [] None (omega (arith, count)) e
+
+  -- a record at fault behind good ones
+  pub first_bad : (read : List CsvRecord) (n : ℕ) (r : CsvRecord) (more : List CsvRecord) (fault : CsvFault) → records_fault arity read ≡ None → length read ≡ n → record_fault arity (n, r) ≡ Some fault
+      → records_fault arity ((read ++ (r ∷ [])) ++ more) ≡ Some fault
+  first_bad read n r more fault good count e =
+      ap (records_fault arity) (append_assoc read (r ∷ []) more) ∙ first_behind 0 read (r ∷ more) good ∙ at_place (0 + length read) n r more (Some fault) (omega (arith, count)) e
+
+-- a record of the right width
+pub record_good : (arity n : ℕ) (fields : CsvRecord) → length fields ≡ arity → list_all is_field fields ≡ true → record_fault arity (n, fields) ≡ None
+record_good arity n fields width good = rw (eq-eqb (length fields) arity width, good) refl
+
+pub record_bad : (arity n : ℕ) (fields : CsvRecord) → length fields ≡ arity → list_all is_field fields ≡ false → record_fault arity (n, fields) ≡ Some (Text n)
+record_bad arity n fields width bad = rw (eq-eqb (length fields) arity width, bad) refl
+
+-- what a constructor answers that makes a row
+pub made_row : (fault : Option Bad) (v row : RowRecord) → Answers {V = RowRecord} Bad.NoMemory fault v (Ok row) → row ≡ v
+made_row None v row h = h
+made_row (Some fault) v row h = cc h
+
+pub if_of_record : (fault : CsvFault) (P : Type 0) → P → IfOfRecord fault P
+if_of_record BadName P h = tt
+if_of_record BadArity P h = tt
+if_of_record (Device turn) P h = tt
+if_of_record (Width index) P h = h
+if_of_record (Text index) P h = h
+if_of_record NoMemory P h = tt
+
+-- ---- the fields of a record
+
+module _ {V : Type 0} (h : List ℕ → Option V) (p : List ℕ → Bool) where
+  field_at_front : (fs : CsvRecord) (i : ℕ) (f : List ℕ) → field_at fs i ≡ Some f → take (suc i) fs ≡ take i fs ++ (f ∷ [])
+  unfolding field_at
+  field_at_front [] i f e = cc e
+  field_at_front (g ∷ fs) zero f e = cc e
+  field_at_front (g ∷ fs) (suc i) f e = ap (λ (l : CsvRecord). g ∷ l) (field_at_front fs i f e)
+
+  fields_more : (fs : CsvRecord) (i : ℕ) (f : List ℕ) → field_at fs i ≡ Some f → take (i + 1) fs ≡ take i fs ++ (f ∷ [])
+  fields_more fs i f e =
+      let on : i + 1 ≡ suc i = omega arith in
+      ap (λ (n : ℕ). take n fs) on ∙ field_at_front fs i f e
+
+  pub fields_all : (fs : CsvRecord) (i : ℕ) → field_at fs i ≡ None → take i fs ≡ fs
+  unfolding field_at
+  fields_all [] zero e = refl
+  fields_all [] (suc i) e = refl
+  fields_all (g ∷ fs) zero e = cc e
+  fields_all (g ∷ fs) (suc i) e = ap (λ (l : CsvRecord). g ∷ l) (fields_all fs i e)
+
+  pub field_bad : (fs : CsvRecord) (i : ℕ) (f : List ℕ) → field_at fs i ≡ Some f → p f ≡ false → list_all p fs ≡ false
+  unfolding field_at
+  field_bad [] i f e bad = cc e
+  field_bad (g ∷ fs) zero f e bad = let same : g ≡ f = cc e in rw (same, bad) refl
+  field_bad (g ∷ fs) (suc i) f e bad = by (p g) (field_bad fs i f e bad)
+    where
+      by : (b : Bool) → list_all p fs ≡ false → (b && list_all p fs) ≡ false
+      by true h = h
+      by false h = refl
+
+  pub fields_good_more : (fs : CsvRecord) (i : ℕ) (f : List ℕ) → field_at fs i ≡ Some f → list_all p (take i fs) ≡ true → p f ≡ true → list_all p (take (i + 1) fs) ≡ true
+  fields_good_more fs i f e good is = rw (fields_more fs i f e) (all_more (take i fs) good)
+    where
+      all_more : (l : CsvRecord) → list_all p l ≡ true → list_all p (l ++ (f ∷ [])) ≡ true
+      all_more [] h = rw is refl
+      all_more (g ∷ l) h = by (p g) h (all_more l)
+        where
+          by : (b : Bool) → (b && list_all p l) ≡ true → (list_all p l ≡ true → list_all p (l ++ (f ∷ [])) ≡ true) → (b && list_all p (l ++ (f ∷ []))) ≡ true
+          by true h more = more h
+          by false h more = cc h
+
+  pub values_more : (fs : CsvRecord) (i : ℕ) (f : List ℕ) (v : V) → field_at fs i ≡ Some f → h f ≡ Some v → filter_map h (take (i + 1) fs) ≡ filter_map h (take i fs) ++ (v ∷ [])
+  values_more fs i f v e is = ap (filter_map h) (fields_more fs i f e) ∙ by (take i fs)
+    where
+      by : (l : CsvRecord) → filter_map h (l ++ (f ∷ [])) ≡ filter_map h l ++ (v ∷ [])
+      by [] = rw is refl
+      by (g ∷ l) = on (h g) (by l)
+        where
+          on : (o : Option V) → filter_map h (l ++ (f ∷ [])) ≡ filter_map h l ++ (v ∷ []) → cons_option o (filter_map h (l ++ (f ∷ []))) ≡ cons_option o (filter_map h l) ++ (v ∷ [])
+          on None e = e
+          on (Some w) e = ap (λ (vs : List V). w ∷ vs) e
