@@ -1,5 +1,6 @@
 # What ./board and ./build share. It is read by them and not run: `self` is the name of the one that reads it, and
 # `top` the folder of the checkout.
+shopt -s globstar nullglob
 
 # One line says why the work cannot be done, and the status is 70.
 cannot() {
@@ -16,47 +17,43 @@ has_room() {
 # program and its stamp cannot part, and one that is there is whole.
 kept=$top/out
 
-# The crates of the repository that the crate of that name stands on, lowest first, and the crate itself.
-crates_of() {
-    awk -v crate="$1" '
-        { sub(/#.*/, "") }
-        /:/ { name = $1; sub(/:$/, "", name); order[++count] = name; $1 = ""; uses[name] = $0 }
-        END {
-            needed[crate] = 1
-            for (changed = 1; changed;) {
-                changed = 0
-                for (i = 1; i <= count; i++)
-                    if (needed[order[i]]) {
-                        n = split(uses[order[i]], parts, " ")
-                        for (j = 1; j <= n; j++)
-                            if (!needed[parts[j]]) { needed[parts[j]] = 1; changed = 1 }
-                    }
-            }
-            for (i = 1; i <= count; i++) if (needed[order[i]]) print order[i]
-        }' "$top/crates.txt"
+# Puts into `crates` the crates of the repository that the program stands on, lowest first, and its own crate.
+find_crates() {
+    local -A uses=() seen=()
+    local name parts
+    while read -r name parts; do
+        case $name in *:) uses[${name%:}]=${parts%%#*} ;; esac
+    done <"$top/crates.txt"
+    crates=()
+    add_crate cq_cli
+}
+
+add_crate() {
+    local below
+    [ -n "${uses[$1]+there}" ] && [ -z "${seen[$1]:-}" ] || return 0
+    seen[$1]=1
+    for below in ${uses[$1]}; do add_crate "$below"; done
+    crates+=("$1")
 }
 
 # The stamp of the sources: a sum over crates.txt and all code and definitions of the program's crates. A proof
 # that is written anew changes neither the program nor what is promised of it.
 sources_stamp() {
-    (
-        cd -P -- "$top" >/dev/null || exit 1
-        folders=()
-        for crate in $(crates_of cq_cli); do
-            for part in src specs; do
-                [ -d "crates/$crate/$part" ] && folders+=("crates/$crate/$part")
-            done
-        done
-        { printf 'crates.txt\0' && find "${folders[@]}" -type f -print0 | LC_ALL=C sort -z; } |
-            xargs -0 sha256sum -- | sha256sum | cut -c 1-16
-    )
+    local LC_ALL=C crate files=(crates.txt) sum
+    cd -P -- "$top" >/dev/null || exit 1
+    for crate in "${crates[@]}"; do
+        files+=("crates/$crate"/{src/**/*.rt,specs/**/*.antt})
+    done
+    sum=$(sha256sum -- "${files[@]}" | sha256sum)
+    printf '%s\n' "${sum:0:16}"
 }
 
-# The stamp of the toolchain: a sum over what `rt version` prints. The file that it prints is read where it is
+# The stamp of the toolchain: what `rt version` prints. The file that the command prints is read where it is
 # there, since the command takes a quarter of a second.
 toolchain_stamp() {
-    local rt kit
-    rt=$(readlink -f -- "$(command -v rt)") || return 1
-    kit=${rt%/*/*}
-    { if [ -f "$kit/KIT-ID" ]; then cat -- "$kit/KIT-ID"; else rt version; fi; } | sha256sum | cut -c 1-16
+    local kit line
+    kit=$(readlink -f -- "$(type -P rt)")
+    kit=${kit%/*/*}
+    if [ -f "$kit/KIT-ID" ]; then line=$(<"$kit/KIT-ID"); else line=$(rt version); fi
+    printf '%s\n' "${line//[^[:alnum:].]/-}"
 }
