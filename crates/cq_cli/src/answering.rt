@@ -15,8 +15,8 @@ use cq_text::{Sink, Source};
 use std::alloc::{Allocator, Global};
 use std::convert::AsStr;
 
-/// Tells what is wrong with the words on the sink of errors, or writes the help or the version that they ask for to
-/// the other.
+/// Tells what is wrong with the words on the sink of errors, or writes the help or the version that they ask for
+/// to the other.
 fn answer_words<W: Sink, E: Sink>(
     alloc: Global,
     error: &Error,
@@ -61,6 +61,7 @@ fn answer_replay<A: Allocator + Copy, R: Source, W: Sink, E: Sink>(
     ensures write { W.write_failures sink.old < W.write_failures sink.new → result ≡ Status.Failed }
     ensures failed { result ≡ Status.Failed → DeviceFailed (R.reads_made source.old) (R.reads_made source.new) (R.failures_met source.old) (R.failures_met source.new) (W.write_failures sink.old) (W.write_failures sink.new) }
     ensures refused { IsRefused result → (sink.new ≡ sink.old) }
+    ensures unread { result ≡ Status.Usage → source.new ≡ source.old }
 {
     let Err(fault) = run(heap, source, sink) else {
         return Status::Done;
@@ -87,6 +88,7 @@ fn answer_rows<A: Allocator + Copy, R: Source, W: Sink, E: Sink>(
     ensures write { W.write_failures sink.old < W.write_failures sink.new → result ≡ Status.Failed }
     ensures failed { result ≡ Status.Failed → DeviceFailed (R.reads_made source.old) (R.reads_made source.new) (R.failures_met source.old) (R.failures_met source.new) (W.write_failures sink.old) (W.write_failures sink.new) }
     ensures refused { IsRefused result → (sink.new ≡ sink.old) }
+    ensures unread { result ≡ Status.Usage → source.new ≡ source.old }
 {
     let Err(fault) = write_rows(heap, alloc, relation, arity, source, sink) else {
         return Status::Done;
@@ -115,8 +117,9 @@ pub(crate) fn answer<S: AsStr, A: Allocator + Copy, R: Source, W: Sink, E: Sink>
     ensures write { W.write_failures sink.old < W.write_failures sink.new → result ≡ Status.Failed }
     ensures failed { result ≡ Status.Failed → DeviceFailed (R.reads_made source.old) (R.reads_made source.new) (R.failures_met source.old) (R.failures_met source.new) (W.write_failures sink.old) (W.write_failures sink.new) }
 
-    // Words that ask for nothing and records at fault have nothing written to the sink.
+    // Words that ask for nothing and records at fault have nothing written to the sink, and such words nothing read.
     ensures refused { IsRefused result → (sink.new ≡ sink.old) }
+    ensures unread { result ≡ Status.Usage → source.new ≡ source.old }
 {
     match read_words(alloc, words) {
         Err(error) => answer_words(alloc, &error, sink, errors),

@@ -22,8 +22,7 @@ Exit status:
 
 docs/formats.md describes the language, its replies, the report and CSV.";
 
-const ABOUT_REPLAY: &str =
-    "Reads a script on standard input, and writes its replies and reports.";
+const ABOUT_REPLAY: &str = "Reads a script on standard input, and writes its replies and reports.";
 
 const BEHIND_REPLAY: &str = "Lines of a script:
   relation NAME ARITY                        declares a database relation (setup)
@@ -49,7 +48,8 @@ docs/formats.md describes the language.";
 const ABOUT_ROWS: &str =
     "Reads CSV on standard input, and writes an insert line for each record, in order.";
 
-const BEHIND_ROWS: &str = "There is no header row. A field that is a number of the script language is that number; any other is a
+const BEHIND_ROWS: &str =
+    "There is no header row. A field that is a number of the script language is that number; any other is a
 text. Where a record is at fault, the first such is told, counted from 0, and no line is written.
 
 Example:
@@ -122,10 +122,7 @@ fn board_command<'a>(alloc: Global) -> Result<Command<'a>, AllocError> {
 /// # Errors
 /// What `clap` says of words that ask for nothing, for help or for the version; `OutOfMemory` where a
 /// growth was refused.
-pub(crate) fn read_words<'a, S: AsStr>(
-    alloc: Global,
-    words: &'a [S],
-) -> Result<Wanted<'a>, Error> {
+pub(crate) fn read_words<'a, S: AsStr>(alloc: Global, words: &'a [S]) -> Result<Wanted<'a>, Error> {
     let matches = board_command(alloc)?.try_get_matches_from(words)?;
     let Some(("rows", rows)) = matches.subcommand() else {
         return Ok(Wanted::Replay);

@@ -81,7 +81,10 @@ fn all_is_read(rt: HostRuntime) -> Result<(), Fail> {
             4,
         ),
     ] {
-        assert!(rt; ends_so(rt.alloc(), words, input, written, told, code), "{told}");
+        assert!(rt;
+            ends_so(rt.alloc(), words, input, written, told, code),
+            "{told}"
+        );
     }
     Ok(())
 }
@@ -102,7 +105,10 @@ fn a_read_fails(rt: HostRuntime) -> Result<(), Fail> {
     ] {
         let told = "board: read failed at turn 2\n";
         let source = Cut { left: input };
-        assert!(rt; ends_so(rt.alloc(), words, source, written, told, 1), "{written}");
+        assert!(rt;
+            ends_so(rt.alloc(), words, source, written, told, 1),
+            "{written}"
+        );
     }
     Ok(())
 }
@@ -179,7 +185,10 @@ fn wants_memory(alloc: Global, words: &[&str], growth: u64) -> bool {
 fn memory_runs_out(rt: HostRuntime) -> Result<(), Fail> {
     assert!(rt; wants_memory(rt.alloc(), &["board", "replay"], 0));
     for growth in 0..40 {
-        assert!(rt; wants_memory(rt.alloc(), &["board", "rows", "T", "1"], growth), "{growth}");
+        assert!(rt;
+            wants_memory(rt.alloc(), &["board", "rows", "T", "1"], growth),
+            "{growth}"
+        );
     }
     Ok(())
 }
