@@ -1,19 +1,47 @@
 -- How the program ends. (this project's profile)
-use Rattle.std.specs.Prelude.{ℕ}
+use Rattle.std.specs.Prelude.{◌<◌, ℕ, ◌⊎◌}
+use Rattle.cq_text.specs.Device.{FailedAtTurn}
 use Rattle.cq_report.specs.declared.fault.RunFault.{RunFault}
-use Rattle.cq_report.specs.declared.fault.RunFault.TheVariants as faults
-use Rattle.cq_cli.specs.declared.answering.Status.{Status}
-use Rattle.cq_cli.specs.declared.answering.Status.TheVariants.{Done, Failed, Usage, NoMemory}
+use Rattle.cq_report.specs.declared.fault.RunFault.TheVariants as runs
+use Rattle.cq_cli.specs.declared.rows.RowsFault.{RowsFault}
+use Rattle.cq_cli.specs.declared.rows.RowsFault.TheVariants as rows
+use Rattle.cq_cli.specs.declared.status.Status.{Status}
+use Rattle.cq_cli.specs.declared.status.Status.TheVariants.{Done, Failed, Usage, NoMemory, BadRecord}
 
--- Done is 0, a device that failed is 1, a fault of usage is 2, want of memory is 3.
+-- Done is 0, a device that failed is 1, a fault of usage is 2, want of memory is 3, a record at fault is 4.
 abbrev pub code_of : Status → ℕ
 code_of Done = 0
 code_of Failed = 1
 code_of Usage = 2
 code_of NoMemory = 3
+code_of BadRecord = 4
 
 -- A fault of reading or writing is a device that failed.
-abbrev pub status_of : RunFault → Status
-status_of (faults.Read turn) = Failed
-status_of faults.Write = Failed
-status_of faults.NoMemory = NoMemory
+abbrev pub status_of_run : RunFault → Status
+status_of_run (runs.Read turn) = Failed
+status_of_run runs.Write = Failed
+status_of_run runs.NoMemory = NoMemory
+
+-- A relation's name and an arity are words, so they are a fault of usage; a record at fault is neither.
+abbrev pub status_of_rows : RowsFault → Status
+status_of_rows rows.BadName = Usage
+status_of_rows rows.BadArity = Usage
+status_of_rows (rows.Read turn) = Failed
+status_of_rows rows.Write = Failed
+status_of_rows (rows.Width index arity) = BadRecord
+status_of_rows (rows.Text index) = BadRecord
+status_of_rows rows.NoMemory = NoMemory
+
+-- The writer failed, or the reader did at some read or gave no end.
+abbrev pub DeviceFailed : (reads reads' read_failures read_failures' write_failures write_failures' : ℕ) → Type 0
+DeviceFailed reads reads' read_failures read_failures' write_failures write_failures' =
+    (write_failures < write_failures')
+    ⊎ ((turn : ℕ) × FailedAtTurn turn reads reads' read_failures read_failures')
+
+-- What was asked for was refused before anything of it was done: for its words, or for a record of CSV.
+abbrev pub IsRefused : Status → Type 0
+IsRefused Done = ⊥
+IsRefused Failed = ⊥
+IsRefused Usage = Unit {0}
+IsRefused NoMemory = ⊥
+IsRefused BadRecord = Unit {0}

@@ -1,26 +1,52 @@
-//! The program `board`: reads a script on standard input, and writes replies and reports.
+//! The program `board`: replays a script, or turns CSV into the insert lines of one.
 //!
-//! `answering` turns words, a source and two sinks into an exit status; `main` only opens the three
-//! standard streams. Everything else is in the crates below.
+//! `wanted` says what the words ask for, `rows` writes the insert lines of CSV, and `answering` turns words, a source
+//! and two sinks into the status that `status` numbers; `main` only opens the three standard streams. What a
+//! script means stands in the crates below.
 #![tactic(auto)]
 
 mod answering;
+mod rows;
+mod status;
+mod wanted;
+mod writing;
 
-use crate::answering::{Status, answer};
+use crate::answering::answer;
+use crate::status::Status;
+use crate::writing::tell;
 use cq_text::Counted;
 use std::env;
 use std::env::Env;
+use std::io::ErrorKind;
 use std::process::ExitCode;
 
-/// The words of the command line, or `None` where memory ran out.
-fn words<R: Env + Alloc>(rt: &R) -> Option<Vec<String<R::A>, R::A>> {
-    env::args(rt).ok()?.collect(rt.alloc()).ok()
+/// What is told of words that are no text, in the form in which `clap` tells the other faults of words.
+const NO_TEXT: &str = "error: invalid UTF-8 was detected in one or more arguments
+
+For more information, try '--help'.
+";
+
+/// The words of the command line, or how the program ends without them.
+fn words<R: Env + Alloc>(rt: &R) -> Result<Vec<String<R::A>, R::A>, Status> {
+    match env::args(rt) {
+        Ok(words) => words.collect(rt.alloc()).map_err(|_| Status::NoMemory),
+        Err(error) if error.kind() == ErrorKind::OutOfMemory => Err(Status::NoMemory),
+        Err(_) => Err(Status::Usage),
+    }
 }
 
 fn main(rt: HostRuntime) -> ExitCode {
     let mut errors = Counted::new(rt.stderr());
-    let Some(words) = words(&rt) else {
-        return ExitCode::from(Status::NoMemory.code());
+    let words = match words(&rt) {
+        Ok(words) => words,
+        Err(Status::Usage) => {
+            tell(&mut errors, NO_TEXT);
+            return ExitCode::from(Status::Usage.code());
+        }
+        Err(status) => {
+            tell(&mut errors, "board: out of memory\n");
+            return ExitCode::from(status.code());
+        }
     };
     let mut source = Counted::new(rt.stdin());
     let mut sink = Counted::new(rt.stdout());

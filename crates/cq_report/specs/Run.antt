@@ -1,7 +1,6 @@
 -- What a run leaves behind (this project's profile).
-use Rattle.std.specs.Prelude.{◌≡◌, ℕ, ◌+◌, List, Option, ◌⊎◌}
+use Rattle.std.specs.Prelude.{◌≡◌, ℕ, List, Option}
 use Rattle.std.specs.Io.KnownBytes.{Consumes, Appends}
-use Rattle.cq_report.specs.declared.running.TheConstants.{MAX_READS}
 use Rattle.cq_report.specs.declared.fault.RunFault.{RunFault}
 use Rattle.cq_report.specs.declared.fault.RunFault.TheVariants as faults
 use Rattle.cq_report.specs.Lines.{lines_of, whole_lines}
@@ -26,12 +25,6 @@ abbrev pub failures_of : RunFault → ℕ
 failures_of (faults.Read turn) = 0
 failures_of faults.Write = 1
 failures_of faults.NoMemory = 0
-
--- The turn is the number of the read that failed; or all the reads that a run may make were made, and the turn is one more.
-abbrev pub FailedAtTurn : (turn reads reads' failures failures' : ℕ) → Type 0
-FailedAtTurn turn reads reads' failures failures' =
-    ((reads' ≡ reads + turn) × (failures' ≡ failures + 1))
-    ⊎ ((turn ≡ MAX_READS + 1) × (reads' ≡ reads + MAX_READS) × (failures' ≡ failures))
 
 -- Bytes were read; their whole lines have readings, and however they are read, their output was written and nothing else.
 pub record WroteWholeLines (left left' taken taken' : Option (List ℕ)) : Type 0 where

@@ -6,7 +6,8 @@ ghost use Rattle.cq_report.specs.Lines.{lines_of};
 ghost use Rattle.cq_report.specs.Reading.{Reading};
 ghost use Rattle.cq_report.specs.Output.{AreReadings, output};
 ghost use Rattle.cq_report.specs.Machine.{State, begin_state};
-ghost use Rattle.cq_report.specs.Run.{IfRead, IsOfRead, failures_of, FailedAtTurn, WroteWholeLines, WroteFront};
+ghost use Rattle.cq_text.specs.Device.{FailedAtTurn};
+ghost use Rattle.cq_report.specs.Run.{IfRead, IsOfRead, failures_of, WroteWholeLines, WroteFront};
 ghost use Rattle.cq_report.specs.Steps.Written.{Fails};
 ghost use Rattle.cq_report.specs.Steps.Replay.{Replayed, BrokeOff, Ended};
 ghost use Rattle.cq_report.specs.Steps.Serving.{ServesOn, StopsOn, Finishes, IsSound};
@@ -15,14 +16,8 @@ use crate::fault::RunFault;
 use crate::line::Line;
 use crate::machine::Machine;
 use crate::output::{Output, ROOM};
-use cq_text::{Sink, Source};
+use cq_text::{MAX_PIECE, MAX_READS, Sink, Source};
 use std::alloc::Allocator;
-
-/// The most reads of one run.
-const MAX_READS: u32 = 1_048_576;
-
-/// The most bytes that one read gives.
-const PIECE: usize = 4096;
 
 /// Serves one byte: LF has the line answered, and any other byte is kept.
 fn serve_byte<W: Sink, A: Allocator + Copy>(
@@ -150,7 +145,7 @@ fn replay<A: Allocator + Copy, R: Source, W: Sink>(
 {
     let mut machine = Machine::begin(alloc);
     let mut line = Line::new(alloc);
-    let mut piece = [0u8; PIECE];
+    let mut piece = [0u8; MAX_PIECE];
     serve_all(&mut machine, &mut line, &mut piece, reader, output)
 }
 

@@ -1,8 +1,10 @@
-//! Words, texts on the two sinks, and exit statuses.
+//! What the program writes, tells and ends with over devices that fail and memory that runs out. What it does
+//! with its words otherwise stands in cases/.
 
-use super::{Status, answer};
+use super::answer;
 use cq_refusing::Refusing;
 use cq_text::Counted;
+use std::alloc::Global;
 use std::io;
 use std::io::{Read, Write};
 use std::test::Fail;
@@ -36,137 +38,156 @@ impl Write for Shut {
     }
 }
 
-fn is_text(bytes: &[u8], text: &str) -> bool {
-    bytes == text.as_bytes()
+/// Whether the words over a source write that text, tell that line, and end with that status.
+fn ends_so<R: Read + Drop>(
+    alloc: Global,
+    words: &[&str],
+    source: R,
+    written: &str,
+    told: &str,
+    code: u8,
+) -> bool {
+    let mut source = Counted::new(source);
+    let mut sink = Counted::new(Vec::new(alloc));
+    let mut errors = Counted::new(Vec::new(alloc));
+    let status = answer(alloc, alloc, words, &mut source, &mut sink, &mut errors);
+    status.code() == code
+        && sink.into_inner().as_slice() == written.as_bytes()
+        && errors.into_inner().as_slice() == told.as_bytes()
 }
 
 #[test]
-fn a_script_is_run(rt: HostRuntime) -> Result<(), Fail> {
-    let mut source = Counted::new(b"post a {} R(1) <-\nshow\n".as_slice());
-    let mut sink = Counted::new(Vec::new(rt.alloc()));
-    let mut errors = Counted::new(Vec::new(rt.alloc()));
-    let status = answer(
-        rt.alloc(),
-        rt.alloc(),
-        &["board"],
-        &mut source,
-        &mut sink,
-        &mut errors,
-    );
-    assert_eq!(rt; status, Status::Done);
-    assert_eq!(rt; status.code(), 0);
-    assert!(rt; is_text(&sink.into_inner(), "ok 1\nshow 0\nend\n"));
-    assert!(rt; errors.into_inner().is_empty());
+fn all_is_read(rt: HostRuntime) -> Result<(), Fail> {
+    for (words, input, written, told, code) in [
+        (
+            ["board", "replay"].as_slice(),
+            b"post a {} R(1) <-\nshow\n".as_slice(),
+            "ok 1\nshow 0\nend\n",
+            "",
+            0u8,
+        ),
+        (
+            ["board", "rows", "Flights", "2"].as_slice(),
+            b"122,Paris\n\"123\",\"Pa\"\"ris\"\n007,\n".as_slice(),
+            "insert Flights(122, \"Paris\")\ninsert Flights(123, \"Pa\\\"ris\")\ninsert Flights(\"007\", \"\")\n",
+            "",
+            0,
+        ),
+        (
+            ["board", "rows", "Flights", "2"].as_slice(),
+            b"1,2\n3\n".as_slice(),
+            "",
+            "board: record 1: expected 2 fields\n",
+            4,
+        ),
+    ] {
+        assert!(rt;
+            ends_so(rt.alloc(), words, input, written, told, code),
+            "{told}"
+        );
+    }
     Ok(())
 }
 
 #[test]
 fn a_read_fails(rt: HostRuntime) -> Result<(), Fail> {
-    let mut source = Counted::new(Cut {
-        left: b"publish\npub",
-    });
-    let mut sink = Counted::new(Vec::new(rt.alloc()));
-    let mut errors = Counted::new(Vec::new(rt.alloc()));
-    let status = answer(
-        rt.alloc(),
-        rt.alloc(),
-        &["board"],
-        &mut source,
-        &mut sink,
-        &mut errors,
-    );
-    assert_eq!(rt; status.code(), 1);
-    assert!(rt; is_text(&sink.into_inner(), "published 0\n"));
-    assert!(rt; is_text(&errors.into_inner(), "board: read failed at turn 2\n"));
-    Ok(())
-}
-
-#[test]
-fn a_write_fails(rt: HostRuntime) -> Result<(), Fail> {
-    let mut source = Counted::new(b"publish\n".as_slice());
-    let mut sink = Counted::new(Shut);
-    let mut errors = Counted::new(Vec::new(rt.alloc()));
-    let status = answer(
-        rt.alloc(),
-        rt.alloc(),
-        &["board"],
-        &mut source,
-        &mut sink,
-        &mut errors,
-    );
-    assert_eq!(rt; status.code(), 1);
-    assert!(rt; is_text(&errors.into_inner(), "board: write failed\n"));
-    Ok(())
-}
-
-#[test]
-fn memory_runs_out(rt: HostRuntime) -> Result<(), Fail> {
-    let heap = Refusing::new(rt.alloc(), 0);
-    let mut source = Counted::new(b"publish\n".as_slice());
-    let mut sink = Counted::new(Vec::new(rt.alloc()));
-    let mut errors = Counted::new(Vec::new(rt.alloc()));
-    let status = answer(
-        rt.alloc(),
-        &heap,
-        &["board"],
-        &mut source,
-        &mut sink,
-        &mut errors,
-    );
-    assert_eq!(rt; status.code(), 3);
-    assert!(rt; heap.has_refused());
-    assert!(rt; is_text(&errors.into_inner(), "board: out of memory\n"));
-    Ok(())
-}
-
-// An unknown word is a fault of usage, on the sink of errors alone; help goes to the other sink alone.
-#[test]
-fn words_beside_a_run(rt: HostRuntime) -> Result<(), Fail> {
-    for (word, code, on_errors) in [
-        ("replay", 2u8, true),
-        ("--none", 2, true),
-        ("--help", 0, false),
-        ("-h", 0, false),
+    for (words, input, written) in [
+        (
+            ["board", "replay"].as_slice(),
+            b"publish\npub".as_slice(),
+            "published 0\n",
+        ),
+        (
+            ["board", "rows", "Flights", "2"].as_slice(),
+            b"1,2\n3,4".as_slice(),
+            "",
+        ),
     ] {
-        let mut source = Counted::new(b"publish\n".as_slice());
-        let mut sink = Counted::new(Vec::new(rt.alloc()));
-        let mut errors = Counted::new(Vec::new(rt.alloc()));
-        let words = ["board", word];
-        let status = answer(
-            rt.alloc(),
-            rt.alloc(),
-            &words,
-            &mut source,
-            &mut sink,
-            &mut errors,
+        let told = "board: read failed at turn 2\n";
+        let source = Cut { left: input };
+        assert!(rt;
+            ends_so(rt.alloc(), words, source, written, told, 1),
+            "{written}"
         );
-        assert_eq!(rt; status.code(), code, "{word}");
-        assert_eq!(rt; sink.into_inner().is_empty(), on_errors, "{word}");
-        assert_eq!(rt; errors.into_inner().is_empty(), !on_errors, "{word}");
     }
     Ok(())
 }
 
 // Help that a device refuses is no help: the status tells it, and the sink of errors why.
 #[test]
-fn help_to_a_failing_device(rt: HostRuntime) -> Result<(), Fail> {
-    for word in ["--help", "-h"] {
+fn a_write_fails(rt: HostRuntime) -> Result<(), Fail> {
+    for words in [
+        ["board", "replay"].as_slice(),
+        ["board", "rows", "Flights", "1"].as_slice(),
+        ["board", "--help"].as_slice(),
+        ["board", "--version"].as_slice(),
+        ["board", "help", "rows"].as_slice(),
+    ] {
         let mut source = Counted::new(b"publish\n".as_slice());
         let mut sink = Counted::new(Shut);
         let mut errors = Counted::new(Vec::new(rt.alloc()));
-        let words = ["board", word];
         let status = answer(
             rt.alloc(),
             rt.alloc(),
-            &words,
+            words,
             &mut source,
             &mut sink,
             &mut errors,
         );
-        assert_eq!(rt; status.code(), 1, "{word}");
+        assert_eq!(rt; status.code(), 1);
+        assert!(rt; errors.into_inner().as_slice() == b"board: write failed\n".as_slice());
+    }
+    Ok(())
+}
+
+// Where nobody hears the fault, the status still tells it.
+#[test]
+fn nobody_hears(rt: HostRuntime) -> Result<(), Fail> {
+    for (words, code) in [
+        (["board"].as_slice(), 2u8),
+        (["board", "rows", "flights", "1"].as_slice(), 2),
+        (["board", "rows", "Flights", "2"].as_slice(), 4),
+    ] {
+        let mut source = Counted::new(b"publish\n".as_slice());
+        let mut sink = Counted::new(Vec::new(rt.alloc()));
+        let mut errors = Counted::new(Shut);
+        let status = answer(
+            rt.alloc(),
+            rt.alloc(),
+            words,
+            &mut source,
+            &mut sink,
+            &mut errors,
+        );
+        assert_eq!(rt; status.code(), code);
+        assert!(rt; sink.into_inner().is_empty());
+    }
+    Ok(())
+}
+
+/// Whether the words with that growth refused write nothing, tell it and end so; or, where they do not come to
+/// that growth, end well.
+fn wants_memory(alloc: Global, words: &[&str], growth: u64) -> bool {
+    let heap = Refusing::new(alloc, growth);
+    let mut source = Counted::new(b"1\n2\n".as_slice());
+    let mut sink = Counted::new(Vec::new(alloc));
+    let mut errors = Counted::new(Vec::new(alloc));
+    let status = answer(alloc, &heap, words, &mut source, &mut sink, &mut errors);
+    if heap.has_refused() {
+        return status.code() == 3
+            && sink.into_inner().is_empty()
+            && errors.into_inner().as_slice() == b"board: out of memory\n".as_slice();
+    }
+    status.code() == 0
+}
+
+#[test]
+fn memory_runs_out(rt: HostRuntime) -> Result<(), Fail> {
+    assert!(rt; wants_memory(rt.alloc(), &["board", "replay"], 0));
+    for growth in 0..40 {
         assert!(rt;
-            is_text(&errors.into_inner(), "board: write failed\n"),
-            "{word}"
+            wants_memory(rt.alloc(), &["board", "rows", "T", "1"], growth),
+            "{growth}"
         );
     }
     Ok(())

@@ -1,0 +1,190 @@
+//! Insert lines from CSV.
+
+ghost use Rattle.std.specs.Prelude.{◌≡◌, ◌<◌, ◌≤◌, ◌+◌, ◌^◌, ◌++◌, string_bytes, IfOk, OnOk, IfErr, IfSome, MatchResult, Ok, Err};
+ghost use Rattle.cq_text.specs.Device.{FailedAtTurn};
+ghost use Rattle.cq_cli.specs.Rows.{arity_of, wanted_arity, insert_line, rows_output, rows_answer, told, MatchFault, IsOfReader, IsOfWriter, failures_of, WroteLines, WroteFront};
+
+use crate::writing::write_text;
+use cq_atom::{Row, is_relation_text};
+use cq_rel::{CsvFault, read_csv};
+use cq_text::{MAX_READS, Sink, Source, print_row};
+use std::alloc::{AllocError, Allocator, Global};
+use thiserror::Error;
+
+/// Why no rows were written, or not all of them.
+#[derive(Clone, Copy, Debug, PartialEq, Eq, Error)]
+pub(crate) enum RowsFault {
+    /// The first word is no relation's name.
+    #[error("bad relation name")]
+    BadName,
+    /// The second word is not one digit from 1 to 8.
+    #[error("bad arity")]
+    BadArity,
+    /// The reader failed, or gave no end. Reads count from 1.
+    #[error("read failed at turn {turn}")]
+    Read { turn: u64 },
+    /// The writer failed.
+    #[error("write failed")]
+    Write,
+    /// A record has not as many fields as the relation. Records count from 0.
+    #[error("record {index}: expected {arity} fields")]
+    Width { index: usize, arity: usize },
+    /// A field of a record is no value.
+    #[error("record {index}: bad text")]
+    Text { index: usize },
+    /// A growth was refused.
+    #[error("out of memory")]
+    NoMemory,
+}
+
+impl From<AllocError> for RowsFault {
+    ghost use Rattle.std.specs.Prelude.{◌≡◌};
+    ghost use Rattle.cq_cli.specs.declared.rows.RowsFault.TheVariants.{NoMemory};
+
+    ghost from_gives = { λ _ e. e ≡ NoMemory };
+
+    fn from(_e: AllocError) -> RowsFault {
+        RowsFault::NoMemory
+    }
+}
+
+/// The arity that a word stands for: one digit from 1 to 8, and nothing beside it.
+fn arity_of(word: &str) -> Option<usize>
+    ensures { result ≡ arity_of word.now }
+{
+    match word.as_bytes() {
+        [digit @ b'1'..=b'8'] => Some(usize::from(*digit - b'0')),
+        _ => None,
+    }
+}
+
+/// The arity that the words of `rows` ask for, of which the relation's is looked at first.
+fn wanted_arity(relation: &str, arity: &str) -> Result<usize, RowsFault>
+    ensures { result ≡ wanted_arity relation.now arity.now }
+{
+    if !is_relation_text(relation) {
+        return Err(RowsFault::BadName);
+    }
+    arity_of(arity).ok_or(RowsFault::BadArity)
+}
+
+fn push_line<A: Allocator + Copy>(
+    alloc: A,
+    lines: &mut String<A>,
+    row: &Row<A>,
+) -> Result<(), AllocError>
+    ensures { OnOk result (string_bytes lines.new ≡ string_bytes lines.old ++ insert_line row.now) }
+{
+    let printed = print_row(alloc, row)?;
+    lines.push_str("insert ")?;
+    lines.push_str(&printed)?;
+    lines.push('\n')?;
+    Ok(())
+}
+
+fn push_lines<A: Allocator + Copy>(
+    alloc: A,
+    lines: &mut String<A>,
+    rows: &[Row<A>],
+) -> Result<(), AllocError>
+    ensures { OnOk result (string_bytes lines.new ≡ string_bytes lines.old ++ rows_output rows.now) }
+{
+    for row in rows {
+        push_line(alloc, lines, row)?;
+    }
+    Ok(())
+}
+
+/// The insert lines of rows, in order.
+fn print_rows<A: Allocator + Copy>(alloc: A, rows: &[Row<A>]) -> Result<String<A>, AllocError>
+    ensures { IfOk result (λ lines. string_bytes lines ≡ rows_output rows.now) }
+{
+    let mut lines = String::new(alloc);
+    push_lines(alloc, &mut lines, rows)?;
+    Ok(lines)
+}
+
+/// How a fault of reading CSV is told: that of a width with the arity that was wanted.
+fn told(fault: CsvFault, arity: usize) -> RowsFault
+    ensures { result ≡ told fault arity }
+{
+    match fault {
+        CsvFault::BadName => RowsFault::BadName,
+        CsvFault::BadArity => RowsFault::BadArity,
+        CsvFault::Device { turn } => RowsFault::Read { turn },
+        CsvFault::Width { index } => RowsFault::Width { index, arity },
+        CsvFault::Text { index } => RowsFault::Text { index },
+        CsvFault::NoMemory => RowsFault::NoMemory,
+    }
+}
+
+/// The insert lines of the records that the source gives.
+fn read_lines<A: Allocator + Copy, R: Source>(
+    alloc: A,
+    heap: Global,
+    relation: &str,
+    arity: &str,
+    source: &mut R,
+) -> Result<String<A>, RowsFault>
+    requires reads { R.reads_made source.old < 2 ^ 62 }
+    requires failures { R.failures_met source.old < 2 ^ 62 }
+    ensures words { IfErr (wanted_arity relation.now arity.now) (λ fault. (result ≡ Err fault) × (source.new ≡ source.old)) }
+    ensures lines { IfOk result (λ lines. IfOk (wanted_arity relation.now arity.now) (λ n. IfSome (R.left source.old) (λ input. rows_answer relation.now n input ≡ Ok (string_bytes lines)))) }
+    ensures fault { IfErr result (λ fault. MatchFault fault
+        (wanted_arity relation.now arity.now ≡ Err fault)
+        (λ turn. FailedAtTurn turn (R.reads_made source.old) (R.reads_made source.new) (R.failures_met source.old) (R.failures_met source.new))
+        ⊥
+        (IfOk (wanted_arity relation.now arity.now) (λ n. IfSome (R.left source.old) (λ input. rows_answer relation.now n input ≡ Err fault)))
+        (Unit {0})) }
+    ensures reads { R.reads_made source.new ≤ R.reads_made source.old + MAX_READS }
+    ensures read_failures { MatchResult result (λ _. R.failures_met source.new ≡ R.failures_met source.old) (λ fault. (IsOfReader fault → ⊥) → R.failures_met source.new ≡ R.failures_met source.old) }
+{
+    let arity = wanted_arity(relation, arity)?;
+    let rows = read_csv(alloc, heap, source, relation, arity).map_err(|fault| told(fault, arity))?;
+    Ok(print_rows(alloc, &rows)?)
+}
+
+/// Reads CSV to its end, and then writes the insert lines of its records, in order, and flushes once.
+///
+/// # Errors
+/// `BadName`, and then `BadArity`, before anything is read. `Read`, `Width` and `Text` as `read_csv` tells
+/// them, and `NoMemory` where a growth was refused: nothing is written then. `Write` where the writer
+/// failed.
+pub(crate) fn write_rows<A: Allocator + Copy, R: Source, W: Sink>(
+    alloc: A,
+    heap: Global,
+    relation: &str,
+    arity: &str,
+    source: &mut R,
+    sink: &mut W,
+) -> Result<(), RowsFault>
+    requires reads { R.reads_made source.old < 2 ^ 62 }
+    requires read_failures { R.failures_met source.old < 2 ^ 62 }
+    requires sink { W.write_failures sink.old < 2 ^ 62 }
+
+    // The words are looked at before anything is read, the relation's name first.
+    ensures words { IfErr (wanted_arity relation.now arity.now) (λ fault. (result ≡ Err fault) × (source.new ≡ source.old)) }
+
+    // Where all went well, the insert lines of the rows of all records were written, in order.
+    ensures lines { OnOk result (IfOk (wanted_arity relation.now arity.now) (λ n. IfSome (R.left source.old) (λ input. WroteLines relation.now n input (W.taken sink.old) (W.taken sink.new)))) }
+
+    // Only the writer's own fault leaves something written.
+    ensures nothing { IfErr result (λ fault. (IsOfWriter fault → ⊥) → sink.new ≡ sink.old) }
+
+    // Whose fault it was.
+    ensures fault { IfErr result (λ fault. MatchFault fault
+        (wanted_arity relation.now arity.now ≡ Err fault)
+        (λ turn. FailedAtTurn turn (R.reads_made source.old) (R.reads_made source.new) (R.failures_met source.old) (R.failures_met source.new))
+        (IfOk (wanted_arity relation.now arity.now) (λ n. IfSome (R.left source.old) (λ input. WroteFront relation.now n input (W.taken sink.old) (W.taken sink.new))))
+        (IfOk (wanted_arity relation.now arity.now) (λ n. IfSome (R.left source.old) (λ input. rows_answer relation.now n input ≡ Err fault)))
+        (Unit {0})) }
+    ensures reads { R.reads_made source.new ≤ R.reads_made source.old + MAX_READS }
+    ensures read_failures { MatchResult result (λ _. R.failures_met source.new ≡ R.failures_met source.old) (λ fault. (IsOfReader fault → ⊥) → R.failures_met source.new ≡ R.failures_met source.old) }
+    ensures write_failures { MatchResult result (λ _. W.write_failures sink.new ≡ W.write_failures sink.old) (λ fault. W.write_failures sink.new ≡ W.write_failures sink.old + failures_of fault) }
+{
+    let lines = read_lines(alloc, heap, relation, arity, source)?;
+    match write_text(sink, &lines) {
+        Ok(()) => Ok(()),
+        Err(_) => Err(RowsFault::Write),
+    }
+}

@@ -1,0 +1,61 @@
+//! How the program ends.
+
+ghost use Rattle.std.specs.Prelude.{◌≡◌};
+ghost use Rattle.cq_cli.specs.Status.{code_of, status_of_run, status_of_rows};
+
+use crate::rows::RowsFault;
+use cq_report::RunFault;
+
+/// How the program ends.
+#[derive(Clone, Copy, Debug, PartialEq, Eq)]
+pub(crate) enum Status {
+    /// All was done; refused lines of a script included, and help and the version.
+    Done,
+    /// The source or the sink failed.
+    Failed,
+    /// The words ask for nothing that the program does.
+    Usage,
+    /// A growth was refused for want of memory.
+    NoMemory,
+    /// A record of CSV is at fault.
+    BadRecord,
+}
+
+impl Status {
+    /// The exit status.
+    pub(crate) fn code(self) -> u8
+        ensures { result ≡ code_of self }
+    {
+        match self {
+            Status::Done => 0,
+            Status::Failed => 1,
+            Status::Usage => 2,
+            Status::NoMemory => 3,
+            Status::BadRecord => 4,
+        }
+    }
+
+    /// How the program ends after a run that ended so.
+    pub(crate) fn of_run(fault: RunFault) -> Status
+        ensures { result ≡ status_of_run fault }
+    {
+        match fault {
+            RunFault::Read { turn: _ } | RunFault::Write => Status::Failed,
+            RunFault::NoMemory => Status::NoMemory,
+        }
+    }
+
+    /// How the program ends after rows that ended so.
+    pub(crate) fn of_rows(fault: RowsFault) -> Status
+        ensures { result ≡ status_of_rows fault }
+    {
+        match fault {
+            RowsFault::BadName | RowsFault::BadArity => Status::Usage,
+            RowsFault::Read { turn: _ } | RowsFault::Write => Status::Failed,
+            RowsFault::NoMemory => Status::NoMemory,
+            RowsFault::Width { index: _, arity: _ } | RowsFault::Text { index: _ } => {
+                Status::BadRecord
+            }
+        }
+    }
+}

@@ -1,0 +1,134 @@
+//! The words of the command line, by the kit's `clap`.
+
+use clap::{Arg, Command, Error};
+use std::alloc::{AllocError, Global};
+use std::convert::AsStr;
+
+/// The number that `--version` tells; CHANGELOG.md says what came with each.
+const VERSION: &str = "0.2.0";
+
+const ABOUT: &str = "A live coordination board for entangled queries.";
+
+const BEHIND: &str = "Commands of a script:
+  relation, limits, post, withdraw, insert, delete, publish, show
+  `board replay --help` has a line on each.
+
+Exit status:
+  0  done: refused lines of a script included, and help and version
+  1  standard input or standard output failed
+  2  words that are no command, a bad relation name, a bad arity
+  3  out of memory
+  4  a record of CSV at fault; then nothing is written to standard output
+
+docs/formats.md describes the language, its replies, the report and CSV.";
+
+const ABOUT_REPLAY: &str = "Reads a script on standard input, and writes its replies and reports.";
+
+const BEHIND_REPLAY: &str = "Lines of a script:
+  relation NAME ARITY                        declares a database relation (setup)
+  limits POOL JOURNAL                        the most pending queries and entries (setup)
+  post NAME {POSTCONDITIONS} HEADS <- BODY   a query becomes pending
+  withdraw NAME                              the query is pending no more
+  insert ROW                                 adds a row
+  delete ROW                                 takes a row out
+  publish                                    what was entered is published
+  show                                       prints the board of the last publish
+  # ..                                       a comment
+
+Example:
+  relation Flights 2
+  insert Flights(122, Paris)
+  post kramer {R(Jerry, x)} R(Kramer, x) <- Flights(x, Paris)
+  publish
+  show
+
+Exit status: 0 done (refused lines included), 1 a device failed, 2 usage, 3 out of memory.
+docs/formats.md describes the language.";
+
+const ABOUT_ROWS: &str =
+    "Reads CSV on standard input, and writes an insert line for each record, in order.";
+
+const BEHIND_ROWS: &str =
+    "There is no header row. A field that is a number of the script language is that number; any other is a
+text. Where a record is at fault, the first such is told, counted from 0, and no line is written.
+
+Example:
+  printf '122,Paris\\n007,\"Pa\"\"ris\"\\n' | board rows Flights 2
+writes
+  insert Flights(122, \"Paris\")
+  insert Flights(\"007\", \"Pa\\\"ris\")
+
+Exit status: 0 done, 1 a device failed, 2 usage, 3 out of memory, 4 a record at fault.
+docs/formats.md describes values and CSV.";
+
+/// What the words ask for.
+#[derive(Clone, Copy, Debug)]
+pub(crate) enum Wanted<'a> {
+    /// A script is replayed.
+    Replay,
+    /// CSV becomes insert lines.
+    Rows {
+        /// The word that stands for the relation's name.
+        relation: &'a str,
+        /// The word that stands for its arity.
+        arity: &'a str,
+    },
+}
+
+fn replay_command<'a>(alloc: Global) -> Command<'a> {
+    Command::new(alloc, "replay")
+        .about(ABOUT_REPLAY)
+        .after_help(BEHIND_REPLAY)
+}
+
+/// A word that has to stand there. A number below 0 is such a word too, and no option.
+fn word<'a>(alloc: Global, name: &'a str, help: &'a str) -> Arg<'a> {
+    Arg::new(alloc, name)
+        .required(true)
+        .allow_negative_numbers(true)
+        .help(help)
+}
+
+fn rows_command<'a>(alloc: Global) -> Result<Command<'a>, AllocError> {
+    Command::new(alloc, "rows")
+        .about(ABOUT_ROWS)
+        .after_help(BEHIND_ROWS)
+        .arg(word(
+            alloc,
+            "RELATION",
+            "The relation's name: 1 to 32 letters, digits and _, the first an upper-case letter",
+        ))?
+        .arg(word(
+            alloc,
+            "ARITY",
+            "How many fields a record has: one digit, 1 to 8",
+        ))
+}
+
+fn board_command<'a>(alloc: Global) -> Result<Command<'a>, AllocError> {
+    Command::new(alloc, "board")
+        .version(VERSION)
+        .about(ABOUT)
+        .after_help(BEHIND)
+        .subcommand_required(true)
+        .arg_required_else_help(true)
+        .bin_name("board")?
+        .subcommand(replay_command(alloc))?
+        .subcommand(rows_command(alloc)?)
+}
+
+/// What the words ask for, of which the first is the program's name.
+///
+/// # Errors
+/// What `clap` says of words that ask for nothing, for help or for the version; `OutOfMemory` where a
+/// growth was refused.
+pub(crate) fn read_words<'a, S: AsStr>(alloc: Global, words: &'a [S]) -> Result<Wanted<'a>, Error> {
+    let matches = board_command(alloc)?.try_get_matches_from(words)?;
+    let Some(("rows", rows)) = matches.subcommand() else {
+        return Ok(Wanted::Replay);
+    };
+    Ok(Wanted::Rows {
+        relation: rows.get_str("RELATION").unwrap_or(""),
+        arity: rows.get_str("ARITY").unwrap_or(""),
+    })
+}

@@ -1,0 +1,37 @@
+//! Texts for the two sinks.
+
+ghost use Rattle.std.specs.Prelude.{◌≡◌, ◌<◌, ◌+◌, ◌^◌, OnOk, OnErr, MatchResult};
+ghost use Rattle.std.specs.Io.KnownBytes.{Appends};
+ghost use Rattle.cq_text.specs.Device.{TakesFront};
+
+use cq_text::{Failed, Sink, write_all};
+use std::alloc::Global;
+use std::fmt::Display;
+
+/// Writes a text, and passes on what the sink holds back.
+pub(crate) fn write_text<W: Sink>(sink: &mut W, text: &str) -> Result<(), Failed>
+    requires { W.write_failures sink.old < 2 ^ 62 }
+    ensures ok { OnOk result (Appends (W.taken sink.old) (W.taken sink.new) text.now) }
+    ensures err { OnErr result (TakesFront (W.taken sink.old) (W.taken sink.new) text.now) }
+    ensures failures { MatchResult result (λ _. W.write_failures sink.new ≡ W.write_failures sink.old) (λ _. W.write_failures sink.new ≡ W.write_failures sink.old + 1) }
+{
+    write_all(sink, text.as_bytes())?;
+    sink.flush()
+}
+
+/// Tells a text on the sink of errors, and passes over one that fails: there is nobody left to tell.
+pub(crate) fn tell<E: Sink>(errors: &mut E, text: &str)
+    requires { E.write_failures errors.old < 2 ^ 62 }
+{
+    let _ = write_text(errors, text);
+}
+
+/// Tells a fault in one line on the sink of errors.
+pub(crate) fn tell_fault<F: Display, E: Sink>(alloc: Global, fault: &F, errors: &mut E)
+    requires { E.write_failures errors.old < 2 ^ 62 }
+{
+    match format!(in alloc; "board: {fault}\n") {
+        Ok(text) => tell(errors, &text),
+        Err(_) => tell(errors, "board: out of memory\n"),
+    }
+}
