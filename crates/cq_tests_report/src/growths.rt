@@ -11,10 +11,10 @@ use std::alloc::Allocator;
 /// Setup, every kind of edit, a refused post, a publish and a look.
 const SCRIPT: &[u8] = b"relation T 1\nlimits 9 9\ninsert T(1)\ninsert T(2)\ndelete T(2)
 post a {S(2)} S(1) <-\npost b {S(1)} S(2) <- T(x)\npost b {} S(3) <-
-post c {} S(3) <-\nwithdraw c\npublish\nshow\n";
+publish\nshow\npost c {} S(3) <-\nwithdraw c\n";
 
 const ANSWERS: &[u8] = b"ok\nok\nok 1\nok 2\nok 3\nok 4\nok 5\nrefused NameTaken
-ok 6\nok 7\npublished 7\nshow 7
+published 5\nshow 5
 relation T 1 rows 1
 query a matched
   text {S(2)} S(1) <-
@@ -29,6 +29,7 @@ query b matched
   groundings 1 (x)
     (1)
 end
+ok 6\nok 7
 ";
 
 /// A run of the script.
