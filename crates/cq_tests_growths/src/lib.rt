@@ -45,7 +45,7 @@ pub trait Tried {
 }
 
 /// More growths than any call that is tried makes.
-pub const ENOUGH: u64 = 400;
+pub const ENOUGH: u64 = 2_000;
 
 /// How many growths of the call were refused, until none was.
 ///
