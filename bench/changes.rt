@@ -101,7 +101,7 @@ fn timed(rt: &HostRuntime, query: &Query, count: i64) -> Option<(u128, u128, usi
 
 fn show(rt: &HostRuntime, told: &str, query: &Query) -> Option<()> {
     println!(rt; "{told}").ok()?;
-    for count in [2000, 4000, 8000, 16000] {
+    for count in [500, 1000, 2000, 4000] {
         let (came, went, many) = timed(rt, query, count)?;
         println!(rt; "  {count} rows come: {came} ms, {many} groundings; 100 go: {went} ms").ok()?;
     }
@@ -111,8 +111,8 @@ fn show(rt: &HostRuntime, told: &str, query: &Query) -> Option<()> {
 fn all(rt: &HostRuntime) -> Option<()> {
     let one = query(rt.alloc(), [["x", "y"]].as_slice())?;
     show(rt, "R(x, y) <- T(x, y)", &one)?;
-    let two = query(rt.alloc(), [["x", "y"], ["y", "z"]].as_slice())?;
-    show(rt, "R(x, y) <- T(x, y), T(y, z)", &two)
+    let two = query(rt.alloc(), [["x", "y"], ["x", "z"]].as_slice())?;
+    show(rt, "R(x, y) <- T(x, y), T(x, z)", &two)
 }
 
 fn main(rt: HostRuntime) {
