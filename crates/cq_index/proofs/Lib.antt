@@ -8,3 +8,4 @@ pub mod Gathered
 pub mod Picked
 pub mod Partners
 pub mod Copied
+pub mod CallerLemmas

@@ -1,4 +1,4 @@
-//! The index.
+//! The index: atoms by their places, and the places in buckets.
 
 ghost use Rattle.std.specs.Prelude.{◌≡◌, ◌↔◌, ◌+◌, ℕ, nat_eq, Some, None, IsSome, IsTrue, IfOk, OnOk, OnErr, length, min};
 ghost use Rattle.std.specs.FinMap as map;
@@ -81,14 +81,15 @@ impl<A: Allocator + Copy> AtomIndex<A> {
         }
     }
 
-    /// Whether an atom stands at the place.
+    /// Whether an atom stands at the place. Constant expected time.
     pub fn has(&self, place: usize) -> bool
         ensures { result ≡ map.contains_key self.now place }
     {
         self.kept.contains_key(&place)
     }
 
-    /// Puts a copy of the atom at the place.
+    /// Puts a copy of the atom at the place, where none stands. Constant expected time, however
+    /// many atoms share its buckets.
     ///
     /// # Errors
     /// `AllocError` where a growth was refused; then nothing has changed.
@@ -101,7 +102,8 @@ impl<A: Allocator + Copy> AtomIndex<A> {
         keep(alloc, &mut self.kept, &mut self.buckets, place, atom)
     }
 
-    /// Takes the atom away that stands at the place. Takes no memory.
+    /// Takes the atom away that stands at the place; the place is what it is found by. Takes no
+    /// memory, and constant expected time, however many atoms share its buckets.
     pub fn remove(&mut self, place: usize, atom: &Atom<A>)
         requires { map.get self.old place ≡ Some atom.now }
         ensures { self.new ≡ map.remove self.old place }
@@ -122,7 +124,9 @@ impl<A: Allocator + Copy> AtomIndex<A> {
         }
     }
 
-    /// The places of the atoms that may unify with the given one, rising.
+    /// The places of the candidates of the given atom, rising: of the atoms with its relation and
+    /// arity, where the first arguments of both are not two different constants. An atom that is
+    /// no candidate cannot unify with it. The time is that of sorting the answer.
     ///
     /// # Errors
     /// `AllocError` where a growth was refused.
@@ -147,7 +151,7 @@ impl<A: Allocator + Copy> AtomIndex<A> {
     }
 
     /// The places of the atoms that unify with the given one, rising. The meter counts one test for
-    /// each candidate.
+    /// each candidate, whether it unifies or not.
     ///
     /// # Errors
     /// `AllocError` where a growth was refused; the meter may have counted some tests then.
@@ -167,7 +171,8 @@ impl<A: Allocator + Copy> AtomIndex<A> {
         Ok(partners)
     }
 
-    /// An index with the same atoms at the same places, on the same allocator.
+    /// An index with the same atoms at the same places, on the same allocator. Constant expected
+    /// time for each atom.
     ///
     /// # Errors
     /// `AllocError` where a growth was refused.

@@ -7,13 +7,18 @@ ghost use Rattle.cq_index.specs.Steps.Keys.{first_of, key_of, open_of, group_of}
 use cq_atom::{Atom, Name, Value};
 use std::alloc::{AllocError, Allocator};
 
+/// Which first arguments the atoms of a bucket have.
 #[derive(PartialEq, Eq, Hash, Drop)]
 pub enum First<V> {
+    /// Any at all.
     Any,
+    /// A variable, whatever its name.
     Variable,
+    /// This constant.
     Constant(V),
 }
 
+/// Whose places stand in a bucket: those of the atoms with this relation, arity and first argument.
 #[derive(Drop)]
 #[derive_where(Hash)]
 pub struct Key<A: Allocator> {
@@ -61,6 +66,7 @@ impl<A: Allocator + Clone> Key<A> {
     }
 }
 
+/// The name of the bytes, which the caller knows to be one.
 fn name_of<A: Allocator>(alloc: A, text: &str) -> Result<Name<A>, AllocError>
     ensures { IfOk result (λ name. name ≡ text.now) }
 {
@@ -70,6 +76,7 @@ fn name_of<A: Allocator>(alloc: A, text: &str) -> Result<Name<A>, AllocError>
     }
 }
 
+/// The first argument of the atom, all variables being one.
 fn first_of<A: Allocator + Clone>(atom: &Atom<A>) -> Result<First<Value<A>>, AllocError>
     ensures { IfOk result (λ first. first ≡ first_of (first_constant atom.now)) }
 {

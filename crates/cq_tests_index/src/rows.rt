@@ -36,11 +36,13 @@ fn index_candidates(rt: HostRuntime) -> Result<(), Fail> {
 
 fn removals_hold<A: Allocator + Copy>(alloc: A) -> Result<bool, Bad> {
     let mut index = worked(alloc)?;
-    Ok(comes_and_goes(&mut index, 4, &atom(alloc, &["1"])?)?
-        && comes_and_goes(&mut index, 5, &atom(alloc, &["z"])?)?
-        && comes_and_goes(&mut index, 6, &atom(alloc, &["3", "x"])?)?
-        && !comes_and_goes(&mut index, 3, &atom(alloc, &["3"])?)?
-        && answers_as_worked(alloc, &index)?)
+    Ok(
+        comes_and_goes(&mut index, 4, &atom(alloc, &["1"])?)?
+            && comes_and_goes(&mut index, 5, &atom(alloc, &["z"])?)?
+            && comes_and_goes(&mut index, 6, &atom(alloc, &["3", "x"])?)?
+            && !comes_and_goes(&mut index, 3, &atom(alloc, &["3"])?)?
+            && answers_as_worked(alloc, &index)?,
+    )
 }
 
 #[test]

@@ -107,8 +107,10 @@ fn is_answered<A: Allocator + Copy>(
     answer: &Answer,
 ) -> Result<bool, Bad> {
     let given = atom(alloc, answer.words)?;
-    Ok(candidates_are(index, &given, answer.candidates)?
-        && partners_are(index, &given, answer.partners, answer.candidates.len())?)
+    Ok(
+        candidates_are(index, &given, answer.candidates)?
+            && partners_are(index, &given, answer.partners, answer.candidates.len())?,
+    )
 }
 
 /// Whether the index answers as the worked one.
