@@ -1,10 +1,10 @@
 -- The records of a text, and the faults of records.
-use Rattle.std.proofs.Common.{◌≡◌, ◌≤◌, ◌<◌, ℕ, ◌+◌, ◌-◌, suc, zero, List, [], ◌∷◌, ◌++◌, length, take, filter_map, Option, Some, None, Bool, true, false, refl, ap, ◌∙◌, append_assoc, arith, length-append}
-use Rattle.std.specs.Prelude.{if◌then◌else◌, ◌&&◌, Ok}
+use Rattle.std.proofs.Common.{◌≡◌, ◌≤◌, ◌<◌, ℕ, ◌+◌, ◌-◌, suc, zero, List, [], ◌∷◌, ◌++◌, length, take, filter_map, Option, Some, None, Bool, true, false, refl, ap, ◌∙◌, append_assoc, arith, length-append, subst, sym}
+use Rattle.std.specs.Prelude.{if◌then◌else◌, ◌&&◌, Ok, Err, Result, IfOk, IfErr, IfSome}
 use Rattle.std.specs.List.{list_all, enumerate_from, cons_option}
 use Rattle.std.proofs.lemmas.List.{append-nil}
 use Rattle.csv.specs.Machine.{Read, ends_at_end, field_after, fields_after, is_end, next_record, step}
-use Rattle.csv.specs.Reading.{Reached, records, records_from, strip_bom, is_bom}
+use Rattle.csv.specs.Reading.{AreRecords, Reached, records, records_from, records_next, strip_bom, is_bom}
 use Rattle.csv.specs.Records.{field_at}
 use Rattle.csv.specs.declared.parser.Config.{Config}
 use Rattle.csv.specs.declared.parser.State.{State}
@@ -12,6 +12,7 @@ use Rattle.csv.specs.declared.parser.State.TheVariants as st
 use Rattle.cq_atom.specs.Answer.{Answers}
 use Rattle.cq_atom.specs.Atom.{RowRecord}
 use Rattle.cq_atom.specs.declared.fault.Bad.{Bad}
+use Rattle.cq_text.specs.Device.{ReadWhole}
 use Rattle.cq_rel.specs.declared.fault.CsvFault.{CsvFault}
 use Rattle.cq_rel.specs.declared.fault.CsvFault.TheVariants.{BadName, BadArity, Device, Width, Text, NoMemory}
 use Rattle.cq_rel.specs.Csv.{CsvRecord, IfOfRecord, first_of, is_field, record_fault, records_fault}
@@ -114,6 +115,34 @@ are_all cfg xs rows s2 ys h none =
     let n : ℕ = (length xs + 1) - length rows in
     let count : length xs + 1 ≡ length rows + n = omega (arith, few) in
     begins_with cfg (length xs + 1) n st.StartRecord xs rows s2 ys count h ∙ ap (λ (l : List CsvRecord). rows ++ l) (none-more cfg n s2 ys none) ∙ append-nil rows
+
+-- all records, and none behind them
+joined : (cfg : Config) (n : ℕ) (s : State) (xs : List ℕ) (o : Option Read) → next_record cfg s [] [] xs ≡ o → ((p : Read) → next_record cfg s [] [] xs ≡ Some p → AreRecords cfg p.1 p.2 (records_from cfg n p.1 p.2))
+    → AreRecords cfg s xs (records_next (records_from cfg n) o)
+unfolding Reached
+joined cfg n s xs None e more = (s, xs, (refl, refl), e)
+joined cfg n s xs (Some p) e more =
+    let r = more p e in
+    (r.0, r.1, (p, e, refl, r.2), r.3)
+
+all_at_end : (cfg : Config) (n : ℕ) → AreRecords cfg st.StartRecord [] (records_from cfg n st.StartRecord [])
+unfolding Reached
+all_at_end cfg n = rw (none-more cfg n st.StartRecord [] (none-at-start cfg)) (st.StartRecord, [], (refl, refl), none-at-start cfg)
+
+all_behind : (cfg : Config) (n : ℕ) (s : State) (xs : List ℕ) → length xs ≤ n → ((s2 : State) (ys : List ℕ) → length ys < n → AreRecords cfg s2 ys (records_from cfg n s2 ys))
+    → (p : Read) → next_record cfg s [] [] xs ≡ Some p → AreRecords cfg p.1 p.2 (records_from cfg n p.1 p.2)
+all_behind cfg n s [] h all p e =
+    let left = last-left cfg s p e in
+    rw (left.0, left.1) (all_at_end cfg n)
+all_behind cfg n s (c ∷ rest) h all p e = all p.1 p.2 (omega (arith, h, few-left _ (length rest) p (shorter cfg s [] [] c rest) e))
+
+all_from : (cfg : Config) (n : ℕ) (s : State) (xs : List ℕ) → length xs < n → AreRecords cfg s xs (records_from cfg n s xs)
+unfolding records_from
+all_from cfg zero s xs h = let never : ⊥ = omega (arith, h) in absurd never
+all_from cfg (suc n) s xs h = joined cfg n s xs (next_record cfg s [] [] xs) refl (all_behind cfg n s xs (omega (arith, h)) (all_from cfg n))
+
+pub all_are : (cfg : Config) (xs : List ℕ) → AreRecords cfg st.StartRecord xs (records cfg xs)
+all_are cfg xs = all_from cfg (length xs + 1) st.StartRecord xs (omega arith)
 
 -- a record more
 reached_more : (cfg : Config) (s : State) (xs : List ℕ) (rows : List CsvRecord) (s2 : State) (ys : List ℕ) (q : Read) → Reached cfg s xs rows s2 ys → next_record cfg s2 [] [] ys ≡ Some q → Reached cfg s xs (rows ++ (q.0 ∷ [])) q.1 q.2
@@ -245,3 +274,27 @@ module _ {V : Type 0} (h : List ℕ → Option V) (p : List ℕ → Bool) where
           on : (o : Option V) → filter_map h (l ++ (f ∷ [])) ≡ filter_map h l ++ (v ∷ []) → cons_option o (filter_map h (l ++ (f ∷ []))) ≡ cons_option o (filter_map h l) ++ (v ∷ [])
           on None e = e
           on (Some w) e = ap (λ (vs : List V). w ∷ vs) e
+
+-- ---- what was read
+
+-- what holds of all bytes that were read holds of the bytes that the source told
+of_input : (left left' : Option (List ℕ)) (bytes : List ℕ) (P : List ℕ → Type 0) → ReadWhole left left' bytes → P bytes → IfSome left P
+of_input None left' bytes P whole p = tt
+of_input (Some input) None bytes P whole p = absurd whole.read
+of_input (Some input) (Some rest) bytes P whole p =
+    let is : input ≡ bytes = whole.read ∙ ap (λ (r : List ℕ). bytes ++ r) whole.at_end ∙ append-nil bytes in
+    subst P (sym is) p
+
+module _ (left left' : Option (List ℕ)) (bytes : List ℕ) (whole : ReadWhole left left' bytes) where
+  pub rows_of_input : {V : Type 0} (r : Result V CsvFault) (Q : V → List ℕ → Type 0) → IfOk r (λ v. Q v bytes) → IfOk r (λ v. IfSome left (Q v))
+  rows_of_input (Ok v) Q h = of_input left left' bytes (Q v) whole h
+  rows_of_input (Err fault) Q h = tt
+
+  pub fault_of_input : {V : Type 0} (r : Result V CsvFault) (Q : CsvFault → List ℕ → Type 0) → IfErr r (λ fault. IfOfRecord fault (Q fault bytes)) → IfErr r (λ fault. IfOfRecord fault (IfSome left (Q fault)))
+  fault_of_input (Ok v) Q h = tt
+  fault_of_input (Err BadName) Q h = tt
+  fault_of_input (Err BadArity) Q h = tt
+  fault_of_input (Err (Device turn)) Q h = tt
+  fault_of_input (Err (Width index)) Q h = of_input left left' bytes (Q (Width index)) whole h
+  fault_of_input (Err (Text index)) Q h = of_input left left' bytes (Q (Text index)) whole h
+  fault_of_input (Err NoMemory) Q h = tt

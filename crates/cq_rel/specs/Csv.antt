@@ -27,11 +27,12 @@ record_fault arity r =
     if not (nat_eq (length r.1) arity) then Some (Width r.0)
     else (if not (list_all is_field r.1) then Some (Text r.0) else None)
 
--- The fault of the first record that has one, counted from 0.
+-- The first of some faults, where there is one.
 abbrev pub first_of : List CsvFault → Option CsvFault
 first_of [] = None
 first_of (fault ∷ faults) = Some fault
 
+-- The fault of the first record that has one; records count from 0.
 abbrev pub records_fault : ℕ → List CsvRecord → Option CsvFault
 records_fault arity rs = first_of (filter_map (record_fault arity) (enumerate_from 0 rs))
 

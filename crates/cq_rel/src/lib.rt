@@ -23,4 +23,5 @@ pub use catalog::Catalog;
 pub use fault::{CatalogFault, CsvFault, RowFault};
 pub use limits::MAX_RELATIONS;
 pub use reading::read_csv;
+pub use records::all_records;
 pub use tables::Tables;

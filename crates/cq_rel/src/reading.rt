@@ -119,5 +119,5 @@ pub fn read_csv<A: Allocator + Copy, R: Source>(
         return Err(fault);
     }
     let bytes = read_whole(alloc, source)?;
-    rows_of(alloc, heap, &bytes, relation, arity)
+    rows_of(alloc, heap, bytes.as_slice(), relation, arity)
 }

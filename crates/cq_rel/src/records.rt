@@ -1,10 +1,11 @@
 //! Rows of the records that bytes of CSV have.
 
-ghost use Rattle.std.specs.Prelude.{◌≡◌, ◌<◌, ◌⊎◌, [], None, Some, true, false, length, map, filter_map, IfOk, IfErr, OnOk};
+ghost use Rattle.std.specs.Prelude.{◌≡◌, ◌<◌, ◌⊎◌, ℕ, List, [], None, Some, true, false, length, map, filter_map, IfOk, IfErr, OnOk};
 ghost use Rattle.std.specs.List.{list_all};
 ghost use Rattle.cq_text.specs.Field.{value_of_field};
-ghost use Rattle.csv.specs.Reading.{ReadRecord, default_config, records};
+ghost use Rattle.csv.specs.Reading.{AreRecords, ReadRecord, default_config, records, strip_bom};
 ghost use Rattle.csv.specs.Records.{fields_of};
+ghost use Rattle.csv.specs.declared.parser.State.TheVariants as st;
 ghost use Rattle.cq_rel.specs.Csv.{IfOfRecord, csv_records, is_field, record_fault, records_fault, row_of_record};
 ghost use Rattle.cq_rel.specs.Steps.Csv.{IsAtStart, IsInRecords, IsPlain, bytes_of, text_left};
 
@@ -132,3 +133,9 @@ pub(crate) fn rows_of<A: Allocator + Copy>(
     )?;
     Ok(rows)
 }
+
+/// The records of bytes are all that the reader of `csv` takes from them, one after another from their start
+/// to where it takes none. This is a law of the definitions alone, so there is nothing to do.
+pub fn all_records()
+    ensures { (bytes : List ℕ) → AreRecords default_config st.StartRecord (strip_bom bytes) (csv_records bytes) }
+{}

@@ -2,7 +2,7 @@
 
 use cq_atom::Row;
 use cq_refusing::Refusing;
-use cq_rel::{CsvFault, read_csv};
+use cq_rel::{CsvFault, all_records, read_csv};
 use cq_text::{Counted, print_row};
 use std::alloc::{AllocError, Allocator, Global};
 use std::io::{self, ErrorKind, Read};
@@ -36,6 +36,8 @@ fn gives(heap: Global, text: &[u8], arity: usize, printed: &[&str]) -> bool {
 
 #[test]
 fn csv_to_inserts(rt: HostRuntime) {
+    // Each text has these records and no others.
+    all_records();
     for (text, arity, printed) in [
         (
             b"122,Paris\n\"123\",\"Pa\"\"ris\"\n007,\n".as_slice(),

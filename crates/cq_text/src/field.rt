@@ -1,10 +1,10 @@
 //! Fields of CSV.
 
-ghost use Rattle.std.specs.Prelude.{◌≡◌, None, Some, IfOk};
+ghost use Rattle.std.specs.Prelude.{◌≡◌, None, Some, Ok, Err, IfOk, IfSome};
 ghost use Rattle.std.specs.List.{list_all};
 ghost use Rattle.std.specs.Char.{is_ascii_digit};
 ghost use Rattle.cq_text.specs.Field.{number_of_field, value_of_field};
-ghost use Rattle.cq_text.specs.Views.{IfFault};
+ghost use Rattle.cq_text.specs.Views.{IfFault, OrNoMemory};
 
 use crate::fault::{Kind, TextFault};
 use crate::lexing::{negative, positive};
@@ -52,8 +52,14 @@ fn number_of_field(field: &[u8]) -> Option<i64>
 /// are not UTF-8, have a control character of ASCII, or are more than 255. `NoMemory` where a growth
 /// was refused.
 pub fn read_field<A: Allocator>(alloc: A, field: &[u8]) -> Result<Value<A>, TextFault>
-    ensures value { IfOk result (λ value. value_of_field field.now ≡ Some value) }
+    // What is read is the value that the field stands for.
+    ensures found { IfOk result (λ value. value_of_field field.now ≡ Some value) }
+    // A field that stands for a value is read as it.
+    ensures only { IfSome (value_of_field field.now) (λ value. OrNoMemory result (Ok value)) }
+    // A field is refused where it stands for none, always at its start.
     ensures fault { IfFault result (λ kind offset. (value_of_field field.now ≡ None) × (kind ≡ Kind.Text) × (offset ≡ 0)) }
+    // A field that stands for none is refused so.
+    ensures only_fault { value_of_field field.now ≡ None → OrNoMemory result (Err (TextFault.At Kind.Text 0)) }
 {
     if let Some(number) = number_of_field(field) {
         return Ok(Value::num(number));

@@ -13,7 +13,7 @@ loop-field-preserved g c =
     let at = c.loop-field.field-iterator.at in
     let fields = fields_of c.args.fields.now in
     let here : field_at fields at ≡ Some c.in-Some.field.now = rw i.record_is at (sym s.1) in
-    let value = c.in-Ok.ensures.value in
+    let value = c.in-Ok.ensures.found in
     let good : is_field c.in-Some.field.now ≡ true = rw value refl in
     record {
       record_is = rw s.0 i.record_is;
