@@ -1,7 +1,8 @@
 //! Insert lines from CSV.
 
-ghost use Rattle.std.specs.Prelude.{◌≡◌, ◌<◌, ◌≤◌, ◌+◌, ◌^◌, ◌++◌, string_bytes, IfOk, OnOk, IfErr, IfSome, MatchResult, Ok, Err};
+ghost use Rattle.std.specs.Prelude.{◌≡◌, ◌<◌, ◌≤◌, ◌+◌, ◌^◌, ◌++◌, codes, string_bytes, IfOk, OnOk, IfErr, IfSome, MatchResult, Ok, Err};
 ghost use Rattle.cq_text.specs.Device.{FailedAtTurn};
+ghost use Rattle.cq_cli.specs.declared.rows.RowsFault.{RowsFault};
 ghost use Rattle.cq_cli.specs.Rows.{arity_of, wanted_arity, insert_line, rows_output, rows_answer, told, MatchFault, IsOfReader, IsOfWriter, failures_of, WroteLines, WroteFront};
 
 use crate::writing::write_text;
@@ -68,6 +69,16 @@ fn wanted_arity(relation: &str, arity: &str) -> Result<usize, RowsFault>
     arity_of(arity).ok_or(RowsFault::BadArity)
 }
 
+/// Adds the line whose row is printed.
+fn push_printed<A: Allocator>(lines: &mut String<A>, printed: &str) -> Result<(), AllocError>
+    ensures { OnOk result (string_bytes lines.new ≡ string_bytes lines.old ++ (codes "insert " ++ (printed.now ++ codes "\n"))) }
+{
+    lines.push_str("insert ")?;
+    lines.push_str(printed)?;
+    lines.push('\n')?;
+    Ok(())
+}
+
 fn push_line<A: Allocator + Copy>(
     alloc: A,
     lines: &mut String<A>,
@@ -76,10 +87,7 @@ fn push_line<A: Allocator + Copy>(
     ensures { OnOk result (string_bytes lines.new ≡ string_bytes lines.old ++ insert_line row.now) }
 {
     let printed = print_row(alloc, row)?;
-    lines.push_str("insert ")?;
-    lines.push_str(&printed)?;
-    lines.push('\n')?;
-    Ok(())
+    push_printed(lines, &printed)
 }
 
 fn push_lines<A: Allocator + Copy>(
@@ -96,8 +104,9 @@ fn push_lines<A: Allocator + Copy>(
 }
 
 /// The insert lines of rows, in order.
-fn print_rows<A: Allocator + Copy>(alloc: A, rows: &[Row<A>]) -> Result<String<A>, AllocError>
-    ensures { IfOk result (λ lines. string_bytes lines ≡ rows_output rows.now) }
+fn print_rows<A: Allocator + Copy>(alloc: A, rows: &[Row<A>]) -> Result<String<A>, RowsFault>
+    ensures lines { IfOk result (λ lines. string_bytes lines ≡ rows_output rows.now) }
+    ensures memory { IfErr result (λ fault. fault ≡ RowsFault.NoMemory) }
 {
     let mut lines = String::new(alloc);
     push_lines(alloc, &mut lines, rows)?;
@@ -140,8 +149,10 @@ fn read_lines<A: Allocator + Copy, R: Source>(
     ensures read_failures { MatchResult result (λ _. R.failures_met source.new ≡ R.failures_met source.old) (λ fault. (IsOfReader fault → ⊥) → R.failures_met source.new ≡ R.failures_met source.old) }
 {
     let arity = wanted_arity(relation, arity)?;
-    let rows = read_csv(alloc, heap, source, relation, arity).map_err(|fault| told(fault, arity))?;
-    Ok(print_rows(alloc, &rows)?)
+    match read_csv(alloc, heap, source, relation, arity) {
+        Ok(rows) => print_rows(alloc, &rows),
+        Err(fault) => Err(told(fault, arity)),
+    }
 }
 
 /// Reads CSV to its end, and then writes the insert lines of its records, in order, and flushes once.
