@@ -107,8 +107,8 @@ module _ (pending : List PendingQuery) (choices : List ChoiceRecord) where
 
   numbers-In : (place : ℕ) (posted : PendingQuery) → slice_get pending place ≡ Some posted → In place (numbers (nodes_of pending))
   numbers-In place posted there =
-      In-map (λ (node : ℕ × ℕ). node.0) (nodes_of pending) (place, length posted.query.posts)
-      (In-map (λ p. (p.0, length p.1.query.posts)) (enumerate_from 0 pending) (place, posted) (enumerate-In pending place posted there))
+      In-map (λ (node : ℕ × ℕ × Bool). node.0) (nodes_of pending) (place, length posted.query.posts, true)
+      (In-map (λ p. (p.0, length p.1.query.posts, true)) (enumerate_from 0 pending) (place, posted) (enumerate-In pending place posted there))
 
   -- a choice of a pending query is among them
   chosen-In : (c : ChoiceRecord) (query : QueryRecord) → In c choices → (p : Placed c.name pending query) → In p.place chosen
@@ -137,14 +137,20 @@ module _ (pending : List PendingQuery) (choices : List ChoiceRecord) where
             (edge-between pending i p.place k spot.0 waiting p.posted post head.0 at_i p.there at_k spot.1 head.2)
             (rw (eq-eqb i i refl, eq-eqb k k refl) member)
 
+    -- each node is able
+    node_able : (node : ℕ × ℕ × Bool) → In node (nodes_of pending) → node.2 ≡ true
+    node_able node m =
+        let by_place = In-map_gives (λ p. (p.0, length p.1.query.posts, true)) (enumerate_from 0 pending) node m in
+        ap (λ (n : ℕ × ℕ × Bool). n.2) by_place.2
+
     -- each postcondition of a chosen query has an edge from a chosen one
-    node_supplied : (node : ℕ × ℕ) → In node (nodes_of pending) → In node.0 chosen → has_each_post (edges_of pending) chosen node ≡ true
+    node_supplied : (node : ℕ × ℕ × Bool) → In node (nodes_of pending) → In node.0 chosen → has_each_post (edges_of pending) chosen node ≡ true
     node_supplied node m h =
-        let by_place = In-map_gives (λ p. (p.0, length p.1.query.posts)) (enumerate_from 0 pending) node m in
+        let by_place = In-map_gives (λ p. (p.0, length p.1.query.posts, true)) (enumerate_from 0 pending) node m in
         let waiting = by_place.0.1 in
         let here : slice_get pending by_place.0.0 ≡ Some waiting = In-enumerate pending by_place.0 by_place.1 in
-        let first : node.0 ≡ by_place.0.0 = ap (λ (n : ℕ × ℕ). n.0) by_place.2 in
-        let second : node.1 ≡ length waiting.query.posts = ap (λ (n : ℕ × ℕ). n.1) by_place.2 in
+        let first : node.0 ≡ by_place.0.0 = ap (λ (n : ℕ × ℕ × Bool). n.0) by_place.2 in
+        let second : node.1 ≡ length waiting.query.posts = ap (λ (n : ℕ × ℕ × Bool). n.1) by_place.2 in
         let at_node : slice_get pending node.0 ≡ Some waiting = ap (slice_get pending) first ∙ here in
         let test = In-filter_gives is_chosen (numbers (nodes_of pending)) node.0 h in
         let by_choice = any_gives (λ d. is_place (place_of d.name pending) node.0) choices test in
@@ -166,9 +172,9 @@ module _ (pending : List PendingQuery) (choices : List ChoiceRecord) where
     chosen_closed : is_closed (nodes_of pending) (edges_of pending) chosen ≡ true
     unfolding is_closed
     chosen_closed =
-        all_has (λ node. not (is_member nat_eq chosen node.0) || has_each_post (edges_of pending) chosen node) (nodes_of pending)
-        (λ node m. by_bool (is_member nat_eq chosen node.0) ((not (is_member nat_eq chosen node.0) || has_each_post (edges_of pending) chosen node) ≡ true)
-        (λ t. rw (t, node_supplied node m (member-In chosen node.0 t)) refl)
+        all_has (λ node. not (is_member nat_eq chosen node.0) || (node.2 && has_each_post (edges_of pending) chosen node)) (nodes_of pending)
+        (λ node m. by_bool (is_member nat_eq chosen node.0) ((not (is_member nat_eq chosen node.0) || (node.2 && has_each_post (edges_of pending) chosen node)) ≡ true)
+        (λ t. rw (t, node_able node m, node_supplied node m (member-In chosen node.0 t)) refl)
         (λ f. rw f refl))
 
     chosen_matched : (place : ℕ) → In place chosen → is_matched_at pending place ≡ true

@@ -47,7 +47,7 @@ module _ {X : Type 0} where
 -- ---- nodes
 
 -- the nodes' numbers are the places
-numbers_are : (n : ℕ) (pending : List PendingQuery) → numbers (map (λ p. (p.0, length p.1.query.posts)) (enumerate_from n pending)) ≡ map (λ p. p.0) (enumerate_from n pending)
+numbers_are : (n : ℕ) (pending : List PendingQuery) → numbers (map (λ p. (p.0, length p.1.query.posts, true)) (enumerate_from n pending)) ≡ map (λ p. p.0) (enumerate_from n pending)
 numbers_are n [] = refl
 numbers_are n (q ∷ pending) = ap (λ ns. n ∷ ns) (numbers_are (n + 1) pending)
 
@@ -60,15 +60,15 @@ distinct_above n (x ∷ xs) r = (apart (x + 1) xs (omega arith) r.1, distinct_ab
     apart m [] low s = tt
     apart m (y ∷ ys) low s = (ne_eqb x y (λ e. omega arith), apart (y + 1) ys (omega arith) s.1)
 
-pub nodes_distinct : (pending : List PendingQuery) (nodes : List (ℕ × ℕ)) → nodes ≡ nodes_of pending → IsDistinct nat_eq (numbers nodes)
+pub nodes_distinct : (pending : List PendingQuery) (nodes : List (ℕ × ℕ × Bool)) → nodes ≡ nodes_of pending → IsDistinct nat_eq (numbers nodes)
 nodes_distinct pending nodes e =
-    subst (λ (ns : List (ℕ × ℕ)). IsDistinct nat_eq (numbers ns)) (sym e)
+    subst (λ (ns : List (ℕ × ℕ × Bool)). IsDistinct nat_eq (numbers ns)) (sym e)
     (rw (numbers_are 0 pending) (distinct_above 0 (map (λ p. p.0) (enumerate_from 0 pending)) (rises_places 0 pending)))
 
 -- ---- ends of edges
 
-abbrev pub HasEnds : List (ℕ × ℕ) → Edge → Type 0
-HasEnds nodes edge = Contains (numbers nodes) edge.provider × Any (λ (node : ℕ × ℕ). (node.0 ≡ edge.waiter) × (edge.post < node.1)) nodes
+abbrev pub HasEnds : List (ℕ × ℕ × Bool) → Edge → Type 0
+HasEnds nodes edge = Contains (numbers nodes) edge.provider × Any (λ (node : ℕ × ℕ × Bool). (node.0 ≡ edge.waiter) × (edge.post < node.1)) nodes
 
 edge_is : (provider : ℕ) (head : ℕ × AtomRecord) (waiter : ℕ) (post : ℕ × AtomRecord) (edge : Edge) → In edge (edge_if provider head waiter post)
     → edge ≡ (record { provider = provider; head = head.0; waiter = waiter; post = post.0 })
@@ -81,10 +81,10 @@ number_of : (pending : List PendingQuery) (p : ℕ × PendingQuery) → In p (en
 number_of pending p h = contains_from_In (numbers (nodes_of pending)) p.0 (rw (numbers_are 0 pending) (In-map (λ q. q.0) (enumerate_from 0 pending) p h))
 
 node_of : (pending : List PendingQuery) (p : ℕ × PendingQuery) (post : ℕ) → In p (enumerate_from 0 pending) → post < length p.1.query.posts
-    → Any (λ (node : ℕ × ℕ). (node.0 ≡ p.0) × (post < node.1)) (nodes_of pending)
+    → Any (λ (node : ℕ × ℕ × Bool). (node.0 ≡ p.0) × (post < node.1)) (nodes_of pending)
 node_of pending p post h low =
-    any_from_In (λ (node : ℕ × ℕ). (node.0 ≡ p.0) × (post < node.1)) (nodes_of pending) (p.0, length p.1.query.posts)
-    (In-map (λ (q : ℕ × PendingQuery). (q.0, length q.1.query.posts)) (enumerate_from 0 pending) p h) (refl, low)
+    any_from_In (λ (node : ℕ × ℕ × Bool). (node.0 ≡ p.0) × (post < node.1)) (nodes_of pending) (p.0, length p.1.query.posts, true)
+    (In-map (λ (q : ℕ × PendingQuery). (q.0, length q.1.query.posts, true)) (enumerate_from 0 pending) p h) (refl, low)
 
 ends_of : (pending : List PendingQuery) (edge : Edge) → In edge (edges_of pending) → HasEnds (nodes_of pending) edge
 ends_of pending edge h =
@@ -98,9 +98,9 @@ ends_of pending edge h =
     subst (HasEnds (nodes_of pending)) (sym is)
     (number_of pending provider.0 provider.1, node_of pending waiter.0 post.0.0 waiter.1 low)
 
-pub edges_have_ends : (pending : List PendingQuery) (nodes : List (ℕ × ℕ)) (edges : List Edge) → nodes ≡ nodes_of pending → edges ≡ edges_of pending → All (HasEnds nodes) edges
+pub edges_have_ends : (pending : List PendingQuery) (nodes : List (ℕ × ℕ × Bool)) (edges : List Edge) → nodes ≡ nodes_of pending → edges ≡ edges_of pending → All (HasEnds nodes) edges
 edges_have_ends pending nodes edges e f =
-    subst (λ (ns : List (ℕ × ℕ)). All (HasEnds ns) edges) (sym e)
+    subst (λ (ns : List (ℕ × ℕ × Bool)). All (HasEnds ns) edges) (sym e)
     (subst (λ (es : List Edge). All (HasEnds (nodes_of pending)) es) (sym f) (all_from_In (HasEnds (nodes_of pending)) (edges_of pending) (ends_of pending)))
 
 -- ---- matched places
@@ -126,7 +126,7 @@ both_true true b h = h
 both_true false b h = cc
 
 -- only a node is matched
-matched_node : (nodes : List (ℕ × ℕ)) (edges : List Edge) (n : ℕ) → is_matched nodes edges n ≡ true → In n (numbers nodes)
+matched_node : (nodes : List (ℕ × ℕ × Bool)) (edges : List Edge) (n : ℕ) → is_matched nodes edges n ≡ true → In n (numbers nodes)
 unfolding is_matched
 matched_node nodes edges n h =
     let set = any_gives (λ set. is_closed nodes edges set && is_member nat_eq set n) (sublists (numbers nodes)) h in
@@ -143,13 +143,13 @@ matched_are pending found exactly sorted =
     (λ n h. In_from_contains found n ((exactly n).1 (In-filter_gives (is_matched_at pending) places n h)))
 
 -- the same of a call that may fail
-pub matched_made : {V E : Type 0} (items : V → List ℕ) (pending : List PendingQuery) (nodes : List (ℕ × ℕ)) (edges : List Edge) (result : Result V E) → nodes ≡ nodes_of pending → edges ≡ edges_of pending
+pub matched_made : {V E : Type 0} (items : V → List ℕ) (pending : List PendingQuery) (nodes : List (ℕ × ℕ × Bool)) (edges : List Edge) (result : Result V E) → nodes ≡ nodes_of pending → edges ≡ edges_of pending
     → IfOk result (λ found. (n : ℕ) → Contains (items found) n ↔ IsTrue (is_matched nodes edges n)) → IfOk result (λ found. IsStrictlySortedBy nat_cmp (items found)) → IfOk result (λ found. items found ≡ matched_of pending)
 matched_made items pending nodes edges (Err fault) e f exactly sorted = tt
 matched_made items pending nodes edges (Ok found) e f exactly sorted =
     matched_are pending (items found)
     (λ n.
-    subst (λ (ns : List (ℕ × ℕ)). Contains (items found) n ↔ IsTrue (is_matched ns (edges_of pending) n)) e
+    subst (λ (ns : List (ℕ × ℕ × Bool)). Contains (items found) n ↔ IsTrue (is_matched ns (edges_of pending) n)) e
     (subst (λ (es : List Edge). Contains (items found) n ↔ IsTrue (is_matched nodes es n)) f (exactly n)))
     sorted
 

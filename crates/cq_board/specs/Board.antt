@@ -1,6 +1,6 @@
 -- The board of a pool: what is computed from scratch over its queries and rows.
 -- (edges, and groundings of bodies: Gupta et al., SIGMOD 2011; crowded, matched and the order of lists: this project's profile)
-use Rattle.std.specs.Prelude.{ℕ, Bool, List, [], ◌∷◌, map, filter, length, if◌then◌else◌, Option, Some, None, option_map}
+use Rattle.std.specs.Prelude.{ℕ, Bool, true, List, [], ◌∷◌, map, filter, length, if◌then◌else◌, Option, Some, None, option_map}
 use Rattle.std.specs.List.{flat_map, enumerate_from, slice_get, position}
 use Rattle.cq_atom.specs.Value.{ValueContent}
 use Rattle.cq_atom.specs.Atom.{AtomRecord}
@@ -14,9 +14,9 @@ use Rattle.cq_board.specs.Pool.{PendingQuery, PoolRecord}
 use Rattle.cq_board.specs.Edges.{edges_of}
 use Rattle.cq_board.specs.Edits.{is_named}
 
--- The graph's nodes: the places of the queries, each with its number of postconditions.
-abbrev pub nodes_of : List PendingQuery → List (ℕ × ℕ)
-nodes_of pending = map (λ p. (p.0, length p.1.query.posts)) (enumerate_from 0 pending)
+-- The graph's nodes: the places of the queries, each with its number of postconditions. All are able.
+abbrev pub nodes_of : List PendingQuery → List (ℕ × ℕ × Bool)
+nodes_of pending = map (λ p. (p.0, length p.1.query.posts, true)) (enumerate_from 0 pending)
 
 -- The query at that place is matched.
 abbrev pub is_matched_at : List PendingQuery → ℕ → Bool

@@ -25,16 +25,16 @@ pub(crate) struct Parts<A: Allocator = Global> {
     pub(crate) groundings: Vec<Groundings<A>, A>,
 }
 
-/// The graph's nodes: each query's place, with how many postconditions it has.
+/// The graph's nodes: each query's place, with how many postconditions it has. All are able.
 fn nodes_of<A: Allocator>(
     alloc: A,
     pending: &[Posted<A>],
-) -> Result<Vec<(usize, u8), A>, AllocError>
+) -> Result<Vec<(usize, u8, bool), A>, AllocError>
     ensures { IfOk result (λ nodes. nodes.items ≡ nodes_of pending.now) }
 {
     let mut nodes = Vec::with_capacity(alloc, pending.len())?;
     for (place, posted) in pending.iter().enumerate() {
-        nodes.push((place, posted.query.posts().len() as u8))?;
+        nodes.push((place, posted.query.posts().len() as u8, true))?;
     }
     Ok(nodes)
 }

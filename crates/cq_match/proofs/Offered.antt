@@ -12,29 +12,33 @@ use Rattle.std.proofs.lemmas.List.Sorted.{All-permutation, list_any-IsPermutatio
 use Rattle.cq_match.specs.declared.edge.Edge.{Edge}
 use Rattle.cq_match.specs.declared.settle.Offer.{Offer}
 use Rattle.cq_match.specs.Graph.{leads_to}
-use Rattle.cq_match.specs.Steps.Places.{number_at, posts_at, IsRanked, AreSlots, IsOfferOf, AreOffersOf}
+use Rattle.cq_match.specs.Steps.Places.{number_at, posts_at, slots_at, IsRanked, AreSlots, IsOfferOf, AreOffersOf}
 use Rattle.cq_match.specs.Steps.Settle.{feeds, is_into}
 use Rattle.cq_match.proofs.Tests.{same_tests, and_left, and_right, both}
 use Rattle.cq_match.proofs.Ranks.{Nodes, one-place}
 
 -- the node that has the number is the one at its place
-pub posts-of : (ranked : Nodes) → IsRanked ranked → (waiter post place : ℕ) → place < length ranked → number_at ranked place ≡ waiter → Any (λ (node : ℕ × ℕ). (node.0 ≡ waiter) × (post < node.1)) ranked → post < posts_at ranked place
+pub posts-of : (ranked : Nodes) → IsRanked ranked → (waiter post place : ℕ) → place < length ranked → number_at ranked place ≡ waiter → Any (λ (node : ℕ × ℕ × Bool). (node.0 ≡ waiter) × (post < node.1)) ranked → post < posts_at ranked place
 posts-of ranked rising waiter post place low at (k, node, held, here, (is, has)) =
-    let there : get_or ranked k (0, 0) ≡ node = get_or_default ranked k (0, 0) node held ∙ here in
-    let number : number_at ranked k ≡ waiter = ap (λ (n : ℕ × ℕ). n.0) there ∙ is in
+    let there : get_or ranked k (0, 0, false) ≡ node = get_or_default ranked k (0, 0, false) node held ∙ here in
+    let number : number_at ranked k ≡ waiter = ap (λ (n : ℕ × ℕ × Bool). n.0) there ∙ is in
     let same = one-place ranked rising k place held low (number ∙ sym at) in
-    let posts : posts_at ranked place ≡ node.1 = ap (posts_at ranked) (sym same) ∙ ap (λ (n : ℕ × ℕ). n.1) there in
+    let posts : posts_at ranked place ≡ node.1 = ap (posts_at ranked) (sym same) ∙ ap (λ (n : ℕ × ℕ × Bool). n.1) there in
     omega arith
+
+-- a postcondition is one of its node's slots
+pub within-slots : (ranked : Nodes) (place post : ℕ) → post < posts_at ranked place → post < slots_at ranked place
+within-slots ranked place post low = omega arith
 
 -- an offer leads to a slot exactly where its edge leads to the slot's postcondition
 tied : (ranked : Nodes) (starts owners : List ℕ) → IsRanked ranked → AreSlots ranked starts owners → (edge : Edge) (offer : Offer) → IsOfferOf ranked starts edge offer
-    → (place post : ℕ) → place < length ranked → post < posts_at ranked place
+    → (place post : ℕ) → place < length ranked → post < slots_at ranked place
     → is_into (get_or starts place 0 + post) offer ≡ leads_to (number_at ranked place) post edge
 tied ranked starts owners rising s edge offer l place post low has =
     same_tests (is_into (get_or starts place 0 + post) offer) (leads_to (number_at ranked place) post edge)
     (λ t.
     let slot : get_or starts l.waiter 0 + edge.post ≡ get_or starts place 0 + post = sym l.slot_is ∙ eqb-true offer.slot (get_or starts place 0 + post) t in
-    let waiter : l.waiter ≡ place = sym (s.slot_owner l.waiter edge.post l.waiter_low l.post_low) ∙ ap (λ n. get_or owners n 0) slot ∙ s.slot_owner place post low has in
+    let waiter : l.waiter ≡ place = sym (s.slot_owner l.waiter edge.post l.waiter_low (within-slots ranked l.waiter edge.post l.post_low)) ∙ ap (λ n. get_or owners n 0) slot ∙ s.slot_owner place post low has in
     let start : get_or starts l.waiter 0 ≡ get_or starts place 0 = ap (λ n. get_or starts n 0) waiter in
     let same_post : edge.post ≡ post = omega arith in
     both (eqb edge.waiter (number_at ranked place)) (eqb edge.post post)
@@ -60,7 +64,7 @@ offers-more ranked starts owners rising s edges offers i d offer inside l a =
     let edge = get_or edges i d in
     record {
       low = All-push (λ x. (x.provider < length ranked) × (x.slot < length owners)) offers offer a.low
-          (l.provider_low, (let e = l.slot_is in let h = s.slot_low l.waiter edge.post l.waiter_low l.post_low in omega arith));
+          (l.provider_low, (let e = l.slot_is in let h = s.slot_low l.waiter edge.post l.waiter_low (within-slots ranked l.waiter edge.post l.post_low) in omega arith));
       same = λ members place post low has.
           let number = number_at ranked place in
           let from : ℕ → Bool = λ provider. is_member nat_eq members (number_at ranked provider) in

@@ -6,7 +6,7 @@ ghost use Rattle.std.specs.List.Sorted.{IsNonDecreasingBy, IsPermutation, IsStri
 ghost use Rattle.std.specs.Ordering.{nat_cmp};
 ghost use Rattle.std.specs.Set.{is_member};
 ghost use Rattle.cq_match.specs.Matched.{is_matched, numbers};
-ghost use Rattle.cq_match.specs.Steps.Places.{number_at, posts_at, IsRanked, AreSlots, IsOfferOf, AreOffersOf};
+ghost use Rattle.cq_match.specs.Steps.Places.{number_at, slots_of_node, IsRanked, AreSlots, IsOfferOf, AreOffersOf};
 ghost use Rattle.cq_match.specs.Steps.Settle.{stands};
 
 use crate::Edge;
@@ -14,7 +14,10 @@ use crate::settle::{Offer, settled};
 use std::alloc::{AllocError, Allocator};
 
 /// The nodes in rising order of their numbers.
-fn ranked<A: Allocator>(alloc: A, nodes: &[(usize, u8)]) -> Result<Vec<(usize, u8), A>, AllocError>
+fn ranked<A: Allocator>(
+    alloc: A,
+    nodes: &[(usize, u8, bool)],
+) -> Result<Vec<(usize, u8, bool), A>, AllocError>
     requires { IsDistinct nat_eq (numbers nodes.now) }
     ensures permutation { IfOk result (λ ranked. IsPermutation nodes.now ranked.items) }
     ensures rising { IfOk result (λ ranked. IsRanked ranked.items) }
@@ -25,7 +28,7 @@ fn ranked<A: Allocator>(alloc: A, nodes: &[(usize, u8)]) -> Result<Vec<(usize, u
 }
 
 /// The place of the node with that number.
-fn place_of(ranked: &[(usize, u8)], number: usize) -> usize
+fn place_of(ranked: &[(usize, u8, bool)], number: usize) -> usize
     requires rising { IsRanked ranked.now }
     requires known { Contains (numbers ranked.now) number }
     ensures low { result < length ranked.now }
@@ -37,7 +40,8 @@ fn place_of(ranked: &[(usize, u8)], number: usize) -> usize
     }
 }
 
-/// The postconditions of all nodes in a row.
+/// The slots of all nodes in a row: one for each postcondition, and one more, which nothing feeds, for a node
+/// that is not able.
 #[derive(Drop)]
 struct Slots<A: Allocator> {
     /// For each place, its first slot.
@@ -50,7 +54,7 @@ struct Slots<A: Allocator> {
 fn add_slots<A: Allocator>(
     owners: &mut Vec<usize, A>,
     place: usize,
-    count: u8,
+    count: usize,
 ) -> Result<(), AllocError>
     ensures { OnOk result (owners.new.items ≡ owners.old.items ++ replicate count place) }
 {
@@ -60,20 +64,31 @@ fn add_slots<A: Allocator>(
     Ok(())
 }
 
-fn slots_of<A: Allocator + Copy>(alloc: A, ranked: &[(usize, u8)]) -> Result<Slots<A>, AllocError>
+/// How many slots a node has.
+fn slots_of_node(node: (usize, u8, bool)) -> usize
+    ensures { result ≡ slots_of_node node }
+{
+    usize::from(node.1) + if node.2 { 0 } else { 1 }
+}
+
+/// All slots, place by place.
+fn slots_of<A: Allocator + Copy>(
+    alloc: A,
+    ranked: &[(usize, u8, bool)],
+) -> Result<Slots<A>, AllocError>
     ensures { IfOk result (λ slots. AreSlots ranked.now slots.starts.items slots.owners.items) }
 {
     let mut starts = Vec::new(alloc);
     let mut owners = Vec::new(alloc);
     for (place, node) in ranked.iter().enumerate() {
         starts.push(owners.len())?;
-        add_slots(&mut owners, place, node.1)?;
+        add_slots(&mut owners, place, slots_of_node(*node))?;
     }
     Ok(Slots { starts, owners })
 }
 
 /// The edge as an offer.
-fn offer_of<A: Allocator>(ranked: &[(usize, u8)], slots: &Slots<A>, edge: Edge) -> Offer
+fn offer_of<A: Allocator>(ranked: &[(usize, u8, bool)], slots: &Slots<A>, edge: Edge) -> Offer
     requires rising { IsRanked ranked.now }
     requires slots { AreSlots ranked.now slots.now.starts.items slots.now.owners.items }
     requires provider { Contains (numbers ranked.now) edge.provider }
@@ -90,7 +105,7 @@ fn offer_of<A: Allocator>(ranked: &[(usize, u8)], slots: &Slots<A>, edge: Edge) 
 /// The edges as offers, by their providers.
 fn offers_of<A: Allocator + Copy>(
     alloc: A,
-    ranked: &[(usize, u8)],
+    ranked: &[(usize, u8, bool)],
     slots: &Slots<A>,
     edges: &[Edge],
 ) -> Result<Vec<Offer, A>, AllocError>
@@ -111,7 +126,7 @@ fn offers_of<A: Allocator + Copy>(
 /// The numbers of the nodes that stand.
 fn standing_numbers<A: Allocator>(
     alloc: A,
-    ranked: &[(usize, u8)],
+    ranked: &[(usize, u8, bool)],
     standing: &[bool],
 ) -> Result<Vec<usize, A>, AllocError>
     requires rising { IsRanked ranked.now }
@@ -131,12 +146,12 @@ fn standing_numbers<A: Allocator>(
 
 /// The matched nodes, rising.
 ///
-/// A set of nodes is closed if each postcondition of each of its members has an edge from a member. The
-/// matched nodes are all those that stand in some closed set: an edge from a node to itself counts,
-/// and so does a ring. That queries are matched before they are answered is of Gupta et al. (SIGMOD
+/// A set of nodes is closed if each of its members is able and each postcondition of each of its members has an
+/// edge from a member. The matched nodes are all those that stand in some closed set: an edge from a node to
+/// itself counts, and so does a ring. That queries are matched before they are answered is of Gupta et al. (SIGMOD
 /// 2011); this rule for it is this project's.
 ///
-/// `nodes` gives each node's number and how many postconditions it has, in any order.
+/// `nodes` gives each node's number, how many postconditions it has, and whether it is able, in any order.
 ///
 /// Each edge is looked at once; besides that, nodes and edges are sorted and nodes looked up by halving.
 /// No clause says so.
@@ -145,7 +160,7 @@ fn standing_numbers<A: Allocator>(
 /// `AllocError` where a growth was refused.
 pub fn greatest<A: Allocator + Copy>(
     alloc: A,
-    nodes: &[(usize, u8)],
+    nodes: &[(usize, u8, bool)],
     edges: &[Edge],
 ) -> Result<Vec<usize, A>, AllocError>
     requires distinct { IsDistinct nat_eq (numbers nodes.now) }

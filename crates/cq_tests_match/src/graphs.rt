@@ -20,12 +20,17 @@ fn supplies_itself(rt: HostRuntime) {
         waiter: 5,
         post: 0,
     }];
-    assert!(rt; are(greatest(rt.alloc(), &[(5, 1)], &edges), [5].as_slice()));
+    assert!(rt;
+        are(
+            greatest(rt.alloc(), &[(5, 1, true)], &edges),
+            [5].as_slice()
+        )
+    );
 }
 
 #[test]
 fn no_postconditions(rt: HostRuntime) {
-    assert!(rt; are(greatest(rt.alloc(), &[(3, 0)], &[]), [3].as_slice()));
+    assert!(rt; are(greatest(rt.alloc(), &[(3, 0, true)], &[]), [3].as_slice()));
     assert!(rt; are(greatest(rt.alloc(), &[], &[]), [].as_slice()));
 }
 
@@ -38,15 +43,38 @@ fn falling_numbers_answer_rising(rt: HostRuntime) {
         waiter: 7,
         post: 0,
     }];
-    let found = greatest(rt.alloc(), &[(7, 1), (4, 0)], &edges);
+    let found = greatest(rt.alloc(), &[(7, 1, true), (4, 0, true)], &edges);
     assert!(rt; are(found, [4, 7].as_slice()));
 }
 
 // Nothing supplies node 7.
 #[test]
 fn kramer_waits(rt: HostRuntime) {
-    let found = greatest(rt.alloc(), &[(7, 1), (4, 0)], &[]);
+    let found = greatest(rt.alloc(), &[(7, 1, true), (4, 0, true)], &[]);
     assert!(rt; are(found, [4].as_slice()));
+}
+
+// Each of two nodes waits for the other. While one is not able, neither is matched.
+#[test]
+fn able_queries(rt: HostRuntime) {
+    let edges = [
+        Edge {
+            provider: 1,
+            head: 0,
+            waiter: 0,
+            post: 0,
+        },
+        Edge {
+            provider: 0,
+            head: 0,
+            waiter: 1,
+            post: 0,
+        },
+    ];
+    let found = greatest(rt.alloc(), &[(0, 1, false), (1, 1, true)], &edges);
+    assert!(rt; are(found, [].as_slice()));
+    let found_able = greatest(rt.alloc(), &[(0, 1, true), (1, 1, true)], &edges);
+    assert!(rt; are(found_able, [0, 1].as_slice()));
 }
 
 #[test]

@@ -39,6 +39,7 @@ returns-clause-matched g c =
     (λ found. (place : ℕ) → place < length ranked.items → is_member nat_eq found.items (number_at ranked.items place) ≡ stands standing place)
     (λ found. All (Contains (numbers ranked.items)) found.items)
     (λ found. (n : ℕ) → Contains found.items n ↔ IsTrue (is_matched nodes edges n))
-    (λ found same known. found-matched nodes ranked.items edges starts owners offers standing found.items c.in_ok-ranked.ensures.permutation are offered itself greatest same known)
+    (λ found same known. found-matched nodes ranked.items edges starts owners offers standing found.items c.in_ok-ranked.ensures.permutation c.in_ok-ranked.ensures.rising
+    (ends-ranked nodes ranked.items edges c.in_ok-ranked.ensures.permutation c.requires.ends) are offered itself greatest same known)
     (rw (c.deref-5.ensures.value, c.deref-6.ensures.value) at c.standing_numbers.ensures.found)
     (rw c.deref-5.ensures.value at c.standing_numbers.ensures.known)

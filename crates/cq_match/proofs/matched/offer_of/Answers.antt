@@ -1,6 +1,6 @@
 use Rattle.std.proofs.Common.{arith}
 use Rattle.std.proofs.lemmas.List.{get_or_read}
-use Rattle.cq_match.proofs.Offered.{posts-of}
+use Rattle.cq_match.proofs.Offered.{posts-of, within-slots}
 use Rattle.cq_match.proofs.matched.offer_of.Goals as goal
 
 pub overflow_add-result : goal.overflow_add-result
@@ -10,7 +10,7 @@ overflow_add-result g c =
     let waiter = c.place_of-waiter.result in
     let post = c.args.edge.post in
     let has = posts-of ranked c.requires.rising c.args.edge.waiter post waiter c.place_of-waiter.ensures.low c.place_of-waiter.ensures.found c.requires.waiter in
-    let held = c.requires.slots.slot_low waiter post c.place_of-waiter.ensures.low has in
+    let held = c.requires.slots.slot_low waiter post c.place_of-waiter.ensures.low (within-slots ranked waiter post has) in
     let len = c.requires.slots.starts_len in
     let low = c.place_of-waiter.ensures.low in
     let start = get_or_read starts waiter c.index.result.now (omega arith) c.index.ensures 0 in
