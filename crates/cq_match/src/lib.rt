@@ -13,6 +13,8 @@
 #![tactic(auto)]
 
 mod edge;
+mod graph;
+mod marks;
 mod matched;
 mod settle;
 

@@ -1,0 +1,77 @@
+-- How a matcher keeps its graph: nodes by their places, and edges with the nodes that they leave.
+use Rattle.std.specs.Prelude.{◌≡◌, ℕ, ◌+◌, ◌<◌, ◌≤◌, ◌⊎◌, Bool, true, false, ◌&&◌, ◌==◌, List, [], ◌∷◌, ◌++◌, length, map, filter, count_by, slice_index_or, if◌then◌else◌}
+use Rattle.std.specs.List.{All, Contains, list_any}
+use Rattle.cq_match.specs.declared.edge.Edge.{Edge}
+use Rattle.cq_match.specs.declared.graph.Place.{Place}
+use Rattle.cq_match.specs.declared.graph.Out.{Out}
+use Rattle.cq_match.specs.Graph.{leads_to}
+use Rattle.cq_match.specs.Steps.Settle.{stands}
+
+-- A place where no node stands.
+abbrev pub free : Place
+free = record { taken = false; able = false; posts = 0; stamp = 0 }
+
+abbrev pub place_at : List Place → ℕ → Place
+place_at places n = slice_index_or places n free
+
+-- The waiter that the edge was made for is there.
+abbrev pub is_live : List Place → Out → Bool
+is_live places out = (place_at places out.waiter).taken && ((place_at places out.waiter).stamp == out.stamp)
+
+abbrev pub edge_of : ℕ → Out → Edge
+edge_of provider out = record { provider = provider; head = out.head; waiter = out.waiter; post = out.post }
+
+-- The edges that leave a node.
+abbrev pub edges_left : List Place → ℕ → List Out → List Edge
+edges_left places provider outs = map (edge_of provider) (filter (is_live places) outs)
+
+-- All edges, by their providers, of which the first has this number.
+abbrev pub edges_from : List Place → ℕ → List (List Out) → List Edge
+edges_from places n [] = []
+edges_from places n (outs ∷ more) = edges_left places n outs ++ edges_from places (n + 1) more
+
+-- The nodes, of which the first has at least this number.
+abbrev pub nodes_from : ℕ → List Place → List (ℕ × ℕ × Bool)
+nodes_from n [] = []
+nodes_from n (place ∷ more) = (if place.taken then (n, place.posts, place.able) ∷ [] else []) ++ nodes_from (n + 1) more
+
+-- The numbers of those that are marked, of which the first has at least this number.
+abbrev pub marked_from : ℕ → List Bool → List ℕ
+marked_from n [] = []
+marked_from n (mark ∷ more) = (if mark then n ∷ [] else []) ++ marked_from (n + 1) more
+
+-- How many edges to that postcondition are counted.
+abbrev pub count_at : List (List ℕ) → ℕ → ℕ → ℕ
+count_at counts n k = slice_index_or (slice_index_or counts n []) k 0
+
+-- The edge leads to the postcondition from a node of the set.
+abbrev pub feeds_post : (ℕ → Bool) → ℕ → ℕ → Edge → Bool
+feeds_post set n k edge = leads_to n k edge && set edge.provider
+
+-- The set is closed.
+pub record Closed (places : List Place) (edges : List Edge) (set : ℕ → Bool) : Type 0 where
+  pub able : (n : ℕ) → set n ≡ true → (place_at places n).able ≡ true
+  pub fed : (n k : ℕ) → set n ≡ true → k < (place_at places n).posts → list_any (feeds_post set n k) edges ≡ true
+
+-- What stays true while nodes stop being matched. The edges of nodes that are raised are counted, and so are those of the list, which is what
+-- is left to be lowered of one node that was raised.
+pub record Pruning (places : List Place) (edges : List Edge) (matched raised : List Bool) (counts : List (List ℕ)) (waiting : List ℕ) (left : List Edge) : Type 0 where
+  pub matched_len : length matched ≡ length places
+  pub raised_len : length raised ≡ length places
+  pub counts_len : length counts ≡ length places
+  pub row_len : (n : ℕ) → length (slice_index_or counts n []) ≡ (place_at places n).posts
+  pub counted : (n k : ℕ) → k < (place_at places n).posts → count_at counts n k ≡ count_by (feeds_post (stands raised) n k) edges + count_by (leads_to n k) left
+  pub within : (n : ℕ) → stands matched n ≡ true → stands raised n ≡ true
+  pub due : (n : ℕ) → stands raised n ≡ true → (stands matched n ≡ true) ⊎ Contains waiting n
+  pub able : (n : ℕ) → stands matched n ≡ true → (place_at places n).able ≡ true
+  pub fed : (n k : ℕ) → stands matched n ≡ true → k < (place_at places n).posts → 1 ≤ count_at counts n k
+  pub stays : (set : ℕ → Bool) → Closed places edges set → (n : ℕ) → set n ≡ true → stands matched n ≡ true
+  pub placed : All (λ n. n < length places) waiting
+
+-- Edges that are there lead to a postcondition of their waiter.
+abbrev pub OutsFit : List Place → List (List Out) → Type 0
+OutsFit places leaving = (n : ℕ) → All (λ out. is_live places out ≡ true → out.post < (place_at places out.waiter).posts) (slice_index_or leaving n [])
+
+-- How many nodes are matched or wait.
+abbrev pub busy : List Bool → List ℕ → ℕ
+busy matched waiting = length waiting + count_by (λ mark. mark) matched

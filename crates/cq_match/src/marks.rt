@@ -1,0 +1,72 @@
+//! Which nodes are matched, and how many matched providers each postcondition has.
+
+ghost use Rattle.std.specs.Prelude.{◌≡◌, ℕ, ◌+◌, ◌-◌, ◌==◌, ◌<◌, ◌≤◌, ◌++◌, ◌∷◌, ◌&&◌, [], List, length, false, true, slice_index, slice_index_or, slice_set, if◌then◌else◌, vec_len, vec_capacity};
+ghost use Rattle.cq_match.specs.Steps.Settle.{stands};
+ghost use Rattle.cq_match.specs.Steps.Kept.{count_at, edges_left, edges_from, busy, OutsFit, Pruning};
+
+use crate::graph::{Graph, is_live};
+use cq_atom::Meter;
+use std::alloc::Allocator;
+use std::marker::Model;
+
+/// For each postcondition of a node, how many edges to it are counted.
+#[derive(Drop)]
+pub(crate) struct Counts<A: Allocator> {
+    counts: Vec<usize, A>,
+}
+
+impl<A: Allocator> Model for Counts<A> {
+    ghost use Rattle.std.specs.Prelude.{List, ℕ};
+
+    ghost Value = { List ℕ };
+
+    ghost view = { λ counts. counts.counts.items };
+}
+
+impl<A: Allocator> Counts<A> {
+    /// Counts one edge less, and tells whether none is left.
+    fn lower(&mut self, post: usize) -> bool
+        requires within { post < length self.old }
+        requires counted { 1 ≤ slice_index self.old post }
+        ensures lowered { self.new ≡ slice_set self.old post (slice_index self.old post - 1) }
+        ensures none { result ≡ (slice_index self.old post - 1 == 0) }
+    {
+        self.counts[post] -= 1;
+        self.counts[post] == 0
+    }
+}
+
+/// What is known of the nodes by their places.
+#[derive(Drop)]
+pub(crate) struct Marks<A: Allocator> {
+    /// Whether the node is matched.
+    pub(crate) matched: Vec<bool, A>,
+    /// Whether the edges that leave the node are counted.
+    pub(crate) raised: Vec<bool, A>,
+    /// How many edges to each postcondition are counted.
+    pub(crate) counts: Vec<Counts<A>, A>,
+    /// The nodes that are matched no longer, and whose edges are counted still.
+    pub(crate) waiting: Vec<usize, A>,
+}
+
+impl<A: Allocator> Marks<A> {
+    /// Counts an edge to the postcondition no longer. Where it was the last one, the waiter is matched no longer.
+    fn lower(&mut self, waiter: usize, post: usize)
+        requires waiter_within { waiter < length self.old.counts.items }
+        requires waiter_marked { waiter < length self.old.matched.items }
+        requires post_within { post < length (slice_index_or self.old.counts.items waiter []) }
+        requires counted { 1 ≤ count_at self.old.counts.items waiter post }
+        requires room { busy self.old.matched.items self.old.waiting.items ≤ vec_capacity self.old.waiting }
+        ensures counts { self.new.counts.items ≡ slice_set self.old.counts.items waiter (slice_set (slice_index_or self.old.counts.items waiter []) post (count_at self.old.counts.items waiter post - 1)) }
+        ensures matched { self.new.matched.items ≡ (if (count_at self.old.counts.items waiter post - 1 == 0) && stands self.old.matched.items waiter then slice_set self.old.matched.items waiter false else self.old.matched.items) }
+        ensures waiting { self.new.waiting.items ≡ (if (count_at self.old.counts.items waiter post - 1 == 0) && stands self.old.matched.items waiter then self.old.waiting.items ++ waiter ∷ [] else self.old.waiting.items) }
+        ensures raised { self.new.raised ≡ self.old.raised }
+        ensures capacity { vec_capacity self.new.waiting ≡ vec_capacity self.old.waiting }
+    {
+        let none = self.counts[waiter].lower(post);
+        if none && self.matched[waiter] {
+            self.matched[waiter] = false;
+            self.waiting.push_reserved(waiter);
+        }
+    }
+}
