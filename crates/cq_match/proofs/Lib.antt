@@ -1,8 +1,11 @@
 pub mod Counting
 pub mod Dropping
+pub mod Edges
 pub mod Grouped
 pub mod Offered
+pub mod Pruning
 pub mod Ranks
+pub mod Rows
 pub mod Settling
 pub mod Slots
 pub mod Standing

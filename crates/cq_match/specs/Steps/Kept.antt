@@ -67,6 +67,7 @@ pub record Pruning (places : List Place) (edges : List Edge) (matched raised : L
   pub fed : (n k : ℕ) → stands matched n ≡ true → k < (place_at places n).posts → 1 ≤ count_at counts n k
   pub stays : (set : ℕ → Bool) → Closed places edges set → (n : ℕ) → set n ≡ true → stands matched n ≡ true
   pub placed : All (λ n. n < length places) waiting
+  pub fallen : All (λ n. stands matched n ≡ false) waiting
 
 -- Edges that are there lead to a postcondition of their waiter.
 abbrev pub OutsFit : List Place → List (List Out) → Type 0
