@@ -1,5 +1,5 @@
 -- Edges that are counted: of a set of providers, of a set without one of them, and of one provider.
-use Rattle.std.proofs.Common.{◌≡◌, ℕ, ◌+◌, ◌<◌, ◌≤◌, ◌≢◌, Bool, true, false, not, cond, ◌&&◌, eqb, List, [], ◌∷◌, ◌++◌, length, get_or, set, zero, suc, drop, map, filter, count_by, refl, sym, ap, ◌∙◌, arith, eq-eqb}
+use Rattle.std.proofs.Common.{◌≡◌, ℕ, ◌+◌, ◌<◌, ◌≤◌, ◌≢◌, Bool, true, false, not, cond, ◌&&◌, eqb, List, [], ◌∷◌, ◌++◌, length, get_or, set, zero, suc, drop, map, filter, count_by, refl, sym, ap, ◌∙◌, arith, eq-eqb, drop-cons, add-one}
 use Rattle.std.specs.List.{All, list_any}
 use Rattle.std.proofs.lemmas.Bool.{eqb-true}
 use Rattle.std.proofs.lemmas.List.{get_or-set_other}
@@ -10,7 +10,7 @@ use Rattle.cq_match.specs.declared.graph.Place.{Place}
 use Rattle.cq_match.specs.declared.graph.Out.{Out}
 use Rattle.cq_match.specs.Graph.{leads_to}
 use Rattle.cq_match.specs.Steps.Settle.{stands}
-use Rattle.cq_match.specs.Steps.Kept.{is_live, edge_of, edges_left, edges_from, feeds_post}
+use Rattle.cq_match.specs.Steps.Kept.{is_live, edge_of, edges_left, edges_from, feeds_post, was_raised}
 use Rattle.cq_match.proofs.Tests.{by_bool, and_left, and_right, both}
 use Rattle.cq_match.proofs.Rows.{differ}
 
@@ -150,3 +150,46 @@ pub edges-of_node : (places : List Place) (leaving : List (List Out)) (v : ℕ) 
 edges-of_node places leaving v =
     let same : 0 + v ≡ v = omega arith in
     ap (λ m. filter (λ (e : Edge). eqb e.provider m) (edges_from places 0 leaving)) (sym same) ∙ edges-of places leaving v 0 ∙ ap (λ m. edges_left places m (get_or leaving v [])) same
+
+-- ---- those of one provider that come behind some others
+
+pub left-live : (places : List Place) (v : ℕ) (outs : List Out) (i : ℕ) (d : Out) → i < length outs → is_live places (get_or outs i d) ≡ true
+    → edges_left places v (drop i outs) ≡ edge_of v (get_or outs i d) ∷ edges_left places v (drop (i + 1) outs)
+left-live places v outs i d low live = rw (drop-cons outs i d, live) (rw add-one refl)
+
+pub left-gone : (places : List Place) (v : ℕ) (outs : List Out) (i : ℕ) (d : Out) → i < length outs → is_live places (get_or outs i d) ≡ false
+    → edges_left places v (drop i outs) ≡ edges_left places v (drop (i + 1) outs)
+left-gone places v outs i d low gone = rw (drop-cons outs i d, gone) (rw add-one refl)
+
+-- ---- edges whose provider is raised no longer
+
+abbrev was-one : Bool → Bool → Bool → Bool → Type 0
+was-one before now after here = one_if (before && not after) ≡ one_if (before && not now) + one_if here
+
+was-split : (before now after here : Bool) → (now ≡ true → before ≡ true) → (here ≡ true → now ≡ true) → (here ≡ true → after ≡ false) → (here ≡ false → now ≡ after) → was-one before now after here
+was-split true now after true p q r s = rw (q refl, r refl) refl
+was-split true now after false p q r s = rw (s refl) (let same : one_if (not after) ≡ one_if (not after) + 0 = omega arith in same)
+was-split false now after true p q r s = absurd (let never : false ≡ true = p (q refl) in cc)
+was-split false now after false p q r s = refl
+
+pub lost-more : (before : ℕ → Bool) (raised : List Bool) (v : ℕ) → ((n : ℕ) → stands raised n ≡ true → before n ≡ true) → stands raised v ≡ true → (edges : List Edge)
+    → count_by (was_raised before (stands (set raised v false))) edges ≡ count_by (was_raised before (stands raised)) edges + length (filter (λ e. eqb e.provider v) edges)
+lost-more before raised v less up [] = refl
+lost-more before raised v less up (e ∷ edges) =
+    let p = e.provider in
+    let after = set raised v false in
+    let same : eqb p v ≡ true → stands raised p ≡ true = λ t. ap (stands raised) (eqb-true p v t) ∙ up in
+    let down : eqb p v ≡ true → stands after p ≡ false = λ t. ap (stands after) (eqb-true p v t) ∙ lowered-itself raised v in
+    let other : eqb p v ≡ false → stands raised p ≡ stands after p = λ f. sym (lowered-other raised v p (differ p v f)) in
+    let one = was-split (before p) (stands raised p) (stands after p) (eqb p v) (less p) same down other in
+    let rest = lost-more before raised v less up edges in
+    let was = count-cons (was_raised before (stands after)) e edges in
+    let now = count-cons (was_raised before (stands raised)) e edges in
+    let more : length (filter (λ x. eqb x.provider v) (e ∷ edges)) ≡ one_if (eqb p v) + length (filter (λ x. eqb x.provider v) edges) = length-filter_cons (λ x. eqb x.provider v) e edges in
+    omega arith
+  where
+    length-filter_cons : (q : Edge → Bool) (e : Edge) (edges : List Edge) → length (filter q (e ∷ edges)) ≡ one_if (q e) + length (filter q edges)
+    length-filter_cons q e edges =
+        by_bool (q e) (length (filter q (e ∷ edges)) ≡ one_if (q e) + length (filter q edges))
+        (λ t. rw t (let more : suc (length (filter q edges)) ≡ 1 + length (filter q edges) = omega arith in more))
+        (λ f. rw f (let same : length (filter q edges) ≡ 0 + length (filter q edges) = omega arith in same))

@@ -1,14 +1,15 @@
 -- What stays true while nodes stop being matched.
-use Rattle.std.proofs.Common.{◌≡◌, ℕ, ◌+◌, ◌-◌, ◌<◌, ◌≤◌, ◌≢◌, ◌⊎◌, inl, inr, Bool, true, false, ◌&&◌, eqb, List, [], ◌∷◌, ◌++◌, length, get_or, set, zero, suc, filter, count_by, refl, sym, ap, ◌∙◌, subst, arith, eq-eqb}
+use Rattle.std.proofs.Common.{◌≡◌, ℕ, ◌+◌, ◌-◌, ◌<◌, ◌≤◌, ◌≢◌, ◌⊎◌, inl, inr, Bool, true, false, cond, if◌then◌else◌, ◌&&◌, eqb, List, [], ◌∷◌, ◌++◌, length, get_or, set, zero, suc, filter, count_by, refl, sym, ap, ◌∙◌, subst, arith, eq-eqb}
 use Rattle.std.specs.List.{All, Contains, list_any}
 use Rattle.std.proofs.lemmas.Bool.{eqb-true}
-use Rattle.std.proofs.lemmas.List.{length-set}
+use Rattle.std.proofs.lemmas.List.{length-set, length-append}
+use Rattle.std.proofs.lemmas.List.Sums.{sum_by-set}
 use Rattle.std.proofs.lemmas.List.Elements.{All-push, All-contains, Contains-push, Contains-push_cases, Contains-append_left}
 use Rattle.cq_match.specs.declared.edge.Edge.{Edge}
 use Rattle.cq_match.specs.declared.graph.Place.{Place}
 use Rattle.cq_match.specs.Graph.{leads_to}
 use Rattle.cq_match.specs.Steps.Settle.{stands}
-use Rattle.cq_match.specs.Steps.Kept.{place_at, count_at, feeds_post, Closed, Pruning}
+use Rattle.cq_match.specs.Steps.Kept.{place_at, count_at, feeds_post, busy, Closed, Pruning}
 use Rattle.cq_match.proofs.Tests.{by_bool, and_left, and_right, both}
 use Rattle.cq_match.proofs.Rows.{differ, post-placed, row, with_count, count-cases, row-len}
 use Rattle.cq_match.proofs.Edges.{one_if, count-cons, some-counted, counted-some, feeds-wider, lowered-itself, lowered-other, lowered-less, count-split}
@@ -20,6 +21,14 @@ All-in P xs ys within h k d low = All-contains P xs (get_or ys k d) h (within (g
     get_or-default [] k d low = absurd (let none : k < 0 = low in omega arith)
     get_or-default (y ∷ ys) zero d low = refl
     get_or-default (y ∷ ys) (suc k) d low = get_or-default ys k d (let more : suc k < suc (length ys) = low in omega arith)
+
+-- whoever falls waits, so that as many are matched or wait as before
+pub fallen-busy : (matched : List Bool) (waiting : List ℕ) (w : ℕ) → w < length matched → stands matched w ≡ true → busy (set matched w false) (waiting ++ w ∷ []) ≡ busy matched waiting
+fallen-busy matched waiting w low up =
+    let change : count_by (λ mark. mark) (set matched w false) + one_if (stands matched w) ≡ count_by (λ mark. mark) matched + 0 = sum_by-set (λ (mark : Bool). cond mark 1 0) matched w false false low in
+    let was : one_if (stands matched w) ≡ 1 = ap one_if up in
+    let len : length (waiting ++ w ∷ []) ≡ length waiting + 1 = length-append waiting (w ∷ []) in
+    omega arith
 
 module _ (places : List Place) (edges : List Edge) where
   -- ---- an edge is counted no longer
@@ -124,6 +133,26 @@ module _ (places : List Place) (edges : List Edge) where
               (λ t. absurd (let never : true ≡ false = sym (still (get_or waiting k d) t) ∙ p.fallen k d low in cc)) (λ f. f))
               (lowered-itself matched w);
         }
+
+    -- as the code has it
+    abbrev falls : Bool
+    falls = eqb now 0 && stands matched e.waiter
+
+    pub lower-step : Pruning places edges (if falls then set matched e.waiter false else matched) raised counts-now (if falls then waiting ++ e.waiter ∷ [] else waiting) left
+    lower-step =
+        by_bool falls (Pruning places edges (if falls then set matched e.waiter false else matched) raised counts-now (if falls then waiting ++ e.waiter ∷ [] else waiting) left)
+        (λ t. rw t (lower-fallen (eqb-true now 0 (and_left (eqb now 0) (stands matched e.waiter) t))))
+        (λ f. rw f (lower-kept (λ none. by_bool (stands matched e.waiter) (stands matched e.waiter ≡ false)
+        (λ u. absurd (let never : false ≡ true = sym f ∙ both (eqb now 0) (stands matched e.waiter) (eq-eqb now 0 none) u in cc)) (λ u. u))))
+
+    pub lower-busy : busy (if falls then set matched e.waiter false else matched) (if falls then waiting ++ e.waiter ∷ [] else waiting) ≡ busy matched waiting
+    lower-busy =
+        by_bool falls (busy (if falls then set matched e.waiter false else matched) (if falls then waiting ++ e.waiter ∷ [] else waiting) ≡ busy matched waiting)
+        (λ t.
+        let up = and_right (eqb now 0) (stands matched e.waiter) t in
+        let low : e.waiter < length matched = let l = post-placed places e.waiter e.post fits in let m = p.matched_len in omega arith in
+        rw t (fallen-busy matched waiting e.waiter low up))
+        (λ f. rw f refl)
 
   -- ---- a node is taken from those that wait
 

@@ -1,8 +1,8 @@
 //! Which nodes are matched, and how many matched providers each postcondition has.
 
-ghost use Rattle.std.specs.Prelude.{◌≡◌, ℕ, ◌+◌, ◌-◌, ◌==◌, ◌<◌, ◌≤◌, ◌++◌, ◌∷◌, ◌&&◌, [], List, length, false, true, slice_index, slice_index_or, slice_set, if◌then◌else◌, vec_len, vec_capacity};
+ghost use Rattle.std.specs.Prelude.{◌≡◌, ℕ, ◌+◌, ◌-◌, ◌==◌, ◌<◌, ◌≤◌, ◌++◌, ◌∷◌, ◌&&◌, [], List, count_by, length, false, true, slice_index, slice_index_or, slice_set, if◌then◌else◌, vec_len, vec_capacity};
 ghost use Rattle.cq_match.specs.Steps.Settle.{stands};
-ghost use Rattle.cq_match.specs.Steps.Kept.{count_at, edges_left, edges_from, busy, OutsFit, Pruning};
+ghost use Rattle.cq_match.specs.Steps.Kept.{count_at, edges_left, edges_from, busy, was_raised, OutsFit, Pruning};
 
 use crate::graph::{Graph, is_live};
 use cq_atom::Meter;
@@ -67,6 +67,46 @@ impl<A: Allocator> Marks<A> {
         if none && self.matched[waiter] {
             self.matched[waiter] = false;
             self.waiting.push_reserved(waiter);
+        }
+    }
+
+    /// Counts the edges that leave the node no longer.
+    fn lower_all(&mut self, graph: &Graph<A>, node: usize, meter: &mut Meter)
+        requires fit { OutsFit graph.now.places.items graph.now.leaving.items }
+        requires within { node < length graph.now.leaving.items }
+        requires pruning { Pruning graph.now.places.items (edges_from graph.now.places.items 0 graph.now.leaving.items) self.old.matched.items self.old.raised.items self.old.counts.items self.old.waiting.items (edges_left graph.now.places.items node (slice_index_or graph.now.leaving.items node [])) }
+        requires room { busy self.old.matched.items self.old.waiting.items ≤ vec_capacity self.old.waiting }
+        ensures pruning { Pruning graph.now.places.items (edges_from graph.now.places.items 0 graph.now.leaving.items) self.new.matched.items self.new.raised.items self.new.counts.items self.new.waiting.items [] }
+        ensures raised { self.new.raised.items ≡ self.old.raised.items }
+        ensures busy { busy self.new.matched.items self.new.waiting.items ≡ busy self.old.matched.items self.old.waiting.items }
+        ensures capacity { vec_capacity self.new.waiting ≡ vec_capacity self.old.waiting }
+        ensures counted { meter.new ≤ meter.old + length (edges_left graph.now.places.items node (slice_index_or graph.now.leaving.items node [])) }
+    {
+        let outs = graph.leaving[node].outs();
+        for out in outs {
+            if is_live(&graph.places, *out) {
+                self.lower(out.waiter, usize::from(out.post));
+                meter.tick();
+            }
+        }
+    }
+
+    /// Lets the nodes fall that wait, and those that fall with them.
+    pub(crate) fn prune(&mut self, graph: &Graph<A>, meter: &mut Meter)
+        requires fit { OutsFit graph.now.places.items graph.now.leaving.items }
+        requires lists { length graph.now.leaving.items ≡ length graph.now.places.items }
+        requires pruning { Pruning graph.now.places.items (edges_from graph.now.places.items 0 graph.now.leaving.items) self.old.matched.items self.old.raised.items self.old.counts.items self.old.waiting.items [] }
+        requires room { busy self.old.matched.items self.old.waiting.items ≤ vec_capacity self.old.waiting }
+        ensures pruning { Pruning graph.now.places.items (edges_from graph.now.places.items 0 graph.now.leaving.items) self.new.matched.items self.new.raised.items self.new.counts.items self.new.waiting.items [] }
+        ensures none { self.new.waiting.items ≡ [] }
+        ensures capacity { vec_capacity self.new.waiting ≡ vec_capacity self.old.waiting }
+        ensures counted { meter.new ≤ meter.old + count_by (was_raised (stands self.old.raised.items) (stands self.new.raised.items)) (edges_from graph.now.places.items 0 graph.now.leaving.items) }
+    {
+        while let Some(node) = self.waiting.pop() {
+            if self.raised[node] {
+                self.raised[node] = false;
+                self.lower_all(graph, node, meter);
+            }
         }
     }
 }

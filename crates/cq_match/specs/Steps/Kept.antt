@@ -1,5 +1,5 @@
 -- How a matcher keeps its graph: nodes by their places, and edges with the nodes that they leave.
-use Rattle.std.specs.Prelude.{◌≡◌, ℕ, ◌+◌, ◌<◌, ◌≤◌, ◌⊎◌, Bool, true, false, ◌&&◌, ◌==◌, List, [], ◌∷◌, ◌++◌, length, map, filter, count_by, slice_index_or, if◌then◌else◌}
+use Rattle.std.specs.Prelude.{◌≡◌, ℕ, ◌+◌, ◌<◌, ◌≤◌, ◌⊎◌, Bool, true, false, not, ◌&&◌, ◌==◌, List, [], ◌∷◌, ◌++◌, length, map, filter, count_by, slice_index_or, if◌then◌else◌}
 use Rattle.std.specs.List.{All, Contains, list_any}
 use Rattle.cq_match.specs.declared.edge.Edge.{Edge}
 use Rattle.cq_match.specs.declared.graph.Place.{Place}
@@ -76,3 +76,7 @@ OutsFit places leaving = (n : ℕ) → All (λ out. is_live places out ≡ true 
 -- How many nodes are matched or wait.
 abbrev pub busy : List Bool → List ℕ → ℕ
 busy matched waiting = length waiting + count_by (λ mark. mark) matched
+
+-- The edge's provider was in the one set, and is not in the other.
+abbrev pub was_raised : (ℕ → Bool) → (ℕ → Bool) → Edge → Bool
+was_raised before after edge = before edge.provider && not (after edge.provider)
