@@ -1,9 +1,11 @@
 pub mod Counting
 pub mod Dropping
 pub mod Edges
+pub mod Fits
 pub mod Grouped
 pub mod Offered
 pub mod Pruning
+pub mod Raising
 pub mod Ranks
 pub mod Rows
 pub mod Settling

@@ -1,8 +1,8 @@
 //! Which nodes are matched, and how many matched providers each postcondition has.
 
-ghost use Rattle.std.specs.Prelude.{◌≡◌, ℕ, ◌+◌, ◌-◌, ◌==◌, ◌<◌, ◌≤◌, ◌++◌, ◌∷◌, ◌&&◌, [], List, count_by, length, false, true, slice_index, slice_index_or, slice_set, if◌then◌else◌, vec_len, vec_capacity};
+ghost use Rattle.std.specs.Prelude.{◌≡◌, ℕ, ◌+◌, ◌-◌, ◌==◌, ◌<◌, ◌≤◌, ◌++◌, ◌∷◌, ◌&&◌, not, [], List, count_by, length, false, true, slice_index, slice_index_or, slice_set, if◌then◌else◌, vec_len, vec_capacity};
 ghost use Rattle.cq_match.specs.Steps.Settle.{stands};
-ghost use Rattle.cq_match.specs.Steps.Kept.{count_at, edges_left, edges_from, busy, was_raised, OutsFit, Pruning};
+ghost use Rattle.cq_match.specs.Steps.Kept.{count_at, edges_left, edges_from, busy, was_raised, OutsFit, Pruning, Counting, Grown, Reaches};
 
 use crate::graph::{Graph, is_live};
 use cq_atom::Meter;
@@ -34,6 +34,15 @@ impl<A: Allocator> Counts<A> {
         self.counts[post] -= 1;
         self.counts[post] == 0
     }
+
+    /// Counts one edge more.
+    fn raise(&mut self, post: usize)
+        requires within { post < length self.old }
+        requires fits { slice_index self.old post < usize.MAX }
+        ensures { self.new ≡ slice_set self.old post (slice_index self.old post + 1) }
+    {
+        self.counts[post] += 1;
+    }
 }
 
 /// What is known of the nodes by their places.
@@ -47,6 +56,8 @@ pub(crate) struct Marks<A: Allocator> {
     pub(crate) counts: Vec<Counts<A>, A>,
     /// The nodes that are matched no longer, and whose edges are counted still.
     pub(crate) waiting: Vec<usize, A>,
+    /// The nodes that were taken as matched, and are yet to be looked at.
+    pub(crate) reached: Vec<usize, A>,
 }
 
 impl<A: Allocator> Marks<A> {
@@ -61,12 +72,58 @@ impl<A: Allocator> Marks<A> {
         ensures matched { self.new.matched.items ≡ (if (count_at self.old.counts.items waiter post - 1 == 0) && stands self.old.matched.items waiter then slice_set self.old.matched.items waiter false else self.old.matched.items) }
         ensures waiting { self.new.waiting.items ≡ (if (count_at self.old.counts.items waiter post - 1 == 0) && stands self.old.matched.items waiter then self.old.waiting.items ++ waiter ∷ [] else self.old.waiting.items) }
         ensures raised { self.new.raised ≡ self.old.raised }
+        ensures reached { self.new.reached ≡ self.old.reached }
         ensures capacity { vec_capacity self.new.waiting ≡ vec_capacity self.old.waiting }
     {
         let none = self.counts[waiter].lower(post);
         if none && self.matched[waiter] {
             self.matched[waiter] = false;
             self.waiting.push_reserved(waiter);
+        }
+    }
+
+    /// Counts an edge to the postcondition. A waiter that is able is taken as matched.
+    fn raise(&mut self, able: bool, waiter: usize, post: usize)
+        requires waiter_within { waiter < length self.old.counts.items }
+        requires waiter_marked { waiter < length self.old.matched.items }
+        requires post_within { post < length (slice_index_or self.old.counts.items waiter []) }
+        requires fits { count_at self.old.counts.items waiter post < usize.MAX }
+        requires room { able ≡ true → stands self.old.matched.items waiter ≡ false → length self.old.reached.items < vec_capacity self.old.reached }
+        ensures counts { self.new.counts.items ≡ slice_set self.old.counts.items waiter (slice_set (slice_index_or self.old.counts.items waiter []) post (count_at self.old.counts.items waiter post + 1)) }
+        ensures matched { self.new.matched.items ≡ (if able && not (stands self.old.matched.items waiter) then slice_set self.old.matched.items waiter true else self.old.matched.items) }
+        ensures reached { self.new.reached.items ≡ (if able && not (stands self.old.matched.items waiter) then self.old.reached.items ++ waiter ∷ [] else self.old.reached.items) }
+        ensures raised { self.new.raised ≡ self.old.raised }
+        ensures waiting { self.new.waiting ≡ self.old.waiting }
+        ensures capacity { vec_capacity self.new.reached ≡ vec_capacity self.old.reached }
+    {
+        self.counts[waiter].raise(post);
+        if able && !self.matched[waiter] {
+            self.matched[waiter] = true;
+            self.reached.push_reserved(waiter);
+        }
+    }
+
+    /// Counts the edges that leave the node, and takes their waiters as matched that are able.
+    fn raise_all(&mut self, graph: &Graph<A>, node: usize)
+        requires fit { OutsFit graph.now.places.items graph.now.leaving.items }
+        requires within { node < length graph.now.leaving.items }
+        requires few { length (edges_from graph.now.places.items 0 graph.now.leaving.items) ≤ usize.MAX }
+        requires lists { length self.old.matched.items ≡ length graph.now.places.items }
+        requires counting { Counting graph.now.places.items (edges_from graph.now.places.items 0 graph.now.leaving.items) self.old.raised.items self.old.counts.items (edges_left graph.now.places.items node (slice_index_or graph.now.leaving.items node [])) }
+        requires room { length self.old.reached.items + length graph.now.places.items ≤ vec_capacity self.old.reached + count_by (λ mark. mark) self.old.matched.items }
+        ensures counting { Counting graph.now.places.items (edges_from graph.now.places.items 0 graph.now.leaving.items) self.new.raised.items self.new.counts.items [] }
+        ensures grown { Grown graph.now.places.items self.old.matched.items self.old.reached.items self.new.matched.items self.new.reached.items }
+        ensures reaches { Reaches graph.now.places.items self.new.matched.items (edges_left graph.now.places.items node (slice_index_or graph.now.leaving.items node [])) }
+        ensures raised { self.new.raised.items ≡ self.old.raised.items }
+        ensures waiting { self.new.waiting ≡ self.old.waiting }
+        ensures capacity { vec_capacity self.new.reached ≡ vec_capacity self.old.reached }
+    {
+        let outs = graph.leaving[node].outs();
+        for out in outs {
+            if is_live(&graph.places, *out) {
+                let able = graph.places[out.waiter].able;
+                self.raise(able, out.waiter, usize::from(out.post));
+            }
         }
     }
 

@@ -80,3 +80,30 @@ busy matched waiting = length waiting + count_by (λ mark. mark) matched
 -- The edge's provider was in the one set, and is not in the other.
 abbrev pub was_raised : (ℕ → Bool) → (ℕ → Bool) → Edge → Bool
 was_raised before after edge = before edge.provider && not (after edge.provider)
+
+-- ---- how nodes come to be matched
+
+-- The edges of nodes that are raised are counted, but for those of the list, which is what is left to be raised of one node.
+pub record Counting (places : List Place) (edges : List Edge) (raised : List Bool) (counts : List (List ℕ)) (left : List Edge) : Type 0 where
+  pub counts_len : length counts ≡ length places
+  pub row_len : (n : ℕ) → length (slice_index_or counts n []) ≡ (place_at places n).posts
+  pub counted : (n k : ℕ) → k < (place_at places n).posts → count_at counts n k + count_by (leads_to n k) left ≡ count_by (feeds_post (stands raised) n k) edges
+
+-- The number stands in the list, and not among the first so many.
+abbrev pub IsLater : ℕ → List ℕ → ℕ → Type 0
+IsLater from reached n = (j : ℕ) × (from ≤ j) × (j < length reached) × (slice_index_or reached j 0 ≡ n)
+
+-- More nodes that are able are taken as matched, and these are put to the list.
+pub record Grown (places : List Place) (matched : List Bool) (reached : List ℕ) (matched' : List Bool) (reached' : List ℕ) : Type 0 where
+  pub len : length matched' ≡ length matched
+  pub kept : (n : ℕ) → stands matched n ≡ true → stands matched' n ≡ true
+  pub found : (n : ℕ) → stands matched' n ≡ true → (stands matched n ≡ true) ⊎ IsLater (length reached) reached' n
+  pub able : (n : ℕ) → stands matched' n ≡ true → (stands matched n ≡ true) ⊎ ((place_at places n).able ≡ true)
+  pub front : (j : ℕ) → j < length reached → slice_index_or reached' j 0 ≡ slice_index_or reached j 0
+  pub longer : length reached ≤ length reached'
+  pub size : length reached' + count_by (λ mark. mark) matched ≡ length reached + count_by (λ mark. mark) matched'
+  pub placed : All (λ n. n < length places) reached → All (λ n. n < length places) reached'
+
+-- The able waiters of the edges are matched.
+abbrev pub Reaches : List Place → List Bool → List Edge → Type 0
+Reaches places matched edges = All (λ edge. (place_at places edge.waiter).able ≡ true → stands matched edge.waiter ≡ true) edges

@@ -7,14 +7,9 @@ use Rattle.cq_match.specs.declared.graph.Place.{Place}
 use Rattle.cq_match.specs.Steps.Kept.{place_at, is_live, edge_of, edges_left, edges_from, OutsFit, Pruning}
 use Rattle.cq_match.proofs.Edges.{left-live, left-gone}
 use Rattle.cq_match.proofs.Pruning.{lower-some, lower-step, lower-busy}
+use Rattle.cq_match.proofs.Fits.{edge-fits}
 use Rattle.cq_match.proofs.marks.Marks.lower_all.Goals as goal
 use Rattle.cq_match.proofs.marks.Marks.lower_all.Goals.{then-is_live, else-is_live}
-
--- a live edge leads to a postcondition of its waiter
-edge-fits : (places : List Place) (leaving : List (List Out)) (node i : ℕ) (outs : List Out) (d : Out) → OutsFit places leaving → outs ≡ get_or leaving node [] → i < length outs → is_live places (get_or outs i d) ≡ true
-    → (get_or outs i d).post < (place_at places (get_or outs i d).waiter).posts
-edge-fits places leaving node i outs d fit same low live =
-    subst (All (λ (out : Out). is_live places out ≡ true → out.post < (place_at places out.waiter).posts)) (sym same) (fit node) i d low live
 
 pub loop-out-preserved : goal.loop-out-preserved
 loop-out-preserved g c =
