@@ -7,6 +7,7 @@ pub mod Offered
 pub mod Pruning
 pub mod Raising
 pub mod Ranks
+pub mod Reaching
 pub mod Rows
 pub mod Settling
 pub mod Slots

@@ -112,6 +112,7 @@ grown-none places matched reached = record {
   longer = omega arith;
   size = refl;
   placed = λ h. h;
+  listed = λ h. h;
 }
 
 pub grown-one : (places : List Place) (matched : List Bool) (reached : List ℕ) (w : ℕ) → length matched ≡ length places → w < length matched → stands matched w ≡ false → (place_at places w).able ≡ true
@@ -130,6 +131,7 @@ grown-one places matched reached w len low down able =
       longer = omega arith;
       size = let one = count-marked matched w low down in omega arith;
       placed = λ h. All-push (λ n. n < length places) reached w h (omega arith);
+      listed = λ h. All-push (λ n. stands (set matched w true) n ≡ true) reached w (λ k d inside. marked-more matched w (get_or reached k d) (h k d inside)) (marked-itself matched w low);
     }
 
 pub grown-more : (places : List Place) (m0 : List Bool) (r0 : List ℕ) (m1 : List Bool) (r1 : List ℕ) (m2 : List Bool) (r2 : List ℕ) → Grown places m0 r0 m1 r1 → Grown places m1 r1 m2 r2 → Grown places m0 r0 m2 r2
@@ -148,6 +150,7 @@ grown-more places m0 r0 m1 r1 m2 r2 a b = record {
   longer = let f = a.longer in let g = b.longer in omega arith;
   size = let f = a.size in let g = b.size in omega arith;
   placed = λ h. b.placed (a.placed h);
+  listed = λ h. b.listed (a.listed h);
 }
 
 -- as the code has it: an able waiter is taken as matched, where it is not yet

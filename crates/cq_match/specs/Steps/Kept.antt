@@ -103,7 +103,45 @@ pub record Grown (places : List Place) (matched : List Bool) (reached : List ℕ
   pub longer : length reached ≤ length reached'
   pub size : length reached' + count_by (λ mark. mark) matched ≡ length reached + count_by (λ mark. mark) matched'
   pub placed : All (λ n. n < length places) reached → All (λ n. n < length places) reached'
+  pub listed : All (λ n. stands matched n ≡ true) reached → All (λ n. stands matched' n ≡ true) reached'
 
 -- The able waiters of the edges are matched.
 abbrev pub Reaches : List Place → List Bool → List Edge → Type 0
 Reaches places matched edges = All (λ edge. (place_at places edge.waiter).able ≡ true → stands matched edge.waiter ≡ true) edges
+
+-- What stays true while nodes are taken as matched that edges reach: those that the list names, of which so many are raised.
+pub record Reaching (places : List Place) (leaving : List (List Out)) (edges : List Edge) (before matched raised : List Bool) (counts : List (List ℕ)) (reached : List ℕ) (index : ℕ) : Type 0 where
+  pub matched_len : length matched ≡ length places
+  pub raised_len : length raised ≡ length places
+  pub counting : Counting places edges raised counts []
+  pub kept : (n : ℕ) → stands before n ≡ true → stands raised n ≡ true
+  pub within : (n : ℕ) → stands raised n ≡ true → stands matched n ≡ true
+  pub found : (n : ℕ) → stands matched n ≡ true → (stands before n ≡ true) ⊎ IsLater 0 reached n
+  pub due : (n : ℕ) → stands matched n ≡ true → (stands raised n ≡ true) ⊎ IsLater index reached n
+  pub reaches : (n : ℕ) → stands raised n ≡ true → (stands before n ≡ true) ⊎ Reaches places matched (edges_left places n (slice_index_or leaving n []))
+  pub able : (n : ℕ) → stands matched n ≡ true → (place_at places n).able ≡ true
+  pub placed : All (λ n. n < length places) reached
+  pub listed : All (λ n. stands matched n ≡ true) reached
+  pub size : length reached + count_by (λ mark. mark) before ≡ count_by (λ mark. mark) matched
+  pub upto : index ≤ length reached
+
+-- What stays true while nodes that were taken as matched are looked at, so many of the list by now.
+pub record Checking (places : List Place) (edges : List Edge) (matched raised : List Bool) (counts : List (List ℕ)) (waiting reached : List ℕ) (index : ℕ) : Type 0 where
+  pub matched_len : length matched ≡ length places
+  pub raised_len : length raised ≡ length places
+  pub counting : Counting places edges raised counts []
+  pub within : (n : ℕ) → stands matched n ≡ true → stands raised n ≡ true
+  pub due : (n : ℕ) → stands raised n ≡ true → (stands matched n ≡ true) ⊎ Contains waiting n
+  pub able : (n : ℕ) → stands matched n ≡ true → (place_at places n).able ≡ true
+  pub fed : (n : ℕ) → stands matched n ≡ true → ((k : ℕ) → k < (place_at places n).posts → 1 ≤ count_at counts n k) ⊎ IsLater index reached n
+  pub stays : (set : ℕ → Bool) → Closed places edges set → (n : ℕ) → set n ≡ true → stands matched n ≡ true
+  pub placed : All (λ n. n < length places) waiting
+  pub fallen : All (λ n. stands matched n ≡ false) waiting
+
+-- Exactly the matched nodes are matched, and exactly their edges are counted.
+pub record Settled (places : List Place) (edges : List Edge) (matched raised : List Bool) (counts : List (List ℕ)) : Type 0 where
+  pub matched_len : length matched ≡ length places
+  pub same : raised ≡ matched
+  pub counting : Counting places edges raised counts []
+  pub closed : Closed places edges (stands matched)
+  pub greatest : (set : ℕ → Bool) → Closed places edges set → (n : ℕ) → set n ≡ true → stands matched n ≡ true
