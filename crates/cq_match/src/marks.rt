@@ -1,8 +1,9 @@
 //! Which nodes are matched, and how many matched providers each postcondition has.
 
 ghost use Rattle.std.specs.Prelude.{◌≡◌, ℕ, ◌+◌, ◌-◌, ◌==◌, ◌<◌, ◌≤◌, ◌++◌, ◌∷◌, ◌&&◌, not, [], List, count_by, length, false, true, slice_index, slice_index_or, slice_set, if◌then◌else◌, vec_len, vec_capacity};
+ghost use Rattle.std.specs.List.{list_any};
 ghost use Rattle.cq_match.specs.Steps.Settle.{stands};
-ghost use Rattle.cq_match.specs.Steps.Kept.{count_at, edges_left, edges_from, busy, was_raised, OutsFit, Pruning, Counting, Grown, Reaches};
+ghost use Rattle.cq_match.specs.Steps.Kept.{place_at, count_at, edges_left, edges_from, busy, was_raised, OutsFit, Pruning, Counting, Grown, Reaches, Reaching, Settled, Closed};
 
 use crate::graph::{Graph, is_live};
 use cq_atom::Meter;
@@ -42,6 +43,13 @@ impl<A: Allocator> Counts<A> {
         ensures { self.new ≡ slice_set self.old post (slice_index self.old post + 1) }
     {
         self.counts[post] += 1;
+    }
+
+    /// Whether some postcondition has no counted edge.
+    fn has_none(&self) -> bool
+        ensures { result ≡ list_any (λ count. count == 0) self.now }
+    {
+        self.counts.iter().any(|count| *count == 0)
     }
 }
 
@@ -145,6 +153,56 @@ impl<A: Allocator> Marks<A> {
                 self.lower(out.waiter, usize::from(out.post));
                 meter.tick();
             }
+        }
+    }
+
+    /// Takes as matched the node, and the able nodes that edges reach from it by way of such nodes, and counts their edges.
+    fn reach(&mut self, graph: &Graph<A>, node: usize)
+        requires fit { OutsFit graph.now.places.items graph.now.leaving.items }
+        requires lists { length graph.now.leaving.items ≡ length graph.now.places.items }
+        requires few { length (edges_from graph.now.places.items 0 graph.now.leaving.items) ≤ usize.MAX }
+        requires marks { length self.old.matched.items ≡ length graph.now.places.items }
+        requires same { self.old.raised.items ≡ self.old.matched.items }
+        requires none { self.old.reached.items ≡ [] }
+        requires counting { Counting graph.now.places.items (edges_from graph.now.places.items 0 graph.now.leaving.items) self.old.matched.items self.old.counts.items [] }
+        requires able { (n : ℕ) → stands self.old.matched.items n ≡ true → (place_at graph.now.places.items n).able ≡ true }
+        requires placed { node < length graph.now.places.items }
+        requires can { (place_at graph.now.places.items node).able ≡ true }
+        requires down { stands self.old.matched.items node ≡ false }
+        requires room { length graph.now.places.items ≤ vec_capacity self.old.reached }
+        ensures reaching { Reaching graph.now.places.items graph.now.leaving.items (edges_from graph.now.places.items 0 graph.now.leaving.items) self.old.matched.items self.new.matched.items self.new.raised.items self.new.counts.items self.new.reached.items (length self.new.reached.items) }
+        ensures up { stands self.new.matched.items node ≡ true }
+        ensures waiting { self.new.waiting ≡ self.old.waiting }
+        ensures capacity { vec_capacity self.new.reached ≡ vec_capacity self.old.reached }
+    {
+        self.matched[node] = true;
+        self.reached.push_reserved(node);
+        let mut index = 0;
+        while index < self.reached.len() {
+            let next = self.reached[index];
+            index += 1;
+            if !self.raised[next] {
+                self.raised[next] = true;
+                self.raise_all(graph, next);
+            }
+        }
+    }
+
+    /// Lets the node wait where it is taken as matched and a postcondition of it has no counted edge.
+    fn check(&mut self, node: usize)
+        requires marked { node < length self.old.matched.items }
+        requires within { node < length self.old.counts.items }
+        requires room { busy self.old.matched.items self.old.waiting.items ≤ vec_capacity self.old.waiting }
+        ensures matched { self.new.matched.items ≡ (if stands self.old.matched.items node && list_any (λ count. count == 0) (slice_index_or self.old.counts.items node []) then slice_set self.old.matched.items node false else self.old.matched.items) }
+        ensures waiting { self.new.waiting.items ≡ (if stands self.old.matched.items node && list_any (λ count. count == 0) (slice_index_or self.old.counts.items node []) then self.old.waiting.items ++ node ∷ [] else self.old.waiting.items) }
+        ensures raised { self.new.raised ≡ self.old.raised }
+        ensures counts { self.new.counts.items ≡ self.old.counts.items }
+        ensures reached { self.new.reached ≡ self.old.reached }
+        ensures capacity { vec_capacity self.new.waiting ≡ vec_capacity self.old.waiting }
+    {
+        if self.matched[node] && self.counts[node].has_none() {
+            self.matched[node] = false;
+            self.waiting.push_reserved(node);
         }
     }
 
