@@ -2,6 +2,7 @@ pub mod Checking
 pub mod Counting
 pub mod Dropping
 pub mod Edges
+pub mod Felling
 pub mod Fits
 pub mod Grouped
 pub mod Offered

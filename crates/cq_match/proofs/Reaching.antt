@@ -17,7 +17,7 @@ use Rattle.cq_match.proofs.Edges.{some-counted, counted-some, feeds-wider, lower
 use Rattle.cq_match.proofs.Raising.{marked-itself, marked-more, marked-cases, count-marked, reaches-kept}
 
 -- the next number of the list is the one at the index, or a later one
-later-cases : (index n : ℕ) (reached : List ℕ) → IsLater index reached n → (n ≡ get_or reached index 0) ⊎ IsLater (index + 1) reached n
+pub later-cases : (index n : ℕ) (reached : List ℕ) → IsLater index reached n → (n ≡ get_or reached index 0) ⊎ IsLater (index + 1) reached n
 later-cases index n reached (j, from, low, at) =
     by_bool (eqb j index) ((n ≡ get_or reached index 0) ⊎ IsLater (index + 1) reached n)
     (λ t. inl (sym at ∙ ap (λ i. get_or reached i 0) (eqb-true j index t)))

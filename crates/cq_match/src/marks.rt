@@ -1,9 +1,9 @@
 //! Which nodes are matched, and how many matched providers each postcondition has.
 
-ghost use Rattle.std.specs.Prelude.{◌≡◌, ℕ, ◌+◌, ◌-◌, ◌==◌, ◌<◌, ◌≤◌, ◌++◌, ◌∷◌, ◌&&◌, not, [], List, count_by, length, false, true, slice_index, slice_index_or, slice_set, if◌then◌else◌, vec_len, vec_capacity};
+ghost use Rattle.std.specs.Prelude.{◌≡◌, ℕ, ◌+◌, ◌-◌, ◌==◌, ◌<◌, ◌≤◌, ◌≢◌, Bool, ◌++◌, ◌∷◌, ◌&&◌, not, [], List, count_by, length, false, true, slice_index, slice_index_or, slice_set, if◌then◌else◌, vec_len, vec_capacity};
 ghost use Rattle.std.specs.List.{list_any};
 ghost use Rattle.cq_match.specs.Steps.Settle.{stands};
-ghost use Rattle.cq_match.specs.Steps.Kept.{place_at, count_at, edges_left, edges_from, busy, was_raised, OutsFit, Pruning, Counting, Grown, Reaches, Reaching, Settled, Closed};
+ghost use Rattle.cq_match.specs.Steps.Kept.{place_at, count_at, edges_left, edges_from, feeds_post, busy, was_raised, OutsFit, Pruning, Counting, Grown, Reaches, Reaching, Settled, Closed};
 
 use crate::graph::{Graph, is_live};
 use cq_atom::Meter;
@@ -145,6 +145,7 @@ impl<A: Allocator> Marks<A> {
         ensures raised { self.new.raised.items ≡ self.old.raised.items }
         ensures busy { busy self.new.matched.items self.new.waiting.items ≡ busy self.old.matched.items self.old.waiting.items }
         ensures capacity { vec_capacity self.new.waiting ≡ vec_capacity self.old.waiting }
+        ensures reached { self.new.reached ≡ self.old.reached }
         ensures counted { meter.new ≤ meter.old + length (edges_left graph.now.places.items node (slice_index_or graph.now.leaving.items node [])) }
     {
         let outs = graph.leaving[node].outs();
@@ -215,6 +216,7 @@ impl<A: Allocator> Marks<A> {
         ensures pruning { Pruning graph.now.places.items (edges_from graph.now.places.items 0 graph.now.leaving.items) self.new.matched.items self.new.raised.items self.new.counts.items self.new.waiting.items [] }
         ensures none { self.new.waiting.items ≡ [] }
         ensures capacity { vec_capacity self.new.waiting ≡ vec_capacity self.old.waiting }
+        ensures reached { self.new.reached ≡ self.old.reached }
         ensures counted { meter.new ≤ meter.old + count_by (was_raised (stands self.old.raised.items) (stands self.new.raised.items)) (edges_from graph.now.places.items 0 graph.now.leaving.items) }
     {
         while let Some(node) = self.waiting.pop() {
@@ -223,5 +225,64 @@ impl<A: Allocator> Marks<A> {
                 self.lower_all(graph, node, meter);
             }
         }
+    }
+
+    /// Takes as matched what can be matched, now that the node is able.
+    pub(crate) fn revive(&mut self, graph: &Graph<A>, node: usize)
+        requires fit { OutsFit graph.now.places.items graph.now.leaving.items }
+        requires lists { length graph.now.leaving.items ≡ length graph.now.places.items }
+        requires few { length (edges_from graph.now.places.items 0 graph.now.leaving.items) ≤ usize.MAX }
+        requires none_waits { self.old.waiting.items ≡ [] }
+        requires none_reached { self.old.reached.items ≡ [] }
+        requires marks { length self.old.matched.items ≡ length graph.now.places.items }
+        requires same { self.old.raised.items ≡ self.old.matched.items }
+        requires counting { Counting graph.now.places.items (edges_from graph.now.places.items 0 graph.now.leaving.items) self.old.matched.items self.old.counts.items [] }
+        requires closed { Closed graph.now.places.items (edges_from graph.now.places.items 0 graph.now.leaving.items) (stands self.old.matched.items) }
+        requires others { (set : ℕ → Bool) → set node ≡ false → Closed graph.now.places.items (edges_from graph.now.places.items 0 graph.now.leaving.items) set → (n : ℕ) → set n ≡ true → stands self.old.matched.items n ≡ true }
+        requires placed { node < length graph.now.places.items }
+        requires can { (place_at graph.now.places.items node).able ≡ true }
+        requires down { stands self.old.matched.items node ≡ false }
+        requires waiting_room { length graph.now.places.items ≤ vec_capacity self.old.waiting }
+        requires reached_room { length graph.now.places.items ≤ vec_capacity self.old.reached }
+        ensures settled { Settled graph.now.places.items (edges_from graph.now.places.items 0 graph.now.leaving.items) self.new.matched.items self.new.raised.items self.new.counts.items }
+        ensures none_waits { self.new.waiting.items ≡ [] }
+        ensures none_reached { self.new.reached.items ≡ [] }
+        ensures waiting_capacity { vec_capacity self.new.waiting ≡ vec_capacity self.old.waiting }
+        ensures reached_capacity { vec_capacity self.new.reached ≡ vec_capacity self.old.reached }
+    {
+        self.reach(graph, node);
+        for index in 0..self.reached.len() {
+            let next = self.reached[index];
+            self.check(next);
+        }
+        self.reached.clear();
+        self.prune(graph, &mut Meter::new());
+    }
+
+    /// Lets the node be matched no longer, and those that need it.
+    pub(crate) fn fell(&mut self, graph: &Graph<A>, node: usize, meter: &mut Meter)
+        requires fit { OutsFit graph.now.places.items graph.now.leaving.items }
+        requires lists { length graph.now.leaving.items ≡ length graph.now.places.items }
+        requires none_waits { self.old.waiting.items ≡ [] }
+        requires marks { length self.old.matched.items ≡ length graph.now.places.items }
+        requires same { self.old.raised.items ≡ self.old.matched.items }
+        requires counting { Counting graph.now.places.items (edges_from graph.now.places.items 0 graph.now.leaving.items) self.old.matched.items self.old.counts.items [] }
+        requires able { (n : ℕ) → n ≢ node → stands self.old.matched.items n ≡ true → (place_at graph.now.places.items n).able ≡ true }
+        requires fed { (n k : ℕ) → stands self.old.matched.items n ≡ true → k < (place_at graph.now.places.items n).posts → list_any (feeds_post (stands self.old.matched.items) n k) (edges_from graph.now.places.items 0 graph.now.leaving.items) ≡ true }
+        requires unable { (place_at graph.now.places.items node).able ≡ false }
+        requires most { (set : ℕ → Bool) → Closed graph.now.places.items (edges_from graph.now.places.items 0 graph.now.leaving.items) set → (n : ℕ) → set n ≡ true → stands self.old.matched.items n ≡ true }
+        requires placed { node < length graph.now.places.items }
+        requires room { length graph.now.places.items ≤ vec_capacity self.old.waiting }
+        ensures settled { Settled graph.now.places.items (edges_from graph.now.places.items 0 graph.now.leaving.items) self.new.matched.items self.new.raised.items self.new.counts.items }
+        ensures none_waits { self.new.waiting.items ≡ [] }
+        ensures capacity { vec_capacity self.new.waiting ≡ vec_capacity self.old.waiting }
+        ensures reached { self.new.reached ≡ self.old.reached }
+        ensures counted { meter.new ≤ meter.old + count_by (was_raised (stands self.old.matched.items) (stands self.new.matched.items)) (edges_from graph.now.places.items 0 graph.now.leaving.items) }
+    {
+        if self.matched[node] {
+            self.matched[node] = false;
+            self.waiting.push_reserved(node);
+        }
+        self.prune(graph, meter);
     }
 }

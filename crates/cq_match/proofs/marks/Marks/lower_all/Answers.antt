@@ -43,6 +43,7 @@ loop-out-preserved g c =
             pruning = rw w.self-is (rw (counts-is, matched-is, waiting-is, w.lower.ensures.raised, post) (lower-step places edges matched raised counts waiting (edge_of node out) behind p fits));
             raised = rw w.self-is (ap (λ r. r.items) w.lower.ensures.raised ∙ c.loop-out.invariant.raised);
             busy = rw w.self-is (rw (matched-is, waiting-is, post) (lower-busy places edges matched raised counts waiting (edge_of node out) behind p fits ∙ c.loop-out.invariant.busy));
+            reached = rw w.self-is (w.lower.ensures.reached ∙ c.loop-out.invariant.reached);
             capacity = rw w.self-is (w.lower.ensures.capacity ∙ c.loop-out.invariant.capacity);
             counted = let m = w.meter-is in let t = w.tick.ensures in let before = c.loop-out.invariant.counted in omega arith;
           }
@@ -53,6 +54,7 @@ loop-out-preserved g c =
             pruning = rw w.self-is (subst (Pruning places edges matched raised counts waiting) pending c.loop-out.invariant.pruning);
             raised = rw w.self-is c.loop-out.invariant.raised;
             busy = rw w.self-is c.loop-out.invariant.busy;
+            reached = rw w.self-is c.loop-out.invariant.reached;
             capacity = rw w.self-is c.loop-out.invariant.capacity;
             counted = let m = w.meter-is in let same_len = ap length pending in let before = c.loop-out.invariant.counted in omega arith;
           }

@@ -45,6 +45,7 @@ loop-node-preserved-then-index g c =
     record {
       pruning = c.lower_all.ensures.pruning;
       room = let b = c.lower_all.ensures.busy in let r = c.loop-node.invariant.room in let k = c.lower_all.ensures.capacity in let m = c.in-Some.ensures.capacity in omega arith;
+      reached = c.lower_all.ensures.reached ∙ c.loop-node.invariant.reached;
       capacity = c.lower_all.ensures.capacity ∙ c.in-Some.ensures.capacity ∙ c.loop-node.invariant.capacity;
       less = rw now (λ n t. c.loop-node.invariant.less n (lowered-less s.raised.items node n t));
       counted = rw now (let l = c.lower_all.ensures.counted in let b = c.loop-node.invariant.counted in omega arith);
@@ -63,6 +64,7 @@ loop-node-preserved g c =
     record {
       pruning = skip places edges s.matched.items s.raised.items s.counts.items s.waiting.items c.pop.new.self.items node p c.in-Some.ensures.items down;
       room = let r = c.loop-node.invariant.room in let m = c.in-Some.ensures.capacity in omega arith;
+      reached = c.loop-node.invariant.reached;
       capacity = c.in-Some.ensures.capacity ∙ c.loop-node.invariant.capacity;
       less = c.loop-node.invariant.less;
       counted = c.loop-node.invariant.counted;
