@@ -1,3 +1,4 @@
+pub mod Bridge
 pub mod Checking
 pub mod Counting
 pub mod Dropping
