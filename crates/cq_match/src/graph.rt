@@ -4,6 +4,7 @@ ghost use Rattle.std.specs.Prelude.{◌≡◌, ◌++◌, ◌∷◌, [], List, if
 ghost use Rattle.std.specs.Result.{is_ok};
 ghost use Rattle.cq_match.specs.Steps.Kept.{is_live};
 
+use crate::marks::Counts;
 use std::alloc::{AllocError, Allocator};
 use std::marker::Model;
 
@@ -91,4 +92,6 @@ pub(crate) struct Graph<A: Allocator> {
     pub(crate) places: Vec<Place, A>,
     /// For each place, the edges that leave its node.
     pub(crate) leaving: Vec<Leaving<A>, A>,
+    /// For each place, how many edges lead to each postcondition of its node.
+    pub(crate) totals: Vec<Counts<A>, A>,
 }

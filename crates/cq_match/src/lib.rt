@@ -16,7 +16,9 @@ mod edge;
 mod graph;
 mod marks;
 mod matched;
+mod matcher;
 mod settle;
 
 pub use edge::{Edge, is_crowd};
 pub use matched::greatest;
+pub use matcher::Matcher;

@@ -25,6 +25,16 @@ impl<A: Allocator> Model for Counts<A> {
 }
 
 impl<A: Allocator> Counts<A> {
+    /// How many edges to the postcondition are counted, 0 where there is no such postcondition.
+    pub(crate) fn at(&self, post: usize) -> usize
+        ensures { result ≡ slice_index self.now post }
+    {
+        match self.counts.get(post) {
+            Some(count) => *count,
+            None => 0,
+        }
+    }
+
     /// Counts one edge less, and tells whether none is left.
     fn lower(&mut self, post: usize) -> bool
         requires within { post < length self.old }

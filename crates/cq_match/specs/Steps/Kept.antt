@@ -145,3 +145,21 @@ pub record Settled (places : List Place) (edges : List Edge) (matched raised : L
   pub counting : Counting places edges raised counts []
   pub closed : Closed places edges (stands matched)
   pub greatest : (set : ℕ → Bool) → Closed places edges set → (n : ℕ) → set n ≡ true → stands matched n ≡ true
+
+-- What stands in the type of a matcher.
+pub record IsKept (places : List Place) (leaving : List (List Out)) (totals : List (List ℕ)) (matched raised : List Bool) (counts : List (List ℕ)) (waiting reached : List ℕ) (room number next : ℕ) : Type 0 where
+  pub leaving_len : length leaving ≡ length places
+  pub totals_len : length totals ≡ length places
+  pub fit : OutsFit places leaving
+  pub totals_row : (n : ℕ) → length (slice_index_or totals n []) ≡ (place_at places n).posts
+  pub totaled : (n k : ℕ) → count_at totals n k ≡ count_by (leads_to n k) (edges_from places 0 leaving)
+  pub settled : Settled places (edges_from places 0 leaving) matched raised counts
+  pub none_waits : waiting ≡ []
+  pub none_reached : reached ≡ []
+  pub roomy : length places ≤ room
+  pub numbered : number ≡ length (edges_from places 0 leaving)
+  pub older : (n : ℕ) → (place_at places n).stamp < next
+  pub outs_older : (n : ℕ) → All (λ out. out.stamp < next) (slice_index_or leaving n [])
+  pub able_taken : (n : ℕ) → (place_at places n).able ≡ true → (place_at places n).taken ≡ true
+  pub free_posts : (n : ℕ) → (place_at places n).taken ≡ false → (place_at places n).posts ≡ 0
+  pub free_leaving : (n : ℕ) → (place_at places n).taken ≡ false → slice_index_or leaving n [] ≡ []

@@ -1,4 +1,4 @@
-use Rattle.std.proofs.Common.{◌≡◌, ℕ, Bool, true, false, ◌+◌, ◌<◌, ◌≤◌, ◌∷◌, [], List, length, get_or, set, filter, eqb, refl, sym, ap, ◌∙◌, subst, arith}
+use Rattle.std.proofs.Common.{◌≡◌, ℕ, Bool, true, false, ◌+◌, ◌<◌, ◌≤◌, ◌∷◌, ◌++◌, [], List, length, get_or, set, filter, eqb, refl, sym, ap, ◌∙◌, subst, arith}
 use Rattle.std.proofs.lemmas.List.{get_or_read}
 use Rattle.cq_match.specs.declared.edge.Edge.{Edge}
 use Rattle.cq_match.specs.declared.graph.Place.{Place}
@@ -6,8 +6,8 @@ use Rattle.cq_match.specs.declared.graph.Out.{Out}
 use Rattle.cq_match.specs.Steps.Settle.{stands}
 use Rattle.cq_match.specs.Steps.Kept.{edges_left, edges_from, Counting, Reaches, Reaching}
 use Rattle.cq_match.proofs.Edges.{edges-of_node}
-use Rattle.cq_match.proofs.Raising.{start-raising}
-use Rattle.cq_match.proofs.Reaching.{next-placed, reaching-skip, reaching-step}
+use Rattle.cq_match.proofs.Raising.{start-raising, marked-itself}
+use Rattle.cq_match.proofs.Reaching.{next-placed, reaching-start, reaching-skip, reaching-step}
 use Rattle.cq_match.proofs.marks.Marks.reach.Goals as goal
 
 -- whether the edges of the next node are counted, as the code reads it
@@ -74,4 +74,22 @@ loop-index-preserved g c =
       up = c.loop-index.invariant.up;
       waiting = c.loop-index.invariant.waiting;
       capacity = c.loop-index.invariant.capacity;
+    }
+
+pub loop-index-init : goal.loop-index-init
+loop-index-init g c =
+    let places = c.args.graph.now.places.items in
+    let leaving = c.args.graph.now.leaving.items in
+    let edges : List Edge = edges_from places 0 leaving in
+    let before = c.args.self.now.matched.items in
+    let counts = c.args.self.now.counts.items in
+    let node = c.args.node in
+    let q = c.requires in
+    let listed : c.push_reserved.new.self.items ≡ node ∷ [] = c.push_reserved.ensures.items ∙ ap (λ (ns : List ℕ). ns ++ node ∷ []) q.none in
+    let start = reaching-start places leaving edges before counts node q.marks q.counting q.able q.placed q.down q.can in
+    record {
+      reaching = rw (listed, q.same) start;
+      up = marked-itself before node (let len = q.marks in let low = q.placed in omega arith);
+      waiting = refl;
+      capacity = c.push_reserved.ensures.capacity;
     }
