@@ -1,5 +1,5 @@
 -- The nodes of a kept graph, and which of them are matched by the definition.
-use Rattle.std.proofs.Common.{◌≡◌, ℕ, ◌+◌, ◌-◌, ◌<◌, ◌≤◌, ◌≢◌, ◌⊎◌, inl, inr, Bool, true, false, not, cond, if◌then◌else◌, ◌&&◌, ◌||◌, eqb, List, [], ◌∷◌, ◌++◌, length, get_or, zero, suc, filter, map, nat_eq, refl, sym, ap, ◌∙◌, subst, arith, eq-eqb, IsTrue}
+use Rattle.std.proofs.Common.{◌≡◌, ℕ, ◌+◌, ◌-◌, ◌<◌, ◌≤◌, ◌≢◌, ◌⊎◌, inl, inr, Bool, true, false, not, cond, if◌then◌else◌, ◌&&◌, ◌||◌, eqb, List, [], ◌∷◌, ◌++◌, length, get_or, zero, suc, filter, map, count_by, nat_eq, refl, sym, ap, ◌∙◌, subst, arith, eq-eqb, IsTrue}
 use Rattle.std.specs.Prelude.{◌↔◌}
 use Rattle.std.specs.List.{All, Contains, list_any, list_all}
 use Rattle.std.specs.Set.{is_member}
@@ -10,9 +10,11 @@ use Rattle.std.proofs.lemmas.List.Sums.{list_all-from_AllPass}
 use Rattle.std.proofs.lemmas.Map.Made.{is_member-filter}
 use Rattle.cq_match.specs.declared.edge.Edge.{Edge}
 use Rattle.cq_match.specs.declared.graph.Place.{Place}
+use Rattle.cq_match.specs.declared.graph.Out.{Out}
+use Rattle.std.proofs.Math.Path.{fun_ext}
 use Rattle.cq_match.specs.Matched.{numbers, is_supplied, has_each_post, is_closed, sublists, is_matched}
 use Rattle.cq_match.specs.Steps.Settle.{stands}
-use Rattle.cq_match.specs.Steps.Kept.{place_at, nodes_from, marked_from, feeds_post, Closed}
+use Rattle.cq_match.specs.Steps.Kept.{place_at, nodes_from, edges_from, marked_from, feeds_post, was_raised, Closed, IsKept}
 use Rattle.cq_match.proofs.Tests.{by_bool, and_left, and_right, both, same_tests}
 use Rattle.cq_match.proofs.Union.{member-contained, contained-member, member-fits, has-post, each-post, part-found, found-part}
 use Rattle.cq_match.proofs.Edges.{feeds-wider}
@@ -186,3 +188,15 @@ marked-member marks n =
     same_tests (is_member nat_eq (marked_from 0 marks) n) (stands marks n)
     (λ t. let found = marked-is marks 0 n (member-contained (marked_from 0 marks) n t) in let is : found.0 ≡ n = (let at = found.1 in omega arith) in ap (stands marks) (sym is) ∙ found.2)
     (λ t. let is : 0 + n ≡ n = omega arith in contained-member (marked_from 0 marks) n (subst (Contains (marked_from 0 marks)) is (marked-has marks 0 n t)))
+
+-- What stands in the type says it of the list that contracts see.
+pub exact-is : (places : List Place) (leaving : List (List Out)) (totals : List (List ℕ)) (matched raised : List Bool) (counts : List (List ℕ)) (waiting reached : List ℕ) (room number next : ℕ)
+    → IsKept places leaving totals matched raised counts waiting reached room number next
+    → (n : ℕ) → is_member nat_eq (marked_from 0 matched) n ≡ is_matched (nodes_from 0 places) (edges_from places 0 leaving) n
+exact-is places leaving totals matched raised counts waiting reached room number next k n =
+    marked-member matched n ∙ sym (definition-is places (edges_from places 0 leaving) matched k.able_taken k.settled.closed k.settled.greatest n)
+
+pub lost-is : (before after : List Bool) (edges : List Edge) → count_by (λ e. is_member nat_eq (marked_from 0 before) e.provider && not (is_member nat_eq (marked_from 0 after) e.provider)) edges ≡ count_by (was_raised (stands before) (stands after)) edges
+lost-is before after edges =
+    ap (λ (f : Edge → Bool). count_by f edges) (fun_ext (λ e.
+    ap (λ (b : Bool). b && not (is_member nat_eq (marked_from 0 after) e.provider)) (marked-member before e.provider) ∙ ap (λ (b : Bool). stands before e.provider && not b) (marked-member after e.provider)))

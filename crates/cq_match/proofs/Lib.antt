@@ -5,6 +5,7 @@ pub mod Dropping
 pub mod Edges
 pub mod Felling
 pub mod Fits
+pub mod Flags
 pub mod Grouped
 pub mod Offered
 pub mod Pruning

@@ -77,3 +77,11 @@ row-len counts w k x n =
     let len = length-set counts w (set (row counts w) k x) in
     ap length (get_or_past (with_count counts w k x) n [] (omega arith)) ∙ sym (ap length (get_or_past counts n [] past))))
     (λ f. ap length (get_or-set_other counts w n (set (row counts w) k x) [] (differ n w f)))
+
+pub taken-placed : (places : List Place) (n : ℕ) → (place_at places n).taken ≡ true → n < length places
+taken-placed places n taken =
+    by_bool (ltb n (length places)) (n < length places) (λ t. ltb-true n (length places) t)
+    (λ f.
+    let past : place_at places n ≡ free = get_or_past places n free (ltb-false n (length places) f) in
+    let never : false ≡ true = sym (ap (λ (place : Place). place.taken) past) ∙ taken in
+    absurd cc)

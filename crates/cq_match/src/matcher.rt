@@ -96,4 +96,43 @@ impl<A: Allocator> Matcher<A> {
             None => 0,
         }
     }
+
+    /// Lets the node be able, also where it was so already.
+    ///
+    /// Where it was not, and an edge leads to each of its postconditions, the unmatched nodes that its edges reach are looked at, with
+    /// their edges, and no others.
+    ///
+    /// # Errors
+    /// `AllocError` where a growth was refused; then nothing has changed.
+    pub fn enable(&mut self, node: usize) -> Result<(), AllocError>
+        requires { has_node node self.old ≡ true }
+        ensures nodes { OnOk result (self.new.nodes ≡ with_flag node true self.old.nodes) }
+        ensures edges { OnOk result (self.new.edges ≡ self.old.edges) }
+        ensures matched { (n : ℕ) → is_member nat_eq self.new.matched n ≡ is_matched self.new.nodes self.new.edges n }
+        ensures err { OnErr result (self.new ≡ self.old) }
+    {
+        if self.graph.places[node].able {
+            return Ok(());
+        }
+        self.marks.reached.reserve(self.graph.places.len())?;
+        self.graph.places[node].able = true;
+        self.marks.revive(&self.graph, node);
+        Ok(())
+    }
+
+    /// Lets the node be able no longer, also where it was not so before. Takes no memory.
+    ///
+    /// The meter counts each edge whose provider stops being matched, and no other work is in proportion to more than these.
+    pub fn disable(&mut self, node: usize, meter: &mut Meter)
+        requires { has_node node self.old ≡ true }
+        ensures nodes { self.new.nodes ≡ with_flag node false self.old.nodes }
+        ensures edges { self.new.edges ≡ self.old.edges }
+        ensures matched { (n : ℕ) → is_member nat_eq self.new.matched n ≡ is_matched self.new.nodes self.new.edges n }
+        ensures counted { meter.new ≤ meter.old + lost self.old self.new }
+    {
+        if self.graph.places[node].able {
+            self.graph.places[node].able = false;
+            self.marks.fell(&self.graph, node, meter);
+        }
+    }
 }
