@@ -13,6 +13,7 @@ use Rattle.cq_match.specs.declared.graph.Place.{Place}
 use Rattle.cq_match.specs.declared.graph.Out.{Out}
 use Rattle.std.proofs.Math.Path.{fun_ext}
 use Rattle.cq_match.specs.Matched.{numbers, is_supplied, has_each_post, is_closed, sublists, is_matched}
+use Rattle.cq_match.specs.Matcher.{MatcherRecord, has_node}
 use Rattle.cq_match.specs.Steps.Settle.{stands}
 use Rattle.cq_match.specs.Steps.Kept.{place_at, nodes_from, edges_from, marked_from, feeds_post, was_raised, Closed, IsKept}
 use Rattle.cq_match.proofs.Tests.{by_bool, and_left, and_right, both, same_tests}
@@ -200,3 +201,7 @@ pub lost-is : (before after : List Bool) (edges : List Edge) → count_by (λ e.
 lost-is before after edges =
     ap (λ (f : Edge → Bool). count_by f edges) (fun_ext (λ e.
     ap (λ (b : Bool). b && not (is_member nat_eq (marked_from 0 after) e.provider)) (marked-member before e.provider) ∙ ap (λ (b : Bool). stands before e.provider && not b) (marked-member after e.provider)))
+
+-- a node that is there has its place
+pub there : (places : List Place) (node : ℕ) (m : MatcherRecord) → m.nodes ≡ nodes_from 0 places → has_node node m ≡ true → (place_at places node).taken ≡ true
+there places node m is has = sym (number-taken places node) ∙ ap (λ (ns : List (ℕ × ℕ × Bool)). is_member nat_eq (numbers ns) node) (sym is) ∙ has

@@ -158,3 +158,8 @@ most-without places node low edges matched most members closed n t =
     by_bool (members node) (stands matched n ≡ true)
     (λ u. absurd (let never : false ≡ true = sym (ap (λ (q : Place). q.able) (flagged-here places node false low)) ∙ closed.able node u in cc))
     (λ f. most members (closed-before places node false low edges members f closed) n t)
+
+-- a node that is not able is not matched
+pub unmatched : (places : List Place) (edges : List Edge) (matched : List Bool) (node : ℕ) → Closed places edges (stands matched) → (place_at places node).able ≡ false → stands matched node ≡ false
+unmatched places edges matched node closed unable =
+    by_bool (stands matched node) (stands matched node ≡ false) (λ t. absurd (let never : false ≡ true = sym unable ∙ closed.able node t in cc)) (λ f. f)

@@ -9,13 +9,9 @@ use Rattle.cq_match.specs.Matcher.{MatcherRecord, has_node, with_flag, lost}
 use Rattle.cq_match.specs.Steps.Settle.{stands}
 use Rattle.cq_match.specs.Steps.Kept.{free, place_at, edges_from, nodes_from, marked_from, feeds_post, Closed, Counting, IsKept}
 use Rattle.cq_match.proofs.Rows.{taken-placed}
-use Rattle.cq_match.proofs.Bridge.{number-taken, exact-is, lost-is}
+use Rattle.cq_match.proofs.Bridge.{there, exact-is, lost-is}
 use Rattle.cq_match.proofs.Flags.{same-posts, same-edges, same-counting, same-kept, flagged-nodes, flagged-already, most-without}
 use Rattle.cq_match.proofs.matcher.Matcher.disable.Goals as goal
-
--- a node that is there has its place
-there : (places : List Place) (node : ℕ) (m : MatcherRecord) → m.nodes ≡ nodes_from 0 places → has_node node m ≡ true → (place_at places node).taken ≡ true
-there places node m is has = sym (number-taken places node) ∙ ap (λ (ns : List (ℕ × ℕ × Bool)). is_member nat_eq (numbers ns) node) (sym is) ∙ has
 
 pub index-requires : goal.index-requires
 index-requires g c =
