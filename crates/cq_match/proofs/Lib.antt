@@ -7,6 +7,7 @@ pub mod Felling
 pub mod Fits
 pub mod Flags
 pub mod Grouped
+pub mod Growing
 pub mod Offered
 pub mod Pruning
 pub mod Raising

@@ -65,6 +65,21 @@ impl<A: Allocator + Copy> Matcher<A> {
     }
 }
 
+impl<A: Allocator + Copy> Matcher<A> {
+    /// Makes room for one place more.
+    fn reserve(&mut self) -> Result<(), AllocError>
+        ensures same { self.new ≡ self.old }
+    {
+        self.graph.places.reserve(1)?;
+        self.graph.leaving.reserve(1)?;
+        self.graph.totals.reserve(1)?;
+        self.marks.matched.reserve(1)?;
+        self.marks.raised.reserve(1)?;
+        self.marks.counts.reserve(1)?;
+        self.marks.waiting.reserve(self.graph.places.len() + 1)
+    }
+}
+
 impl<A: Allocator> Matcher<A> {
     /// Whether the node is there.
     pub fn has(&self, node: usize) -> bool
