@@ -1,13 +1,13 @@
 //! Which nodes are matched, and how many matched providers each postcondition has.
 
-ghost use Rattle.std.specs.Prelude.{◌≡◌, ℕ, ◌+◌, ◌-◌, ◌==◌, ◌<◌, ◌≤◌, ◌≢◌, Bool, ◌++◌, ◌∷◌, ◌&&◌, not, [], List, count_by, length, false, true, slice_index, slice_index_or, slice_set, if◌then◌else◌, vec_len, vec_capacity};
+ghost use Rattle.std.specs.Prelude.{◌≡◌, ℕ, ◌+◌, ◌-◌, ◌==◌, ◌<◌, ◌≤◌, ◌≢◌, Bool, ◌++◌, ◌∷◌, ◌&&◌, not, [], List, count_by, length, false, true, replicate, IfOk, slice_index, slice_index_or, slice_set, if◌then◌else◌, vec_len, vec_capacity};
 ghost use Rattle.std.specs.List.{list_any};
 ghost use Rattle.cq_match.specs.Steps.Settle.{stands};
 ghost use Rattle.cq_match.specs.Steps.Kept.{place_at, count_at, edges_left, edges_from, feeds_post, busy, was_raised, OutsFit, Pruning, Counting, Grown, Reaches, Reaching, Settled, Closed};
 
 use crate::graph::{Graph, is_live};
 use cq_atom::Meter;
-use std::alloc::Allocator;
+use std::alloc::{AllocError, Allocator};
 use std::marker::Model;
 
 /// For each postcondition of a node, how many edges to it are counted.
@@ -25,6 +25,23 @@ impl<A: Allocator> Model for Counts<A> {
 }
 
 impl<A: Allocator> Counts<A> {
+    /// No postconditions.
+    pub(crate) fn none(alloc: A) -> Counts<A>
+        ensures { result ≡ [] }
+    {
+        Counts {
+            counts: Vec::new(alloc),
+        }
+    }
+
+    /// Nothing counted of so many postconditions.
+    pub(crate) fn zeros(alloc: A, posts: u8) -> Result<Counts<A>, AllocError>
+        ensures { IfOk result (λ counts. counts ≡ replicate posts 0) }
+    {
+        let counts = vec![in alloc; 0usize; usize::from(posts)]?;
+        Ok(Counts { counts })
+    }
+
     /// How many edges to the postcondition are counted, 0 where there is no such postcondition.
     pub(crate) fn at(&self, post: usize) -> usize
         ensures { result ≡ slice_index self.now post }

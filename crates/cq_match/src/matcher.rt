@@ -6,11 +6,19 @@ ghost use Rattle.cq_match.specs.Graph.{provider_count};
 ghost use Rattle.cq_match.specs.Matched.{is_matched};
 ghost use Rattle.cq_match.specs.Matcher.{nothing, has_node, with_flag, lost};
 
-use crate::graph::Graph;
-use crate::marks::Marks;
+use crate::graph::{Graph, Leaving, Place};
+use crate::marks::{Counts, Marks};
 use cq_atom::Meter;
 use std::alloc::{AllocError, Allocator, Global};
 use std::marker::Model;
+
+/// A place where no node stands.
+const FREE: Place = Place {
+    taken: false,
+    able: false,
+    posts: 0,
+    stamp: 0,
+};
 
 /// A graph whose matched nodes are kept while nodes come, go, and become able or not.
 ///
@@ -66,8 +74,8 @@ impl<A: Allocator + Copy> Matcher<A> {
 }
 
 impl<A: Allocator + Copy> Matcher<A> {
-    /// Makes room for one place more.
-    fn reserve(&mut self) -> Result<(), AllocError>
+    /// Makes one place more, which is free.
+    fn grow(&mut self) -> Result<(), AllocError>
         ensures same { self.new ≡ self.old }
     {
         self.graph.places.reserve(1)?;
@@ -76,7 +84,14 @@ impl<A: Allocator + Copy> Matcher<A> {
         self.marks.matched.reserve(1)?;
         self.marks.raised.reserve(1)?;
         self.marks.counts.reserve(1)?;
-        self.marks.waiting.reserve(self.graph.places.len() + 1)
+        self.marks.waiting.reserve(self.graph.places.len() + 1)?;
+        self.graph.places.push_reserved(FREE);
+        self.graph.leaving.push_reserved(Leaving::new(self.alloc));
+        self.graph.totals.push_reserved(Counts::none(self.alloc));
+        self.marks.matched.push_reserved(false);
+        self.marks.raised.push_reserved(false);
+        self.marks.counts.push_reserved(Counts::none(self.alloc));
+        Ok(())
     }
 }
 
