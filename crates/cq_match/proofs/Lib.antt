@@ -9,6 +9,7 @@ pub mod Flags
 pub mod Grouped
 pub mod Growing
 pub mod Offered
+pub mod Placing
 pub mod Pruning
 pub mod Raising
 pub mod Ranks
