@@ -99,8 +99,8 @@ module _ (places : List Place) (edges : List Edge) (matched raised : List Bool) 
         within = λ n t. c.within n (still n t);
         due = λ n t. elim (c.due n t) [
           | inl up ↦ by_bool (eqb n v) ((stands (set matched v false) n ≡ true) ⊎ Contains (waiting ++ v ∷ []) n)
-          (λ is. inr (subst (Contains (waiting ++ v ∷ [])) (sym (eqb-true n v is)) (Contains-push waiting v)))
-          (λ f. inl (lowered-other matched v n (differ n v f) ∙ up))
+              (λ is. inr (subst (Contains (waiting ++ v ∷ [])) (sym (eqb-true n v is)) (Contains-push waiting v)))
+              (λ f. inl (lowered-other matched v n (differ n v f) ∙ up))
           | inr h ↦ inr (Contains-append_left waiting (v ∷ []) n h)
         ];
         able = λ n t. c.able n (still n t);

@@ -8,6 +8,7 @@ pub mod Fits
 pub mod Flags
 pub mod Grouped
 pub mod Growing
+pub mod Linking
 pub mod Offered
 pub mod Placing
 pub mod Pruning

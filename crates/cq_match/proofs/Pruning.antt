@@ -109,8 +109,8 @@ module _ (places : List Place) (edges : List Edge) where
           within = λ n t. p.within n (still n t);
           due = λ n t. elim (p.due n t) [
             | inl up ↦ by_bool (eqb n w) ((stands (set matched w false) n ≡ true) ⊎ Contains (waiting ++ w ∷ []) n)
-            (λ is. inr (subst (Contains (waiting ++ w ∷ [])) (sym (eqb-true n w is)) (Contains-push waiting w)))
-            (λ f. inl (lowered-other matched w n (differ n w f) ∙ up))
+                (λ is. inr (subst (Contains (waiting ++ w ∷ [])) (sym (eqb-true n w is)) (Contains-push waiting w)))
+                (λ f. inl (lowered-other matched w n (differ n w f) ∙ up))
             | inr h ↦ inr (Contains-append_left waiting (w ∷ []) n h)
           ];
           able = λ n t. p.able n (still n t);
