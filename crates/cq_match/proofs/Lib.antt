@@ -3,6 +3,7 @@ pub mod Checking
 pub mod Counting
 pub mod Dropping
 pub mod Edges
+pub mod Erasing
 pub mod Felling
 pub mod Fits
 pub mod Flags

@@ -26,3 +26,7 @@ with_flag n able nodes = map (λ node. (node.0, node.1, if node.0 == n then able
 -- How many edges had a matched provider before, and have none afterwards.
 abbrev pub lost : MatcherRecord → MatcherRecord → ℕ
 lost before after = count_by (λ edge. is_member nat_eq before.matched edge.provider && not (is_member nat_eq after.matched edge.provider)) before.edges
+
+-- The edge neither leaves the node nor leads to it.
+abbrev pub is_apart : ℕ → Edge → Bool
+is_apart n edge = not (edge.provider == n) && not (edge.waiter == n)
