@@ -1,9 +1,8 @@
 -- What stays true while nodes that were taken as matched are looked at.
-use Rattle.std.proofs.Common.{◌≡◌, ℕ, ◌+◌, ◌-◌, ◌<◌, ◌≤◌, ◌≢◌, ◌⊎◌, inl, inr, Bool, true, false, not, cond, if◌then◌else◌, ◌&&◌, eqb, ltb, List, [], ◌∷◌, ◌++◌, length, get_or, set, zero, suc, count_by, refl, sym, ap, ◌∙◌, subst, arith, eq-eqb}
-use borrow.Author.Tests.{ltb-true, ltb-false}
-use Rattle.std.specs.List.{All, Contains, list_any}
+use Rattle.std.proofs.Common.{◌≡◌, ℕ, ◌+◌, ◌<◌, ◌≤◌, ◌⊎◌, inl, inr, Bool, true, false, if◌then◌else◌, ◌&&◌, eqb, List, [], ◌∷◌, ◌++◌, length, get_or, set, zero, suc, count_by, refl, sym, ap, ◌∙◌, subst, arith}
+use Rattle.std.specs.List.{Contains, list_any}
 use Rattle.std.proofs.lemmas.Bool.{eqb-true}
-use Rattle.std.proofs.lemmas.List.{length-set, length-append}
+use Rattle.std.proofs.lemmas.List.{length-set}
 use Rattle.std.proofs.lemmas.List.Elements.{All-push, Contains-push, Contains-append_left}
 use Rattle.std.proofs.lemmas.List.Folds.{Any-from_list_any, list_any_at}
 use Rattle.cq_match.specs.declared.edge.Edge.{Edge}
@@ -11,10 +10,10 @@ use Rattle.cq_match.specs.declared.graph.Place.{Place}
 use Rattle.cq_match.specs.declared.graph.Out.{Out}
 use Rattle.cq_match.specs.Graph.{leads_to}
 use Rattle.cq_match.specs.Steps.Settle.{stands}
-use Rattle.cq_match.specs.Steps.Kept.{place_at, count_at, edges_from, feeds_post, busy, Closed, Pruning, Counting, IsLater, Reaching, Checking, Settled}
+use Rattle.cq_match.specs.Steps.Kept.{place_at, count_at, edges_from, feeds_post, busy, Closed, Pruning, Reaching, Checking, Settled}
 use Rattle.cq_match.proofs.Tests.{by_bool, and_left, and_right, both}
 use Rattle.cq_match.proofs.Rows.{differ, row}
-use Rattle.cq_match.proofs.Edges.{some-counted, counted-some, feeds-wider, lowered-itself, lowered-other, lowered-less}
+use Rattle.cq_match.proofs.Edges.{some-counted, feeds-wider, lowered-itself, lowered-other, lowered-less}
 use Rattle.cq_match.proofs.Pruning.{fallen-busy, end-raised, end-closed}
 use Rattle.cq_match.proofs.Reaching.{later-cases, reached-all}
 

@@ -1,6 +1,5 @@
 -- A node becomes able, or is able no longer: edges and all else stay.
-use Rattle.std.proofs.Common.{◌≡◌, ℕ, ◌+◌, ◌<◌, ◌≤◌, ◌≢◌, Bool, true, false, ◌&&◌, if◌then◌else◌, eqb, ltb, List, [], ◌∷◌, ◌++◌, length, get_or, set, zero, suc, map, filter, count_by, refl, sym, ap, ◌∙◌, subst, arith, eq-eqb}
-use Rattle.std.specs.List.{All, list_any}
+use Rattle.std.proofs.Common.{◌≡◌, ℕ, ◌+◌, ◌<◌, ◌≢◌, Bool, true, false, ◌&&◌, eqb, List, [], ◌∷◌, ◌++◌, length, get_or, set, zero, suc, map, filter, count_by, refl, sym, ap, ◌∙◌, arith, eq-eqb}
 use Rattle.std.proofs.Math.Path.{fun_ext}
 use Rattle.std.proofs.lemmas.Bool.{eqb-true}
 use Rattle.std.proofs.lemmas.List.{length-set, get_or-set_same, get_or-set_other}
@@ -10,7 +9,7 @@ use Rattle.cq_match.specs.declared.graph.Out.{Out}
 use Rattle.cq_match.specs.Graph.{leads_to}
 use Rattle.cq_match.specs.Matcher.{with_flag}
 use Rattle.cq_match.specs.Steps.Settle.{stands}
-use Rattle.cq_match.specs.Steps.Kept.{free, place_at, count_at, is_live, edge_of, edges_left, edges_from, nodes_from, feeds_post, Closed, Counting, Settled, IsKept, OutsFit}
+use Rattle.cq_match.specs.Steps.Kept.{free, place_at, is_live, edge_of, edges_left, edges_from, nodes_from, Closed, Counting, Settled, IsKept, OutsFit}
 use Rattle.cq_match.proofs.Tests.{by_bool}
 use Rattle.cq_match.proofs.Rows.{differ}
 

@@ -1,6 +1,6 @@
 -- One more place, which is free: nothing that contracts see changes.
 use Rattle.std.proofs.Common.{◌≡◌, ℕ, ◌+◌, ◌<◌, ◌≤◌, Bool, true, false, ◌&&◌, if◌then◌else◌, eqb, List, [], ◌∷◌, ◌++◌, length, get_or, zero, suc, map, filter, count_by, refl, sym, ap, ◌∙◌, subst, arith}
-use Rattle.std.specs.List.{All, list_any}
+use Rattle.std.specs.List.{All}
 use Rattle.std.proofs.Math.Path.{fun_ext}
 use Rattle.std.proofs.lemmas.List.{length-append}
 use Rattle.cq_match.specs.declared.edge.Edge.{Edge}
@@ -8,7 +8,7 @@ use Rattle.cq_match.specs.declared.graph.Place.{Place}
 use Rattle.cq_match.specs.declared.graph.Out.{Out}
 use Rattle.cq_match.specs.Graph.{leads_to}
 use Rattle.cq_match.specs.Steps.Settle.{stands}
-use Rattle.cq_match.specs.Steps.Kept.{free, place_at, count_at, is_live, edge_of, edges_left, edges_from, nodes_from, marked_from, feeds_post, Closed, Counting, Settled, IsKept, OutsFit}
+use Rattle.cq_match.specs.Steps.Kept.{free, place_at, count_at, is_live, edge_of, edges_left, edges_from, nodes_from, marked_from, feeds_post, Closed, IsKept}
 
 -- a default at the end changes no look-up
 pub default-pushed : {X : Type 0} (xs : List X) (n : ℕ) (d : X) → get_or (xs ++ d ∷ []) n d ≡ get_or xs n d

@@ -1,20 +1,19 @@
 -- One edge more, of which one end is a node that is not able: what is matched stays.
-use Rattle.std.proofs.Common.{◌≡◌, ℕ, ◌+◌, ◌<◌, ◌≤◌, ◌≢◌, ◌⊎◌, inl, inr, Bool, true, false, ◌&&◌, if◌then◌else◌, cond, eqb, List, [], ◌∷◌, ◌++◌, length, get_or, set, zero, suc, map, filter, count_by, refl, sym, ap, ◌∙◌, subst, arith, eq-eqb}
-use Rattle.std.specs.List.{All, list_any}
+use Rattle.std.proofs.Common.{◌≡◌, ℕ, ◌+◌, ◌<◌, ◌⊎◌, inl, inr, Bool, true, false, ◌&&◌, if◌then◌else◌, cond, eqb, List, [], ◌∷◌, ◌++◌, length, get_or, set, zero, suc, count_by, refl, sym, ap, ◌∙◌, subst, arith, eq-eqb}
+use Rattle.std.specs.List.{All}
 use Rattle.std.proofs.lemmas.Bool.{eqb-true}
-use Rattle.std.proofs.lemmas.List.{length-set, length-append, get_or-set_same, get_or-set_other}
-use Rattle.std.proofs.lemmas.List.Elements.{All-push, filter-append}
+use Rattle.std.proofs.lemmas.List.{length-set, get_or-set_same, get_or-set_other}
+use Rattle.std.proofs.lemmas.List.Elements.{All-push}
 use Rattle.std.proofs.lemmas.List.Sums.{sum_by-append}
 use Rattle.cq_match.specs.declared.edge.Edge.{Edge}
 use Rattle.cq_match.specs.declared.graph.Place.{Place}
 use Rattle.cq_match.specs.declared.graph.Out.{Out}
 use Rattle.cq_match.specs.Graph.{leads_to}
 use Rattle.cq_match.specs.Steps.Settle.{stands}
-use Rattle.cq_match.specs.Steps.Kept.{free, place_at, count_at, is_live, edge_of, edges_left, edges_from, feeds_post, Closed, Counting, Settled, IsKept, OutsFit}
+use Rattle.cq_match.specs.Steps.Kept.{place_at, count_at, is_live, edge_of, edges_left, edges_from, feeds_post, Closed, Counting, IsKept}
 use Rattle.cq_match.proofs.Tests.{by_bool, and_left, and_right, both}
 use Rattle.cq_match.proofs.Rows.{differ, post-placed, row, with_count, count-cases, row-len}
 use Rattle.cq_match.proofs.Edges.{one_if, count-cons, some-counted, counted-some}
-use Rattle.cq_match.proofs.Flags.{unmatched}
 
 count-append : (q : Edge → Bool) (xs ys : List Edge) → count_by q (xs ++ ys) ≡ count_by q xs + count_by q ys
 count-append q xs ys = sum_by-append (λ x. cond (q x) 1 0) xs ys

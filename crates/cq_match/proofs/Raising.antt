@@ -1,20 +1,19 @@
 -- What stays true while nodes are taken as matched.
-use Rattle.std.proofs.Common.{◌≡◌, ℕ, ◌+◌, ◌-◌, ◌<◌, ◌≤◌, ◌≢◌, ◌⊎◌, inl, inr, Bool, true, false, not, cond, if◌then◌else◌, ◌&&◌, eqb, ltb, List, [], ◌∷◌, ◌++◌, length, get_or, set, zero, suc, take, drop, map, filter, count_by, refl, sym, ap, ◌∙◌, subst, arith, eq-eqb}
+use Rattle.std.proofs.Common.{◌≡◌, ℕ, ◌+◌, ◌<◌, ◌≤◌, ◌⊎◌, inl, inr, Bool, true, false, not, cond, if◌then◌else◌, ◌&&◌, eqb, ltb, List, [], ◌∷◌, ◌++◌, length, get_or, set, zero, suc, take, map, filter, count_by, refl, sym, ap, ◌∙◌, arith, eq-eqb}
 use borrow.Author.Tests.{ltb-true, ltb-false}
-use Rattle.std.specs.List.{All, Contains, list_any}
 use Rattle.std.proofs.lemmas.Bool.{eqb-true}
 use Rattle.std.proofs.lemmas.List.{length-set, length-append, get_or-set_same, get_or-set_other, get_or_append_left, get_or_push, take_more}
-use Rattle.std.proofs.lemmas.List.Elements.{All-push, All-contains, filter-append, Contains-push, Contains-push_cases, Contains-append_left}
+use Rattle.std.proofs.lemmas.List.Elements.{All-push, filter-append}
 use Rattle.std.proofs.lemmas.List.Sums.{sum_by-set, count_by-le-length}
 use Rattle.cq_match.specs.declared.edge.Edge.{Edge}
 use Rattle.cq_match.specs.declared.graph.Place.{Place}
 use Rattle.cq_match.specs.declared.graph.Out.{Out}
 use Rattle.cq_match.specs.Graph.{leads_to}
 use Rattle.cq_match.specs.Steps.Settle.{stands}
-use Rattle.cq_match.specs.Steps.Kept.{place_at, count_at, is_live, edge_of, edges_left, feeds_post, busy, Closed, Pruning, Counting, Grown, IsLater, Reaches}
+use Rattle.cq_match.specs.Steps.Kept.{place_at, count_at, is_live, edge_of, edges_left, feeds_post, Counting, Grown, Reaches}
 use Rattle.cq_match.proofs.Tests.{by_bool, and_left, and_right, both}
 use Rattle.cq_match.proofs.Rows.{differ, post-placed, row, with_count, count-cases, row-len}
-use Rattle.cq_match.proofs.Edges.{one_if, count-cons, some-counted, counted-some, feeds-wider, lowered-itself, lowered-other, lowered-less, count-split}
+use Rattle.cq_match.proofs.Edges.{one_if, count-cons, count-split}
 
 -- ---- an edge is counted
 

@@ -1,19 +1,18 @@
 -- What is reached from a node, and which of it is matched.
-use Rattle.std.proofs.Common.{◌≡◌, ℕ, ◌+◌, ◌-◌, ◌<◌, ◌≤◌, ◌≢◌, ◌⊎◌, inl, inr, Bool, true, false, not, cond, if◌then◌else◌, ◌&&◌, ◌||◌, eqb, ltb, List, [], ◌∷◌, ◌++◌, length, get_or, set, zero, suc, filter, count_by, refl, sym, ap, ◌∙◌, subst, arith, eq-eqb}
-use borrow.Author.Tests.{ltb-true, ltb-false}
-use Rattle.std.specs.List.{All, Contains, list_any}
+use Rattle.std.proofs.Common.{◌≡◌, ℕ, ◌+◌, ◌<◌, ◌⊎◌, inl, inr, Bool, true, false, not, ◌&&◌, ◌||◌, eqb, List, [], ◌∷◌, length, get_or, set, zero, suc, filter, refl, sym, ap, ◌∙◌, subst, arith, eq-eqb}
+use Rattle.std.specs.List.{All, list_any}
 use Rattle.std.proofs.lemmas.Bool.{eqb-true}
-use Rattle.std.proofs.lemmas.List.{length-set, length-append, get_or_default}
-use Rattle.std.proofs.lemmas.List.Elements.{All-head, All-tail, All-push, All-contains, Contains-push, Contains-push_cases, Contains-append_left, Contains-get_or}
+use Rattle.std.proofs.lemmas.List.{length-set}
+use Rattle.std.proofs.lemmas.List.Elements.{All-head, All-tail, All-push}
 use Rattle.cq_match.specs.declared.edge.Edge.{Edge}
 use Rattle.cq_match.specs.declared.graph.Place.{Place}
 use Rattle.cq_match.specs.declared.graph.Out.{Out}
 use Rattle.cq_match.specs.Graph.{leads_to}
 use Rattle.cq_match.specs.Steps.Settle.{stands}
-use Rattle.cq_match.specs.Steps.Kept.{place_at, count_at, is_live, edges_left, edges_from, feeds_post, Closed, Pruning, Counting, Grown, IsLater, Reaches, Reaching, Checking, Settled}
+use Rattle.cq_match.specs.Steps.Kept.{place_at, edges_left, edges_from, feeds_post, Closed, Counting, Grown, IsLater, Reaches, Reaching}
 use Rattle.cq_match.proofs.Tests.{by_bool, and_left, and_right, both}
-use Rattle.cq_match.proofs.Rows.{differ, post-placed, row}
-use Rattle.cq_match.proofs.Edges.{some-counted, counted-some, feeds-wider, lowered-itself, lowered-other, lowered-less, edges-of_node}
+use Rattle.cq_match.proofs.Rows.{differ}
+use Rattle.cq_match.proofs.Edges.{feeds-wider, edges-of_node}
 use Rattle.cq_match.proofs.Raising.{marked-itself, marked-more, marked-cases, count-marked, reaches-kept}
 
 -- the next number of the list is the one at the index, or a later one

@@ -1,9 +1,8 @@
-use Rattle.std.proofs.Common.{◌≡◌, ℕ, Bool, true, false, ◌++◌, ◌∷◌, [], List, length, get_or, set, refl, sym, ap, ◌∙◌, subst, arith}
+use Rattle.std.proofs.Common.{◌≡◌, ℕ, false, ◌++◌, ◌∷◌, [], List, length, sym, ap, ◌∙◌, arith}
 use Rattle.std.proofs.lemmas.List.{get_or_read}
 use Rattle.cq_match.specs.declared.edge.Edge.{Edge}
-use Rattle.cq_match.specs.declared.graph.Place.{Place}
 use Rattle.cq_match.specs.Steps.Settle.{stands}
-use Rattle.cq_match.specs.Steps.Kept.{edges_from, Pruning}
+use Rattle.cq_match.specs.Steps.Kept.{edges_from}
 use Rattle.cq_match.proofs.Felling.{felling-down, felling-up}
 use Rattle.cq_match.proofs.Checking.{settled-end}
 use Rattle.cq_match.proofs.marks.Marks.fell.Goals as goal

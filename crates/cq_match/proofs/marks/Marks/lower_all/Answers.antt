@@ -1,12 +1,11 @@
-use Rattle.std.proofs.Common.{◌≡◌, ℕ, suc, true, false, ◌+◌, ◌<◌, ◌≤◌, ◌∷◌, [], List, length, get_or, drop, refl, sym, ap, ◌∙◌, subst, arith}
-use Rattle.std.specs.List.{All}
+use Rattle.std.proofs.Common.{◌≡◌, suc, true, false, ◌+◌, ◌<◌, ◌∷◌, [], List, length, get_or, drop, sym, ap, ◌∙◌, subst, arith}
 use Rattle.std.proofs.lemmas.List.{get_or_default}
 use Rattle.cq_match.specs.declared.edge.Edge.{Edge}
 use Rattle.cq_match.specs.declared.graph.Out.{Out}
 use Rattle.cq_match.specs.declared.graph.Place.{Place}
-use Rattle.cq_match.specs.Steps.Kept.{place_at, is_live, edge_of, edges_left, edges_from, OutsFit, Pruning}
+use Rattle.cq_match.specs.Steps.Kept.{is_live, edge_of, edges_left, edges_from, Pruning}
 use Rattle.cq_match.proofs.Edges.{left-live, left-gone}
-use Rattle.cq_match.proofs.Pruning.{lower-some, lower-step, lower-busy}
+use Rattle.cq_match.proofs.Pruning.{lower-step, lower-busy}
 use Rattle.cq_match.proofs.Fits.{edge-fits}
 use Rattle.cq_match.proofs.marks.Marks.lower_all.Goals as goal
 use Rattle.cq_match.proofs.marks.Marks.lower_all.Goals.{then-is_live, else-is_live}

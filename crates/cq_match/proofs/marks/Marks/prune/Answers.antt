@@ -1,9 +1,9 @@
-use Rattle.std.proofs.Common.{◌≡◌, ℕ, ◌+◌, ◌<◌, ◌≤◌, ◌++◌, ◌∷◌, [], Bool, true, false, List, length, get_or, set, count_by, filter, eqb, refl, sym, ap, ◌∙◌, subst, arith}
+use Rattle.std.proofs.Common.{◌≡◌, ℕ, ◌+◌, ◌++◌, ◌∷◌, [], Bool, true, false, List, length, get_or, set, filter, eqb, sym, ap, ◌∙◌, subst, arith}
 use Rattle.std.proofs.lemmas.List.{get_or_read, length-append}
 use Rattle.cq_match.specs.declared.edge.Edge.{Edge}
 use Rattle.cq_match.specs.declared.graph.Place.{Place}
 use Rattle.cq_match.specs.Steps.Settle.{stands}
-use Rattle.cq_match.specs.Steps.Kept.{edges_left, edges_from, busy, was_raised, Pruning}
+use Rattle.cq_match.specs.Steps.Kept.{edges_left, edges_from, Pruning}
 use Rattle.cq_match.proofs.Edges.{edges-of_node, lowered-less, lost-more}
 use Rattle.cq_match.proofs.Pruning.{popped-low, skip, start}
 use Rattle.cq_match.proofs.marks.Marks.prune.Goals as goal

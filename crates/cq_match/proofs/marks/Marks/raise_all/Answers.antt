@@ -1,16 +1,13 @@
-use Rattle.std.proofs.Common.{◌≡◌, ℕ, Bool, true, false, ◌&&◌, not, if◌then◌else◌, ◌+◌, ◌<◌, ◌≤◌, ◌∷◌, ◌++◌, [], List, length, get_or, set, take, drop, count_by, refl, sym, ap, ◌∙◌, subst, arith}
-use Rattle.std.specs.List.{All}
+use Rattle.std.proofs.Common.{◌≡◌, true, false, if◌then◌else◌, ◌+◌, ◌<◌, ◌∷◌, ◌++◌, [], List, length, get_or, set, take, drop, sym, ap, ◌∙◌, subst, arith}
 use Rattle.std.proofs.lemmas.List.{get_or_default, take_all}
-use Rattle.std.proofs.lemmas.List.Elements.{All-push}
 use Rattle.cq_match.specs.declared.edge.Edge.{Edge}
 use Rattle.cq_match.specs.declared.graph.Place.{Place}
 use Rattle.cq_match.specs.declared.graph.Out.{Out}
-use Rattle.cq_match.specs.Steps.Settle.{stands}
-use Rattle.cq_match.specs.Steps.Kept.{free, place_at, is_live, edge_of, edges_left, edges_from, Counting, Grown, Reaches}
+use Rattle.cq_match.specs.Steps.Kept.{free, place_at, is_live, edge_of, edges_left, edges_from, Counting, Reaches}
 use Rattle.cq_match.proofs.Rows.{post-placed}
 use Rattle.cq_match.proofs.Edges.{left-live, left-gone}
 use Rattle.cq_match.proofs.Fits.{edge-fits}
-use Rattle.cq_match.proofs.Raising.{raise-counting, raise-fits, marks-left, grown-none, grown-more, taken, take-grown, take-reaches_more, first-live, first-gone}
+use Rattle.cq_match.proofs.Raising.{raise-counting, marks-left, grown-more, taken, take-grown, take-reaches_more, first-live, first-gone}
 use Rattle.cq_match.proofs.marks.Marks.raise_all.Goals as goal
 use Rattle.cq_match.proofs.marks.Marks.raise_all.Goals.{then-is_live, else-is_live}
 

@@ -1,4 +1,4 @@
-use Rattle.std.proofs.Common.{◌≡◌, ◌-◌, ◌≤◌, true, length, vec_capacity}
+use Rattle.std.proofs.Common.{◌≡◌, ◌-◌, true, length, vec_capacity}
 use Rattle.cq_match.specs.Steps.Settle.{stands}
 use Rattle.cq_match.specs.Steps.Kept.{edges_from, Reaching}
 use Rattle.cq_match.proofs.marks.Marks.reach.Given as goal

@@ -1,11 +1,10 @@
-use Rattle.std.proofs.Common.{◌≡◌, ℕ, Bool, true, false, ◌&&◌, if◌then◌else◌, ◌+◌, ◌<◌, ◌≤◌, ◌++◌, ◌∷◌, [], List, length, get_or, set, count_by, vec_capacity, refl, sym, ap, ◌∙◌, subst, arith}
+use Rattle.std.proofs.Common.{◌≡◌, ℕ, Bool, ◌<◌, ◌≤◌, [], List, length, get_or, count_by, vec_capacity, refl, sym, ap, ◌∙◌, subst, arith}
 use Rattle.std.specs.List.{All}
 use Rattle.std.proofs.lemmas.List.{get_or_read}
 use Rattle.std.proofs.lemmas.List.Sums.{count_by-le-length}
 use Rattle.cq_match.specs.declared.edge.Edge.{Edge}
 use Rattle.cq_match.specs.declared.graph.Place.{Place}
-use Rattle.cq_match.specs.Steps.Settle.{stands}
-use Rattle.cq_match.specs.Steps.Kept.{edges_from, busy, Pruning, Checking}
+use Rattle.cq_match.specs.Steps.Kept.{edges_from, busy}
 use Rattle.cq_match.proofs.Checking.{checking-start, checking-step, checking-busy, checking-end, settled-end}
 use Rattle.cq_match.proofs.marks.Marks.revive.Goals as goal
 

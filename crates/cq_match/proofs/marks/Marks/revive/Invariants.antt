@@ -1,4 +1,4 @@
-use Rattle.std.proofs.Common.{◌≡◌, ◌≤◌, length, vec_capacity}
+use Rattle.std.proofs.Common.{◌≡◌, ◌≤◌, vec_capacity}
 use Rattle.cq_match.specs.Steps.Kept.{edges_from, busy, Checking}
 use Rattle.cq_match.proofs.marks.Marks.revive.Given as goal
 

@@ -1,16 +1,12 @@
-use Rattle.std.proofs.Common.{◌≡◌, ℕ, ◌+◌, ◌<◌, ◌≤◌, Bool, true, false, length, [], List, set, get_or, refl, sym, ap, ◌∙◌, subst, arith, nat_eq, vec_capacity}
-use Rattle.std.specs.List.{list_any}
-use Rattle.std.specs.Set.{is_member}
+use Rattle.std.proofs.Common.{◌≡◌, Bool, true, false, [], List, set, sym, ap, ◌∙◌, subst, arith, vec_capacity}
 use Rattle.std.proofs.lemmas.List.{get_or_default, length-set}
-use Rattle.cq_match.specs.declared.edge.Edge.{Edge}
 use Rattle.cq_match.specs.declared.graph.Place.{Place}
-use Rattle.cq_match.specs.Matched.{numbers, is_matched}
-use Rattle.cq_match.specs.Matcher.{MatcherRecord, has_node, with_flag, lost}
+use Rattle.cq_match.specs.Matcher.{MatcherRecord, with_flag}
 use Rattle.cq_match.specs.Steps.Settle.{stands}
-use Rattle.cq_match.specs.Steps.Kept.{free, place_at, edges_from, nodes_from, marked_from, feeds_post, Closed, Counting, IsKept}
+use Rattle.cq_match.specs.Steps.Kept.{free, place_at, edges_from, Counting}
 use Rattle.cq_match.proofs.Rows.{taken-placed}
-use Rattle.cq_match.proofs.Bridge.{there, exact-is, lost-is}
-use Rattle.cq_match.proofs.Flags.{same-posts, same-edges, same-counting, same-kept, flagged-here, flagged-nodes, flagged-already, closed-before, closed-after, unmatched}
+use Rattle.cq_match.proofs.Bridge.{there, exact-is}
+use Rattle.cq_match.proofs.Flags.{same-edges, same-counting, same-kept, flagged-here, flagged-nodes, flagged-already, closed-before, closed-after, unmatched}
 use Rattle.cq_match.proofs.matcher.Matcher.enable.Goals as goal
 
 pub index-requires : goal.index-requires

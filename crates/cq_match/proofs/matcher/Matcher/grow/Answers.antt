@@ -1,9 +1,6 @@
-use Rattle.std.proofs.Common.{◌≡◌, ℕ, ◌+◌, ◌≤◌, Bool, true, false, [], ◌∷◌, ◌++◌, List, length, refl, ap, ◌∙◌, arith, vec_capacity}
-use Rattle.cq_match.specs.declared.edge.Edge.{Edge}
+use Rattle.std.proofs.Common.{◌≡◌, ◌+◌, ◌≤◌, Bool, false, [], ◌∷◌, ◌++◌, List, length, refl, ap, ◌∙◌, arith, vec_capacity}
 use Rattle.cq_match.specs.declared.graph.Place.{Place}
-use Rattle.cq_match.specs.declared.graph.Out.{Out}
-use Rattle.cq_match.specs.Matcher.{MatcherRecord}
-use Rattle.cq_match.specs.Steps.Kept.{free, nodes_from, edges_from, marked_from}
+use Rattle.cq_match.specs.Steps.Kept.{free}
 use Rattle.cq_match.proofs.Growing.{grown-kept, grown-nodes, grown-edges, grown-marked}
 use Rattle.cq_match.proofs.matcher.Matcher.grow.Goals as goal
 

@@ -1,4 +1,4 @@
-use Rattle.std.proofs.Common.{◌≡◌, ℕ, Bool, false, List, nat_eq, sym, ap, ◌∙◌, arith}
+use Rattle.std.proofs.Common.{Bool, false, List, nat_eq, sym, ap, ◌∙◌, arith}
 use Rattle.std.specs.Set.{is_member}
 use Rattle.cq_match.specs.Matched.{is_matched}
 use Rattle.cq_match.specs.Matcher.{MatcherRecord}

@@ -1,8 +1,8 @@
-use Rattle.std.proofs.Common.{◌≡◌, ℕ, List, [], get_or, sym, ap, ◌∙◌, arith}
+use Rattle.std.proofs.Common.{ℕ, List, [], get_or, sym, ap, ◌∙◌, arith}
 use Rattle.std.proofs.lemmas.List.Sums.{length-filter}
 use Rattle.cq_match.specs.Graph.{leads_to, provider_count}
 use Rattle.cq_match.specs.Matcher.{MatcherRecord}
-use Rattle.cq_match.specs.Steps.Kept.{edges_from, count_at}
+use Rattle.cq_match.specs.Steps.Kept.{edges_from}
 use Rattle.cq_match.proofs.matcher.Matcher.providers.Goals as goal
 
 pub returns-in-Some : goal.returns-in-Some
