@@ -129,8 +129,7 @@ impl<A: Allocator> Matcher<A> {
 
     /// Lets the node be able, also where it was so already.
     ///
-    /// Where it was not, and an edge leads to each of its postconditions, the unmatched nodes that its edges reach are looked at, with
-    /// their edges, and no others.
+    /// Where it was not, the able and unmatched nodes that its edges reach are looked at, with their edges, and no others.
     ///
     /// # Errors
     /// `AllocError` where a growth was refused; then nothing has changed.
