@@ -57,21 +57,21 @@ or-right true b e t = t
 or-right false b e t = absurd (let never : false ≡ true = e in cc)
 
 -- a member of a closed set is able and has each of its postconditions
-member-fits : (nodes : Nodes) (edges : List Edge) (set : List ℕ) (node : ℕ × ℕ × Bool) → is_closed nodes edges set ≡ true → Contains nodes node → is_member nat_eq set node.0 ≡ true → (node.2 && has_each_post edges set node) ≡ true
+pub member-fits : (nodes : Nodes) (edges : List Edge) (set : List ℕ) (node : ℕ × ℕ × Bool) → is_closed nodes edges set ≡ true → Contains nodes node → is_member nat_eq set node.0 ≡ true → (node.2 && has_each_post edges set node) ≡ true
 unfolding is_closed
 member-fits nodes edges set node closed listed member =
     let test : ℕ × ℕ × Bool → Bool = λ x. not (is_member nat_eq set x.0) || (x.2 && has_each_post edges set x) in
     let passes : test node ≡ true = All-contains (λ x. test x ≡ true) nodes node (AllPass-from_list_all test nodes closed) listed in
     or-right (is_member nat_eq set node.0) (node.2 && has_each_post edges set node) member passes
 
-has-post : (edges : List Edge) (set : List ℕ) (node : ℕ × ℕ × Bool) (post : ℕ) → has_each_post edges set node ≡ true → post < node.1 → is_supplied edges set node.0 post ≡ true
+pub has-post : (edges : List Edge) (set : List ℕ) (node : ℕ × ℕ × Bool) (post : ℕ) → has_each_post edges set node ≡ true → post < node.1 → is_supplied edges set node.0 post ≡ true
 has-post edges set node post has low =
     let passes = AllPass-from_list_all (is_supplied edges set node.0) (range_with_len 0 node.1) has in
     let len = length-range_with_len 0 node.1 in
     let at : get_or (range_with_len 0 node.1) post 0 ≡ post = let e = get_or-range_with_len 0 node.1 post 0 low in omega arith in
     ap (is_supplied edges set node.0) (sym at) ∙ passes post 0 (omega arith)
 
-each-post : (edges : List Edge) (set : List ℕ) (node : ℕ × ℕ × Bool) → ((post : ℕ) → post < node.1 → is_supplied edges set node.0 post ≡ true) → has_each_post edges set node ≡ true
+pub each-post : (edges : List Edge) (set : List ℕ) (node : ℕ × ℕ × Bool) → ((post : ℕ) → post < node.1 → is_supplied edges set node.0 post ≡ true) → has_each_post edges set node ≡ true
 each-post edges set node supplied =
     list_all-from_AllPass (is_supplied edges set node.0) (range_with_len 0 node.1)
     (λ k d low.

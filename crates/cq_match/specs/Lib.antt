@@ -1,3 +1,4 @@
 pub mod Graph
 pub mod Matched
+pub mod Matcher
 pub mod Steps

@@ -13,8 +13,12 @@
 #![tactic(auto)]
 
 mod edge;
+mod graph;
+mod marks;
 mod matched;
+mod matcher;
 mod settle;
 
 pub use edge::{Edge, is_crowd};
 pub use matched::greatest;
+pub use matcher::Matcher;

@@ -1,4 +1,4 @@
-use Rattle.std.proofs.Common.{rules, ℕ, Bool, false}
+use Rattle.std.proofs.Common.{rules, ℕ, Bool}
 use Rattle.std.specs.List.Sorted.{IsPermutation}
 use Rattle.std.proofs.lemmas.List.Sorted.{IsNonDecreasingBy-from_sort_by_key}
 use Rattle.cq_match.proofs.Ranks.{ranked-from_sort}

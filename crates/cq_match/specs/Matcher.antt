@@ -1,0 +1,32 @@
+-- What contracts see of a matcher.
+-- (the matched set kept while nodes come, go, and become able or not: this project's profile)
+use Rattle.std.specs.Prelude.{ℕ, Bool, not, ◌&&◌, ◌==◌, nat_eq, List, [], map, count_by, if◌then◌else◌}
+use Rattle.std.specs.Set.{is_member}
+use Rattle.cq_match.specs.declared.edge.Edge.{Edge}
+use Rattle.cq_match.specs.Matched.{numbers}
+
+-- A graph, as it is for the definition of matched nodes, and those of its nodes that are kept as matched.
+pub record MatcherRecord : Type 0 where
+  pub nodes : List (ℕ × ℕ × Bool)
+  pub edges : List Edge
+  pub matched : List ℕ
+
+-- No nodes.
+abbrev pub nothing : MatcherRecord
+nothing = record { nodes = []; edges = []; matched = [] }
+
+-- The node is in the graph.
+abbrev pub has_node : ℕ → MatcherRecord → Bool
+has_node n matcher = is_member nat_eq (numbers matcher.nodes) n
+
+-- The nodes, of which one has got that flag.
+abbrev pub with_flag : ℕ → Bool → List (ℕ × ℕ × Bool) → List (ℕ × ℕ × Bool)
+with_flag n able nodes = map (λ node. (node.0, node.1, if node.0 == n then able else node.2)) nodes
+
+-- How many edges had a matched provider before, and have none afterwards.
+abbrev pub lost : MatcherRecord → MatcherRecord → ℕ
+lost before after = count_by (λ edge. is_member nat_eq before.matched edge.provider && not (is_member nat_eq after.matched edge.provider)) before.edges
+
+-- The edge neither leaves the node nor leads to it.
+abbrev pub is_apart : ℕ → Edge → Bool
+is_apart n edge = not (edge.provider == n) && not (edge.waiter == n)

@@ -1,0 +1,97 @@
+//! Nodes by their places, and edges with the nodes that they leave.
+
+ghost use Rattle.std.specs.Prelude.{◌≡◌, ◌++◌, ◌∷◌, [], List, if◌then◌else◌};
+ghost use Rattle.std.specs.Result.{is_ok};
+ghost use Rattle.cq_match.specs.Steps.Kept.{is_live};
+
+use crate::marks::Counts;
+use std::alloc::{AllocError, Allocator};
+use std::marker::Model;
+
+/// A place for a node.
+#[derive(Clone, Copy)]
+pub(crate) struct Place {
+    /// Whether a node stands here.
+    pub(crate) taken: bool,
+    /// Whether that node is able.
+    pub(crate) able: bool,
+    /// How many postconditions it has.
+    pub(crate) posts: u8,
+    /// Tells it from the nodes that stood here before.
+    pub(crate) stamp: u64,
+}
+
+/// An edge as the node keeps it that it leaves. Where the waiter that it was made for has gone it is an edge no longer.
+#[derive(Clone, Copy)]
+pub(crate) struct Out {
+    /// The place of the head.
+    pub(crate) head: u8,
+    /// The place of the node that waits.
+    pub(crate) waiter: usize,
+    /// The place of the postcondition.
+    pub(crate) post: u8,
+    /// The stamp of the waiter.
+    pub(crate) stamp: u64,
+}
+
+/// The edges that leave a node.
+#[derive(Drop)]
+pub(crate) struct Leaving<A: Allocator> {
+    outs: Vec<Out, A>,
+}
+
+impl<A: Allocator> Model for Leaving<A> {
+    ghost use Rattle.std.specs.Prelude.{List};
+    ghost use Rattle.cq_match.specs.declared.graph.Out.{Out};
+
+    ghost Value = { List Out };
+
+    ghost view = { λ leaving. leaving.outs.items };
+}
+
+impl<A: Allocator> Leaving<A> {
+    /// No edges.
+    pub(crate) fn new(alloc: A) -> Leaving<A>
+        ensures { result ≡ [] }
+    {
+        Leaving {
+            outs: Vec::new(alloc),
+        }
+    }
+
+    /// The edges, those that have gone among them.
+    pub(crate) fn outs(&self) -> &[Out]
+        ensures { result.now ≡ self.now }
+    {
+        self.outs.as_slice()
+    }
+
+    /// Puts an edge to the end.
+    pub(crate) fn push(&mut self, out: Out) -> Result<(), AllocError>
+        ensures { self.new ≡ (if is_ok result then self.old ++ out ∷ [] else self.old) }
+    {
+        self.outs.push(out)?;
+        Ok(())
+    }
+}
+
+/// Whether the edge is one still: its waiter is there.
+pub(crate) fn is_live(places: &[Place], out: Out) -> bool
+    ensures { result ≡ is_live places.now out }
+{
+    match places.get(out.waiter) {
+        Some(place) => place.taken && place.stamp == out.stamp,
+        None => false,
+    }
+}
+
+/// Nodes and edges.
+#[derive(Drop)]
+pub(crate) struct Graph<A: Allocator> {
+    /// The places, some of which are free.
+    pub(crate) places: Vec<Place, A>,
+    /// For each place, the edges that leave its node.
+    pub(crate) leaving: Vec<Leaving<A>, A>,
+    /// For each place, how many edges lead to each postcondition of its node.
+    pub(crate) totals: Vec<Counts<A>, A>,
+}
