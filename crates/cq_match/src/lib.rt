@@ -9,6 +9,9 @@
 //! all closed sets. It numbers nodes by their places in rising order and lets places fall that nothing
 //! standing feeds (`settle`).
 //!
+//! In the making, and not public yet: `matcher` keeps the matched nodes while nodes become able and cease to be
+//! (`specs/Matcher`). Nodes cannot come to it or go yet.
+//!
 //! Not here: whose head supplies which postcondition, which is said of atoms, and names.
 #![tactic(auto)]
 
@@ -21,4 +24,3 @@ mod settle;
 
 pub use edge::{Edge, is_crowd};
 pub use matched::greatest;
-pub use matcher::Matcher;
