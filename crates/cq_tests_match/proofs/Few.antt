@@ -29,8 +29,7 @@ edge provider waiter = record { provider = provider; head = 0; waiter = waiter; 
 pub pair-ends : (a b : ℕ) (x y : Bool) → All (HasEnds ((a, 1, x) ∷ (b, 1, y) ∷ [])) (edge b a ∷ edge a b ∷ [])
 pair-ends a b x y =
     let nodes : List (ℕ × ℕ × Bool) = (a, 1, x) ∷ (b, 1, y) ∷ [] in
-    All-from_recursion (HasEnds nodes) (edge b a ∷ edge a b ∷ [])
-    (
+    All-from_recursion (HasEnds nodes) (edge b a ∷ edge a b ∷ []) (
       ((1, omega arith, refl), (0, (a, 1, x), omega arith, refl, (refl, omega arith))),
       (((0, omega arith, refl), (1, (b, 1, y), omega arith, refl, (refl, omega arith))), tt),
     )

@@ -19,7 +19,7 @@ returns-in-Ok g c =
     record {
       state = on_ok c.put_answer.result _ c.in-Ok.ensures.ok;
       put = subst (λ (bytes : List ℕ). Put g.W.Sink.taken g.W.Sink.write_failures c.args.output.now c.put_answer.new.output bytes c.put_answer.result)
-      (ap (λ pool. answer_lines pool answer) board ∙ sym (ap (reply_lines (shown (after floor event))) told)) c.put_answer.ensures;
+          (ap (λ pool. answer_lines pool answer) board ∙ sym (ap (reply_lines (shown (after floor event))) told)) c.put_answer.ensures;
     }
 
 pub returns-in_default : goal.returns-in_default
@@ -31,5 +31,5 @@ returns-in_default g c =
     record {
       state = on_ok c.put_line.result _ (c.in-Err.ensures.err ∙ sym (refused_after floor event refusal told));
       put = subst (λ (bytes : List ℕ). Put g.W.Sink.taken g.W.Sink.write_failures c.args.output.now c.put_line.new.output bytes c.put_line.result)
-      (sym (ap (reply_lines (shown (after floor event))) told)) (c.put_line.ensures (refusal_line refusal) c.refusal_line.ensures);
+          (sym (ap (reply_lines (shown (after floor event))) told)) (c.put_line.ensures (refusal_line refusal) c.refusal_line.ensures);
     }
