@@ -7,6 +7,7 @@ pub mod Erasing
 pub mod Felling
 pub mod Fits
 pub mod Flags
+pub mod Going
 pub mod Grouped
 pub mod Growing
 pub mod Linking

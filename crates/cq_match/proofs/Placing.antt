@@ -142,7 +142,7 @@ module _ (places : List Place) (node posts next : ℕ) (low : node < length plac
         none_waits = k.none_waits;
         none_reached = k.none_reached;
         roomy = let r = k.roomy in omega arith;
-        numbered = k.numbered ∙ ap length (sym same);
+        numbered = let n = k.numbered in let l = ap length same in omega arith;
         older = λ n. by_bool (eqb n node) ((place_at with_node n).stamp < next + 1)
             (λ t. let at : (place_at with_node n).stamp ≡ next = ap (λ m. (place_at with_node m).stamp) (eqb-true n node t) ∙ ap (λ (q : Place). q.stamp) placed-here in omega arith)
             (λ f. let at = ap (λ (q : Place). q.stamp) (placed-other n (differ n node f)) in let o = k.older n in omega arith);

@@ -10,7 +10,7 @@
 //! standing feeds (`settle`).
 //!
 //! In the making, and not public yet: `matcher` keeps the matched nodes while nodes become able and cease to be
-//! (`specs/Matcher`). Nodes cannot come to it or go yet.
+//! (`specs/Matcher`), and while nodes go. They cannot come to it yet.
 //!
 //! Not here: whose head supplies which postcondition, which is said of atoms, and names.
 #![tactic(auto)]

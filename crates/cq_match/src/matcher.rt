@@ -1,12 +1,13 @@
 //! The matched nodes of a graph, kept while its nodes come and go.
 
-ghost use Rattle.std.specs.Prelude.{◌≡◌, ℕ, Bool, true, false, ◌+◌, ◌≤◌, ◌↔◌, OnOk, OnErr, nat_eq};
+ghost use Rattle.std.specs.Prelude.{◌≡◌, ℕ, Bool, true, false, ◌+◌, ◌≤◌, ◌↔◌, OnOk, OnErr, nat_eq, filter};
 ghost use Rattle.std.specs.Set.{is_member};
 ghost use Rattle.cq_match.specs.Graph.{provider_count};
 ghost use Rattle.cq_match.specs.Matched.{is_matched};
-ghost use Rattle.cq_match.specs.Matcher.{nothing, has_node, with_flag, lost};
+ghost use Rattle.cq_match.specs.Matcher.{nothing, has_node, with_flag, without, is_apart, lost};
+ghost use Rattle.cq_match.specs.Steps.Kept.{is_able};
 
-use crate::graph::{Graph, Leaving, Place};
+use crate::graph::{Graph, Leaving, Place, lower_totals};
 use crate::marks::{Counts, Marks};
 use cq_atom::Meter;
 use std::alloc::{AllocError, Allocator, Global};
@@ -28,7 +29,7 @@ const FREE: Place = Place {
 pub struct Matcher<A: Allocator = Global> {
     graph: Graph<A>,
     marks: Marks<A>,
-    /// How many edges there are.
+    /// At least as many as there are edges: how many have come.
     number: usize,
     /// The stamp of the next node.
     next: u64,
@@ -163,5 +164,37 @@ impl<A: Allocator> Matcher<A> {
             self.graph.places[node].able = false;
             self.marks.fell(&self.graph, node, meter);
         }
+    }
+
+    /// Lets the node go that is not able, with its edges.
+    fn erase(&mut self, node: usize)
+        requires there { has_node node self.old ≡ true }
+        requires unable { is_able node self.old.nodes ≡ false }
+        ensures nodes { self.new.nodes ≡ without node self.old.nodes }
+        ensures edges { self.new.edges ≡ filter (is_apart node) self.old.edges }
+        ensures kept { self.new.matched ≡ self.old.matched }
+        ensures matched { (n : ℕ) → is_member nat_eq self.new.matched n ≡ is_matched self.new.nodes self.new.edges n }
+    {
+        lower_totals(&self.graph.places, &self.graph.leaving, node, &mut self.graph.totals);
+        self.graph.places[node] = FREE;
+        self.graph.leaving[node].clear();
+        self.graph.totals[node].clear();
+        self.marks.counts[node].clear();
+    }
+
+    /// Lets the node go, with the edges that leave it and those that lead to it. Takes no memory.
+    ///
+    /// The meter counts each edge whose provider stops being matched, and other work is in proportion to these and
+    /// to the edges that leave the node, those among them whose waiters have gone since; it is not in proportion to
+    /// the edges of its neighbours.
+    pub fn remove(&mut self, node: usize, meter: &mut Meter)
+        requires { has_node node self.old ≡ true }
+        ensures nodes { self.new.nodes ≡ without node self.old.nodes }
+        ensures edges { self.new.edges ≡ filter (is_apart node) self.old.edges }
+        ensures matched { (n : ℕ) → is_member nat_eq self.new.matched n ≡ is_matched self.new.nodes self.new.edges n }
+        ensures counted { meter.new ≤ meter.old + lost self.old self.new }
+    {
+        self.disable(node, meter);
+        self.erase(node);
     }
 }
