@@ -61,7 +61,7 @@ lowered-step before totals all left e counted low inside lowered n k =
 
 -- ---- the nodes that contracts see
 
-without-none : (places : List Place) (j n : ℕ) → j < n → without j (nodes_from n places) ≡ nodes_from n places
+pub without-none : (places : List Place) (j n : ℕ) → j < n → without j (nodes_from n places) ≡ nodes_from n places
 without-none [] j n low = refl
 without-none (p ∷ places) j n low =
     let rest = without-none places j (n + 1) (omega arith) in

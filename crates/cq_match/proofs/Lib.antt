@@ -1,5 +1,7 @@
+pub mod Adding
 pub mod Bridge
 pub mod Checking
+pub mod Coming
 pub mod Counting
 pub mod Dropping
 pub mod Edges

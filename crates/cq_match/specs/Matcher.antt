@@ -27,6 +27,10 @@ with_flag n able nodes = map (λ node. (node.0, node.1, if node.0 == n then able
 abbrev pub without : ℕ → List (ℕ × ℕ × Bool) → List (ℕ × ℕ × Bool)
 without n nodes = filter (λ node. not (node.0 == n)) nodes
 
+-- The nodes of that number.
+abbrev pub with_number : ℕ → List (ℕ × ℕ × Bool) → List (ℕ × ℕ × Bool)
+with_number n nodes = filter (λ node. node.0 == n) nodes
+
 -- How many edges had a matched provider before, and have none afterwards.
 abbrev pub lost : MatcherRecord → MatcherRecord → ℕ
 lost before after = count_by (λ edge. is_member nat_eq before.matched edge.provider && not (is_member nat_eq after.matched edge.provider)) before.edges

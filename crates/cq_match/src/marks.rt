@@ -64,7 +64,7 @@ impl<A: Allocator> Counts<A> {
     }
 
     /// Counts one edge more.
-    fn raise(&mut self, post: usize)
+    pub(crate) fn raise(&mut self, post: usize)
         requires within { post < length self.old }
         requires fits { slice_index self.old post < usize.MAX }
         ensures { self.new ≡ slice_set self.old post (slice_index self.old post + 1) }
