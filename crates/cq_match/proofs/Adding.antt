@@ -1,9 +1,8 @@
 -- A node comes with its edges: what the steps have made of the nodes that contracts see.
-use Rattle.std.proofs.Common.{◌≡◌, ℕ, ◌+◌, ◌<◌, Bool, true, false, not, ◌&&◌, if◌then◌else◌, eqb, nat_eq, List, [], ◌∷◌, ◌++◌, length, get_or, filter, zero, suc, Result, Ok, Err, refl, sym, ap, ◌∙◌, subst, arith, eq-eqb}
+use Rattle.std.proofs.Common.{◌≡◌, ℕ, ◌<◌, Bool, true, false, not, if◌then◌else◌, eqb, nat_eq, List, [], ◌∷◌, length, get_or, filter, zero, suc, Result, Ok, Err, refl, sym, ap, ◌∙◌, subst, arith, eq-eqb}
 use Rattle.std.specs.List.{All, Any, Contains}
 use Rattle.std.specs.Result.{is_err, OnErr}
 use Rattle.std.specs.Set.{is_member}
-use Rattle.std.proofs.lemmas.Bool.{eqb-true}
 use Rattle.cq_match.specs.declared.edge.Edge.{Edge}
 use Rattle.cq_match.specs.Matched.{numbers}
 use Rattle.cq_match.specs.Matcher.{with_flag, without, with_number}
@@ -11,7 +10,7 @@ use Rattle.cq_match.specs.Steps.Kept.{is_able}
 use Rattle.cq_match.proofs.Tests.{by_bool}
 use Rattle.cq_match.proofs.Union.{contained-member}
 use Rattle.cq_match.proofs.Going.{flag-without}
-use Rattle.cq_match.proofs.Bridge.{here-Contains, later-Contains, none-Contains, listed-number, number-listed}
+use Rattle.cq_match.proofs.Bridge.{here-Contains, later-Contains, listed-number, number-listed}
 
 abbrev Nodes : Type 0
 Nodes = List (ℕ × ℕ × Bool)

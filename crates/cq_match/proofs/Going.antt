@@ -1,17 +1,16 @@
 -- A node goes: its edges are counted no longer, and what contracts see of its nodes.
-use Rattle.std.proofs.Common.{◌≡◌, ℕ, ◌+◌, ◌-◌, ◌<◌, ◌≤◌, ◌⊎◌, inl, inr, Bool, true, false, not, ◌&&◌, if◌then◌else◌, eqb, ltb, List, [], ◌∷◌, ◌++◌, length, get_or, set, zero, suc, drop, filter, count_by, refl, sym, ap, ◌∙◌, subst, arith, eq-eqb}
+use Rattle.std.proofs.Common.{◌≡◌, ℕ, ◌+◌, ◌-◌, ◌<◌, ◌≤◌, inl, inr, Bool, true, false, ◌&&◌, eqb, ltb, List, [], ◌∷◌, length, set, zero, suc, count_by, refl, sym, ap, ◌∙◌, arith, eq-eqb}
 use Rattle.std.proofs.lemmas.Bool.{eqb-true}
 use borrow.Author.Tests.{ltb-true, ltb-false}
 use Rattle.std.proofs.lemmas.List.{get_or_past}
 use Rattle.cq_match.specs.declared.edge.Edge.{Edge}
 use Rattle.cq_match.specs.declared.graph.Place.{Place}
-use Rattle.cq_match.specs.declared.graph.Out.{Out}
 use Rattle.cq_match.specs.Graph.{leads_to}
 use Rattle.cq_match.specs.Matched.{numbers}
 use Rattle.cq_match.specs.Matcher.{with_flag, without}
-use Rattle.cq_match.specs.Steps.Kept.{free, place_at, count_at, is_live, edge_of, edges_left, nodes_from, is_able}
+use Rattle.cq_match.specs.Steps.Kept.{free, place_at, count_at, nodes_from, is_able}
 use Rattle.cq_match.proofs.Tests.{by_bool, and_left, and_right, both}
-use Rattle.cq_match.proofs.Rows.{row, with_count, count-cases, row-len}
+use Rattle.cq_match.proofs.Rows.{row, with_count, count-cases}
 use Rattle.cq_match.proofs.Edges.{one_if, count-cons}
 
 -- ---- the edges that leave it

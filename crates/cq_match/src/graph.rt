@@ -106,7 +106,12 @@ pub(crate) struct Graph<A: Allocator> {
 }
 
 /// Counts the edges that leave the node no longer.
-pub(crate) fn lower_totals<A: Allocator>(places: &[Place], leaving: &[Leaving<A>], node: usize, totals: &mut Vec<Counts<A>, A>)
+pub(crate) fn lower_totals<A: Allocator>(
+    places: &[Place],
+    leaving: &[Leaving<A>],
+    node: usize,
+    totals: &mut Vec<Counts<A>, A>,
+)
     requires within { node < length leaving.now }
     requires fit { All (λ out. is_live places.now out ≡ true → out.post < length (slice_index_or totals.old.items out.waiter [])) (slice_index_or leaving.now node []) }
     requires counted { (n k : ℕ) → count_by (leads_to n k) (edges_left places.now node (slice_index_or leaving.now node [])) ≤ count_at totals.old.items n k }

@@ -79,7 +79,11 @@ impl<A: Allocator + Copy> Matcher<A> {
 }
 
 /// Makes one place more, which is free.
-fn grow<A: Allocator + Copy>(graph: &mut Graph<A>, marks: &mut Marks<A>, alloc: A) -> Result<(), AllocError>
+fn grow<A: Allocator + Copy>(
+    graph: &mut Graph<A>,
+    marks: &mut Marks<A>,
+    alloc: A,
+) -> Result<(), AllocError>
     ensures kept { (number next : ℕ) → IsKept graph.old.places.items graph.old.leaving.items graph.old.totals.items marks.old.matched.items marks.old.raised.items marks.old.counts.items marks.old.waiting.items marks.old.reached.items (vec_capacity marks.old.waiting) number next → IsKept graph.new.places.items graph.new.leaving.items graph.new.totals.items marks.new.matched.items marks.new.raised.items marks.new.counts.items marks.new.waiting.items marks.new.reached.items (vec_capacity marks.new.waiting) number next }
     ensures nodes { nodes_from 0 graph.new.places.items ≡ nodes_from 0 graph.old.places.items }
     ensures edges { edges_from graph.new.places.items 0 graph.new.leaving.items ≡ edges_from graph.old.places.items 0 graph.old.leaving.items }
@@ -103,7 +107,12 @@ fn grow<A: Allocator + Copy>(graph: &mut Graph<A>, marks: &mut Marks<A>, alloc: 
 }
 
 /// Makes the place of the node.
-fn make_room<A: Allocator + Copy>(graph: &mut Graph<A>, marks: &mut Marks<A>, node: usize, alloc: A) -> Result<(), AllocError>
+fn make_room<A: Allocator + Copy>(
+    graph: &mut Graph<A>,
+    marks: &mut Marks<A>,
+    node: usize,
+    alloc: A,
+) -> Result<(), AllocError>
     ensures kept { (number next : ℕ) → IsKept graph.old.places.items graph.old.leaving.items graph.old.totals.items marks.old.matched.items marks.old.raised.items marks.old.counts.items marks.old.waiting.items marks.old.reached.items (vec_capacity marks.old.waiting) number next → IsKept graph.new.places.items graph.new.leaving.items graph.new.totals.items marks.new.matched.items marks.new.raised.items marks.new.counts.items marks.new.waiting.items marks.new.reached.items (vec_capacity marks.new.waiting) number next }
     ensures nodes { nodes_from 0 graph.new.places.items ≡ nodes_from 0 graph.old.places.items }
     ensures edges { edges_from graph.new.places.items 0 graph.new.leaving.items ≡ edges_from graph.old.places.items 0 graph.old.leaving.items }
@@ -157,7 +166,13 @@ impl<A: Allocator + Copy> Matcher<A> {
     /// # Errors
     /// `AllocError` where a growth was refused; and where so many nodes or edges have come that their counters are at
     /// their ends, which 2^64 of them would take. Then nothing has changed.
-    pub fn add(&mut self, node: usize, posts: u8, able: bool, edges: &[Edge]) -> Result<(), AllocError>
+    pub fn add(
+        &mut self,
+        node: usize,
+        posts: u8,
+        able: bool,
+        edges: &[Edge],
+    ) -> Result<(), AllocError>
         requires absent { has_node node self.old ≡ false }
         requires touch { All (λ edge. is_apart node edge ≡ false) edges.now }
         requires ends { All (λ edge. Contains (numbers ((node, posts, able) ∷ self.old.nodes)) edge.provider × Any (λ node. (node.0 ≡ edge.waiter) × (edge.post < node.1)) ((node, posts, able) ∷ self.old.nodes)) edges.now }
@@ -325,7 +340,12 @@ impl<A: Allocator> Matcher<A> {
         ensures kept { self.new.matched ≡ self.old.matched }
         ensures matched { (n : ℕ) → is_member nat_eq self.new.matched n ≡ is_matched self.new.nodes self.new.edges n }
     {
-        lower_totals(&self.graph.places, &self.graph.leaving, node, &mut self.graph.totals);
+        lower_totals(
+            &self.graph.places,
+            &self.graph.leaving,
+            node,
+            &mut self.graph.totals,
+        );
         self.graph.places[node] = FREE;
         self.graph.leaving[node].clear();
         self.graph.totals[node].clear();

@@ -1,4 +1,4 @@
-use Rattle.std.proofs.Common.{◌≡◌, ℕ, ◌∙◌}
+use Rattle.std.proofs.Common.{◌∙◌}
 use Rattle.cq_match.proofs.matcher.make_room.Goals as goal
 
 pub loop-alloc-preserved : goal.loop-alloc-preserved

@@ -1,4 +1,4 @@
-use Rattle.std.proofs.Common.{◌≡◌, ℕ, Bool, false, nat_eq, List, OnOk, sym, ap, ◌∙◌}
+use Rattle.std.proofs.Common.{ℕ, Bool, nat_eq, List, sym, ap, ◌∙◌}
 use Rattle.std.specs.Set.{is_member}
 use Rattle.std.proofs.lemmas.Result.{on_ok_weaker}
 use Rattle.cq_match.specs.Matched.{numbers}

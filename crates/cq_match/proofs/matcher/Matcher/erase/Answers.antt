@@ -1,10 +1,8 @@
-use Rattle.std.proofs.Common.{◌≡◌, ℕ, ◌+◌, ◌<◌, ◌≤◌, Bool, true, false, List, [], length, get_or, set, filter, count_by, eqb, sym, ap, ◌∙◌, subst, arith, vec_capacity}
+use Rattle.std.proofs.Common.{◌≡◌, [], length, get_or, set, filter, count_by, eqb, sym, ap, ◌∙◌, arith, vec_capacity}
 use Rattle.cq_match.specs.declared.edge.Edge.{Edge}
-use Rattle.cq_match.specs.declared.graph.Place.{Place}
-use Rattle.cq_match.specs.declared.graph.Out.{Out}
 use Rattle.cq_match.specs.Graph.{leads_to}
 use Rattle.cq_match.specs.Matcher.{MatcherRecord, without, is_apart}
-use Rattle.cq_match.specs.Steps.Kept.{free, place_at, edges_from, edges_left, is_able}
+use Rattle.cq_match.specs.Steps.Kept.{free, edges_from, edges_left, is_able}
 use Rattle.cq_match.proofs.Rows.{taken-placed}
 use Rattle.cq_match.proofs.Bridge.{there, exact-is}
 use Rattle.cq_match.proofs.Edges.{edges-of_node}

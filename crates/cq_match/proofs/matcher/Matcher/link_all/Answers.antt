@@ -1,7 +1,4 @@
-use Rattle.std.proofs.Common.{◌≡◌, ℕ, ◌<◌, Bool, List, sym, subst}
-use Rattle.std.specs.List.{Any, Contains}
 use Rattle.cq_match.specs.declared.edge.Edge.{Edge}
-use Rattle.cq_match.specs.Matched.{numbers}
 use Rattle.cq_match.proofs.matcher.Matcher.link_all.Goals as goal
 
 pub link-requires-clause-provider : goal.link-requires-clause-provider

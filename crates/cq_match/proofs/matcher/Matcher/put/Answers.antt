@@ -1,10 +1,8 @@
-use Rattle.std.proofs.Common.{◌≡◌, ℕ, ◌+◌, ◌<◌, Bool, true, false, nat_eq, replicate, filter, List, [], set, sym, ap, ◌∙◌, subst, refl, arith, vec_capacity}
+use Rattle.std.proofs.Common.{◌≡◌, ℕ, ◌+◌, Bool, true, false, nat_eq, filter, List, set, sym, ap, ◌∙◌, refl, arith, vec_capacity}
 use Rattle.std.specs.Set.{is_member}
 use Rattle.cq_match.specs.Matched.{numbers}
-use Rattle.cq_match.specs.declared.graph.Place.{Place}
-use Rattle.cq_match.specs.declared.edge.Edge.{Edge}
 use Rattle.cq_match.specs.Matcher.{MatcherRecord, has_node, is_apart}
-use Rattle.cq_match.specs.Steps.Kept.{place_at, nodes_from}
+use Rattle.cq_match.specs.Steps.Kept.{place_at}
 use Rattle.cq_match.proofs.Bridge.{number-taken, exact-is}
 use Rattle.cq_match.proofs.Placing.{placed-kept, same-edges_from}
 use Rattle.cq_match.proofs.Coming.{placed-node, placed-others, absent-apart}

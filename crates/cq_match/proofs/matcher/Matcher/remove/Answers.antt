@@ -1,4 +1,4 @@
-use Rattle.std.proofs.Common.{◌≡◌, ℕ, Bool, false, List, nat_eq, sym, ap, ◌∙◌}
+use Rattle.std.proofs.Common.{ℕ, false, List, nat_eq, ap, ◌∙◌}
 use Rattle.std.specs.Set.{is_member}
 use Rattle.cq_match.specs.Matched.{numbers}
 use Rattle.cq_match.specs.Matcher.{without}
