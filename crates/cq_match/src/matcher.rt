@@ -159,9 +159,8 @@ impl<A: Allocator + Copy> Matcher<A> {
 impl<A: Allocator + Copy> Matcher<A> {
     /// Puts a node that is not there, with edges that leave it or lead to it. An edge that is given twice counts twice.
     ///
-    /// Work is in proportion to the edges; and where the node is able and the edges supply all of its postconditions, also to
-    /// the able and unmatched nodes that its edges reach, with their edges. A number beyond all that were there before
-    /// takes memory and work for each place up to it, once.
+    /// Work is in proportion to the edges; and where the node is able, also to the able and unmatched nodes that its edges
+    /// reach, with their edges. A number beyond all that were there before takes memory and work for each place up to it, once.
     ///
     /// # Errors
     /// `AllocError` where a growth was refused; and where so many nodes or edges have come that their counters are at
