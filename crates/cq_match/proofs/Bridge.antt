@@ -20,13 +20,13 @@ use Rattle.cq_match.proofs.Union.{member-contained, contained-member, member-fit
 use Rattle.cq_match.proofs.Edges.{feeds-wider}
 
 module _ {X : Type 0} where
-  here-Contains : (x : X) (xs : List X) → Contains (x ∷ xs) x
+  pub here-Contains : (x : X) (xs : List X) → Contains (x ∷ xs) x
   here-Contains x xs = (0, (let low : 0 < suc (length xs) = omega arith in low), refl)
 
-  later-Contains : (y x : X) (xs : List X) → Contains xs x → Contains (y ∷ xs) x
+  pub later-Contains : (y x : X) (xs : List X) → Contains xs x → Contains (y ∷ xs) x
   later-Contains y x xs (k, low, at) = (suc k, (let more : suc k < suc (length xs) = omega arith in more), at)
 
-  none-Contains : (x : X) → Contains [] x → ⊥
+  pub none-Contains : (x : X) → Contains [] x → ⊥
   none-Contains x (k, low, at) = absurd (let none : k < 0 = low in omega arith)
 
   -- what one list adds in front
@@ -61,13 +61,13 @@ node-listed (p ∷ places) n (suc j) taken =
 abbrev pub Placed : ℕ → List Place → ℕ × ℕ × Bool → Type 0
 Placed n places node = (j : ℕ) × (node ≡ node_at n places j) × ((place_at places j).taken ≡ true)
 
-pub node-placed : (places : List Place) (n : ℕ) (node : ℕ × ℕ × Bool) → Contains (nodes_from n places) node → Placed n places node
-node-placed [] n node h = absurd (none-Contains node h)
-node-placed (p ∷ places) n node h =
+pub node-found : (places : List Place) (n : ℕ) (node : ℕ × ℕ × Bool) → Contains (nodes_from n places) node → Placed n places node
+node-found [] n node h = absurd (none-Contains node h)
+node-found (p ∷ places) n node h =
     elim (opt-cases p.taken (n, p.posts, p.able) node (nodes_from (n + 1) places) h) [
       | inl f ↦ let is : n ≡ n + 0 = omega arith in (0, f.1 ∙ ap (λ (m : ℕ). (m, p.posts, p.able)) is, f.0)
       | inr rest ↦
-          let found = node-placed places (n + 1) node rest in
+          let found = node-found places (n + 1) node rest in
           let is : n + 1 + found.0 ≡ n + suc found.0 = omega arith in
           (suc found.0, found.1 ∙ ap (λ (m : ℕ). (m, (place_at places found.0).posts, (place_at places found.0).able)) is, found.2)
     ]
@@ -76,12 +76,12 @@ abbrev nodes : List Place → List (ℕ × ℕ × Bool)
 nodes places = nodes_from 0 places
 
 -- the number of a node is among the numbers
-listed-number : (xs : List (ℕ × ℕ × Bool)) (node : ℕ × ℕ × Bool) → Contains xs node → Contains (numbers xs) node.0
+pub listed-number : (xs : List (ℕ × ℕ × Bool)) (node : ℕ × ℕ × Bool) → Contains xs node → Contains (numbers xs) node.0
 listed-number [] node h = absurd (none-Contains node h)
 listed-number (x ∷ xs) node (zero, low, at) = subst (λ (m : ℕ × ℕ × Bool). Contains (numbers (x ∷ xs)) m.0) at (here-Contains x.0 (numbers xs))
 listed-number (x ∷ xs) node (suc k, low, at) = later-Contains x.0 node.0 (numbers xs) (listed-number xs node (k, (let l : suc k < suc (length xs) = low in omega arith), at))
 
-number-listed : (xs : List (ℕ × ℕ × Bool)) (m : ℕ) → Contains (numbers xs) m → (node : ℕ × ℕ × Bool) × Contains xs node × (node.0 ≡ m)
+pub number-listed : (xs : List (ℕ × ℕ × Bool)) (m : ℕ) → Contains (numbers xs) m → (node : ℕ × ℕ × Bool) × Contains xs node × (node.0 ≡ m)
 number-listed [] m h = absurd (none-Contains m h)
 number-listed (x ∷ xs) m (zero, low, at) = (x, here-Contains x xs, at)
 number-listed (x ∷ xs) m (suc k, low, at) =
@@ -94,7 +94,7 @@ number-taken places m =
     same_tests (is_member nat_eq (numbers (nodes places)) m) (place_at places m).taken
     (λ t.
     let found = number-listed (nodes places) m (member-contained (numbers (nodes places)) m t) in
-    let placed = node-placed places 0 found.0 found.1 in
+    let placed = node-found places 0 found.0 found.1 in
     let at : 0 + placed.0 ≡ m = sym (ap (λ (x : ℕ × ℕ × Bool). x.0) placed.1) ∙ found.2 in
     let is : placed.0 ≡ m = omega arith in
     ap (λ j. (place_at places j).taken) (sym is) ∙ placed.2)
@@ -137,7 +137,7 @@ module _ (places : List Place) (edges : List Edge) (matched : List Bool)
       list_all-from_AllPass (λ x. not (is_member nat_eq part x.0) || (x.2 && has_each_post edges part x)) (nodes places)
       (λ k d low.
       let node = get_or (nodes places) k d in
-      let placed = node-placed places 0 node (Contains-get_or (nodes places) k d low) in
+      let placed = node-found places 0 node (Contains-get_or (nodes places) k d low) in
       let j = placed.0 in
       let at : 0 + j ≡ j = omega arith in
       let is : node ≡ (j, (place_at places j).posts, (place_at places j).able) = placed.1 ∙ ap (λ m. (m, (place_at places j).posts, (place_at places j).able)) at in

@@ -122,7 +122,7 @@ later-others places (outs ∷ more) v n low =
     apart : (a b : ℕ) → b < a → eqb a b ≡ false
     apart a b h = by_bool (eqb a b) (eqb a b ≡ false) (λ t. absurd (let e = eqb-true a b t in omega arith)) (λ f. f)
 
-append-none : (xs : List Edge) → xs ++ [] ≡ xs
+pub append-none : (xs : List Edge) → xs ++ [] ≡ xs
 append-none [] = refl
 append-none (x ∷ xs) = ap (λ (es : List Edge). x ∷ es) (append-none xs)
 

@@ -39,6 +39,15 @@ part-less q part (e ∷ edges) =
     (λ t. let here : cond (part e) (one_if (q e)) 0 ≡ one_if (q e) = rw t refl in omega arith)
     (λ f. let here : cond (part e) (one_if (q e)) 0 ≡ 0 = rw f refl in omega arith)
 
+filter-less : (part : Edge → Bool) (edges : List Edge) → length (filter part edges) ≤ length edges
+filter-less part [] = omega arith
+filter-less part (e ∷ edges) =
+    let rest = filter-less part edges in
+    let all : length (e ∷ edges) ≡ length edges + 1 = (let m : suc (length edges) ≡ length edges + 1 = omega arith in m) in
+    by_bool (part e) (length (filter part (e ∷ edges)) ≤ length (e ∷ edges))
+    (λ t. rw t (let m : suc (length (filter part edges)) ≤ suc (length edges) = omega arith in m))
+    (λ f. rw f (omega arith))
+
 -- whatever passes stands in just one of two parts
 pub count-parts : (q one other : Edge → Bool) → ((e : Edge) → q e ≡ true → one e ≡ not (other e)) → (edges : List Edge) → count_by q (filter one edges) + count_by q (filter other edges) ≡ count_by q edges
 count-parts q one other apart [] = refl
@@ -185,7 +194,7 @@ module _ (places : List Place) (node : ℕ) (low : node < length places) where
       → IsKept places leaving totals matched raised counts waiting reached room number next → (place_at places node).able ≡ false → 0 < next
       → length lowered ≡ length places → ((n : ℕ) → length (row lowered n) ≡ (place_at places n).posts)
       → ((n k : ℕ) → count_at lowered n k + count_by (leads_to n k) (edges_left places node (get_or leaving node [])) ≡ count_at totals n k)
-      → IsKept without (set leaving node []) (set lowered node []) matched raised (set counts node []) waiting reached room (length (filter (is_apart node) (edges_from places 0 leaving))) next
+      → IsKept without (set leaving node []) (set lowered node []) matched raised (set counts node []) waiting reached room number next
   erased-kept leaving totals lowered matched raised counts waiting reached room number next k unable some lowered_len lowered_row lowers =
       let edges : List Edge = edges_from places 0 leaving in
       let left : List Edge = filter (is_apart node) edges in
@@ -269,7 +278,7 @@ module _ (places : List Place) (node : ℕ) (low : node < length places) where
         none_waits = k.none_waits;
         none_reached = k.none_reached;
         roomy = let r = k.roomy in omega arith;
-        numbered = ap length (sym same);
+        numbered = let n = k.numbered in let l = ap length same in let f = filter-less (is_apart node) edges in omega arith;
         older = λ n. by_bool (eqb n node) ((place_at without n).stamp < next)
             (λ t. let at : (place_at without n).stamp ≡ 0 = ap (λ m. (place_at without m).stamp) (eqb-true n node t) ∙ ap (λ (q : Place). q.stamp) erased-here in omega arith)
             (λ f. let at = ap (λ (q : Place). q.stamp) (erased-other n (differ n node f)) in let o = k.older n in omega arith);

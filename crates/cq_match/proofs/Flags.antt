@@ -102,7 +102,7 @@ module _ (places : List Place) (node : ℕ) (b : Bool) (low : node < length plac
         none_waits = none_w;
         none_reached = none_x;
         roomy = let r = k.roomy in omega arith;
-        numbered = k.numbered ∙ ap length (sym (same-edges leaving));
+        numbered = let n = k.numbered in let l = ap length (same-edges leaving) in omega arith;
         older = λ n. let s = same-stamp n in let o = k.older n in omega arith;
         outs_older = k.outs_older;
         able_taken = λ n t. by_bool (eqb n node) ((place_at places' n).taken ≡ true)

@@ -90,7 +90,7 @@ module _ (places : List Place) where
         none_waits = k.none_waits;
         none_reached = k.none_reached;
         roomy = omega arith;
-        numbered = k.numbered ∙ ap length (sym same);
+        numbered = let n = k.numbered in let l = ap length same in omega arith;
         older = λ n. let p = ap (λ (q : Place). q.stamp) (grown-place n) in let o = k.older n in omega arith;
         outs_older = λ n. subst (λ (os : List Out). All (λ out. out.stamp < next) os) (sym (default-pushed leaving n [])) (k.outs_older n);
         able_taken = λ n t. ap (λ (q : Place). q.taken) (grown-place n) ∙ k.able_taken n (ap (λ (q : Place). q.able) (sym (grown-place n)) ∙ t);

@@ -1,5 +1,7 @@
+pub mod Adding
 pub mod Bridge
 pub mod Checking
+pub mod Coming
 pub mod Counting
 pub mod Dropping
 pub mod Edges
@@ -7,6 +9,7 @@ pub mod Erasing
 pub mod Felling
 pub mod Fits
 pub mod Flags
+pub mod Going
 pub mod Grouped
 pub mod Growing
 pub mod Linking

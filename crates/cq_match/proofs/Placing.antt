@@ -65,7 +65,7 @@ module _ (places : List Place) (node posts next : ℕ) (low : node < length plac
   same-left : (n : ℕ) (outs : List Out) → All (λ out. out.stamp < next) outs → edges_left with_node n outs ≡ edges_left places n outs
   same-left n outs older = ap (map (edge_of n)) (filter-same (is_live with_node) (is_live places) outs (λ k d inside. same-out (get_or outs k d) (older k d inside)))
 
-  same-edges_from : (leaving : List (List Out)) (n : ℕ) → ((j : ℕ) → All (λ out. out.stamp < next) (get_or leaving j [])) → edges_from with_node n leaving ≡ edges_from places n leaving
+  pub same-edges_from : (leaving : List (List Out)) (n : ℕ) → ((j : ℕ) → All (λ out. out.stamp < next) (get_or leaving j [])) → edges_from with_node n leaving ≡ edges_from places n leaving
   same-edges_from [] n older = refl
   same-edges_from (outs ∷ rest) n older =
       ap (λ (es : List Edge). es ++ edges_from with_node (n + 1) rest) (same-left n outs (older 0)) ∙ ap (λ (es : List Edge). edges_left places n outs ++ es) (same-edges_from rest (n + 1) (λ j. older (suc j)))
@@ -142,7 +142,7 @@ module _ (places : List Place) (node posts next : ℕ) (low : node < length plac
         none_waits = k.none_waits;
         none_reached = k.none_reached;
         roomy = let r = k.roomy in omega arith;
-        numbered = k.numbered ∙ ap length (sym same);
+        numbered = let n = k.numbered in let l = ap length same in omega arith;
         older = λ n. by_bool (eqb n node) ((place_at with_node n).stamp < next + 1)
             (λ t. let at : (place_at with_node n).stamp ≡ next = ap (λ m. (place_at with_node m).stamp) (eqb-true n node t) ∙ ap (λ (q : Place). q.stamp) placed-here in omega arith)
             (λ f. let at = ap (λ (q : Place). q.stamp) (placed-other n (differ n node f)) in let o = k.older n in omega arith);

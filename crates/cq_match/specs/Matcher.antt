@@ -1,6 +1,6 @@
 -- What contracts see of a matcher.
 -- (the matched set kept while nodes come, go, and become able or not: this project's profile)
-use Rattle.std.specs.Prelude.{ℕ, Bool, not, ◌&&◌, ◌==◌, nat_eq, List, [], map, count_by, if◌then◌else◌}
+use Rattle.std.specs.Prelude.{ℕ, Bool, not, ◌&&◌, ◌==◌, nat_eq, List, [], map, filter, count_by, if◌then◌else◌}
 use Rattle.std.specs.Set.{is_member}
 use Rattle.cq_match.specs.declared.edge.Edge.{Edge}
 use Rattle.cq_match.specs.Matched.{numbers}
@@ -22,6 +22,14 @@ has_node n matcher = is_member nat_eq (numbers matcher.nodes) n
 -- The nodes, of which one has got that flag.
 abbrev pub with_flag : ℕ → Bool → List (ℕ × ℕ × Bool) → List (ℕ × ℕ × Bool)
 with_flag n able nodes = map (λ node. (node.0, node.1, if node.0 == n then able else node.2)) nodes
+
+-- The nodes but for that one.
+abbrev pub without : ℕ → List (ℕ × ℕ × Bool) → List (ℕ × ℕ × Bool)
+without n nodes = filter (λ node. not (node.0 == n)) nodes
+
+-- The nodes of that number.
+abbrev pub with_number : ℕ → List (ℕ × ℕ × Bool) → List (ℕ × ℕ × Bool)
+with_number n nodes = filter (λ node. node.0 == n) nodes
 
 -- How many edges had a matched provider before, and have none afterwards.
 abbrev pub lost : MatcherRecord → MatcherRecord → ℕ

@@ -1,8 +1,10 @@
 //! Nodes by their places, and edges with the nodes that they leave.
 
-ghost use Rattle.std.specs.Prelude.{◌≡◌, ◌++◌, ◌∷◌, [], List, if◌then◌else◌};
+ghost use Rattle.std.specs.Prelude.{◌≡◌, ℕ, true, ◌+◌, ◌<◌, ◌≤◌, ◌++◌, ◌∷◌, [], List, length, count_by, slice_index_or, if◌then◌else◌};
+ghost use Rattle.std.specs.List.{All};
 ghost use Rattle.std.specs.Result.{is_ok};
-ghost use Rattle.cq_match.specs.Steps.Kept.{is_live};
+ghost use Rattle.cq_match.specs.Graph.{leads_to};
+ghost use Rattle.cq_match.specs.Steps.Kept.{is_live, edges_left, count_at};
 
 use crate::marks::Counts;
 use std::alloc::{AllocError, Allocator};
@@ -73,6 +75,13 @@ impl<A: Allocator> Leaving<A> {
         self.outs.push(out)?;
         Ok(())
     }
+
+    /// Lets all edges go, and keeps the room.
+    pub(crate) fn clear(&mut self)
+        ensures { self.new ≡ [] }
+    {
+        self.outs.clear();
+    }
 }
 
 /// Whether the edge is one still: its waiter is there.
@@ -94,4 +103,26 @@ pub(crate) struct Graph<A: Allocator> {
     pub(crate) leaving: Vec<Leaving<A>, A>,
     /// For each place, how many edges lead to each postcondition of its node.
     pub(crate) totals: Vec<Counts<A>, A>,
+}
+
+/// Counts the edges that leave the node no longer.
+pub(crate) fn lower_totals<A: Allocator>(
+    places: &[Place],
+    leaving: &[Leaving<A>],
+    node: usize,
+    totals: &mut Vec<Counts<A>, A>,
+)
+    requires within { node < length leaving.now }
+    requires fit { All (λ out. is_live places.now out ≡ true → out.post < length (slice_index_or totals.old.items out.waiter [])) (slice_index_or leaving.now node []) }
+    requires counted { (n k : ℕ) → count_by (leads_to n k) (edges_left places.now node (slice_index_or leaving.now node [])) ≤ count_at totals.old.items n k }
+    ensures len { length totals.new.items ≡ length totals.old.items }
+    ensures rows { (n : ℕ) → length (slice_index_or totals.new.items n []) ≡ length (slice_index_or totals.old.items n []) }
+    ensures lowered { (n k : ℕ) → count_at totals.new.items n k + count_by (leads_to n k) (edges_left places.now node (slice_index_or leaving.now node [])) ≡ count_at totals.old.items n k }
+{
+    let outs = leaving[node].outs();
+    for out in outs {
+        if is_live(places, *out) {
+            totals[out.waiter].lower(usize::from(out.post));
+        }
+    }
 }

@@ -9,8 +9,8 @@
 //! all closed sets. It numbers nodes by their places in rising order and lets places fall that nothing
 //! standing feeds (`settle`).
 //!
-//! In the making, and not public yet: `matcher` keeps the matched nodes while nodes become able and cease to be
-//! (`specs/Matcher`). Nodes cannot come to it or go yet.
+//! [`Matcher`] keeps the matched nodes of a graph while nodes come, go, become able and cease to be so (`specs/Matcher`):
+//! an edit costs what it touches, and the matched nodes after it are those that `greatest` finds.
 //!
 //! Not here: whose head supplies which postcondition, which is said of atoms, and names.
 #![tactic(auto)]
@@ -24,3 +24,4 @@ mod settle;
 
 pub use edge::{Edge, is_crowd};
 pub use matched::greatest;
+pub use matcher::Matcher;

@@ -53,7 +53,7 @@ impl<A: Allocator> Counts<A> {
     }
 
     /// Counts one edge less, and tells whether none is left.
-    fn lower(&mut self, post: usize) -> bool
+    pub(crate) fn lower(&mut self, post: usize) -> bool
         requires within { post < length self.old }
         requires counted { 1 ≤ slice_index self.old post }
         ensures lowered { self.new ≡ slice_set self.old post (slice_index self.old post - 1) }
@@ -64,12 +64,19 @@ impl<A: Allocator> Counts<A> {
     }
 
     /// Counts one edge more.
-    fn raise(&mut self, post: usize)
+    pub(crate) fn raise(&mut self, post: usize)
         requires within { post < length self.old }
         requires fits { slice_index self.old post < usize.MAX }
         ensures { self.new ≡ slice_set self.old post (slice_index self.old post + 1) }
     {
         self.counts[post] += 1;
+    }
+
+    /// Lets all postconditions go, and keeps the room.
+    pub(crate) fn clear(&mut self)
+        ensures { self.new ≡ [] }
+    {
+        self.counts.clear();
     }
 
     /// Whether some postcondition has no counted edge.

@@ -1,16 +1,21 @@
 //! The matched nodes of a graph, kept while its nodes come and go.
 
-ghost use Rattle.std.specs.Prelude.{◌≡◌, ℕ, Bool, true, false, ◌+◌, ◌≤◌, ◌↔◌, OnOk, OnErr, nat_eq};
+ghost use Rattle.std.specs.Prelude.{◌≡◌, ℕ, Bool, true, false, ◌+◌, ◌≤◌, ◌<◌, ◌↔◌, OnOk, OnErr, nat_eq, filter, count_by, length, vec_capacity, List, [], ◌∷◌, if◌then◌else◌};
+ghost use Rattle.std.specs.List.{All, Any, Contains};
 ghost use Rattle.std.specs.Set.{is_member};
 ghost use Rattle.cq_match.specs.Graph.{provider_count};
-ghost use Rattle.cq_match.specs.Matched.{is_matched};
-ghost use Rattle.cq_match.specs.Matcher.{nothing, has_node, with_flag, lost};
+ghost use Rattle.cq_match.specs.declared.edge.Edge.{Edge};
+ghost use Rattle.cq_match.specs.Matched.{is_matched, numbers};
+ghost use Rattle.cq_match.specs.Matcher.{nothing, has_node, with_flag, without, with_number, is_apart, lost};
+ghost use Rattle.cq_match.specs.Steps.Kept.{is_able, nodes_from, edges_from, marked_from, IsKept};
 
-use crate::graph::{Graph, Leaving, Place};
+use crate::edge::Edge;
+use crate::graph::{Graph, Leaving, Out, Place, lower_totals};
 use crate::marks::{Counts, Marks};
 use cq_atom::Meter;
 use std::alloc::{AllocError, Allocator, Global};
 use std::marker::Model;
+use std::mem::{drop, replace};
 
 /// A place where no node stands.
 const FREE: Place = Place {
@@ -28,7 +33,7 @@ const FREE: Place = Place {
 pub struct Matcher<A: Allocator = Global> {
     graph: Graph<A>,
     marks: Marks<A>,
-    /// How many edges there are.
+    /// At least as many as there are edges: how many have come.
     number: usize,
     /// The stamp of the next node.
     next: u64,
@@ -73,25 +78,115 @@ impl<A: Allocator + Copy> Matcher<A> {
     }
 }
 
+/// Makes one place more, which is free.
+fn grow<A: Allocator + Copy>(
+    graph: &mut Graph<A>,
+    marks: &mut Marks<A>,
+    alloc: A,
+) -> Result<(), AllocError>
+    ensures kept { (number next : ℕ) → IsKept graph.old.places.items graph.old.leaving.items graph.old.totals.items marks.old.matched.items marks.old.raised.items marks.old.counts.items marks.old.waiting.items marks.old.reached.items (vec_capacity marks.old.waiting) number next → IsKept graph.new.places.items graph.new.leaving.items graph.new.totals.items marks.new.matched.items marks.new.raised.items marks.new.counts.items marks.new.waiting.items marks.new.reached.items (vec_capacity marks.new.waiting) number next }
+    ensures nodes { nodes_from 0 graph.new.places.items ≡ nodes_from 0 graph.old.places.items }
+    ensures edges { edges_from graph.new.places.items 0 graph.new.leaving.items ≡ edges_from graph.old.places.items 0 graph.old.leaving.items }
+    ensures matched { marked_from 0 marks.new.matched.items ≡ marked_from 0 marks.old.matched.items }
+    ensures longer { OnOk result (length graph.new.places.items ≡ length graph.old.places.items + 1) }
+{
+    graph.places.reserve(1)?;
+    graph.leaving.reserve(1)?;
+    graph.totals.reserve(1)?;
+    marks.matched.reserve(1)?;
+    marks.raised.reserve(1)?;
+    marks.counts.reserve(1)?;
+    marks.waiting.reserve(graph.places.len() + 1)?;
+    graph.places.push_reserved(FREE);
+    graph.leaving.push_reserved(Leaving::new(alloc));
+    graph.totals.push_reserved(Counts::none(alloc));
+    marks.matched.push_reserved(false);
+    marks.raised.push_reserved(false);
+    marks.counts.push_reserved(Counts::none(alloc));
+    Ok(())
+}
+
+/// Makes the place of the node.
+fn make_room<A: Allocator + Copy>(
+    graph: &mut Graph<A>,
+    marks: &mut Marks<A>,
+    node: usize,
+    alloc: A,
+) -> Result<(), AllocError>
+    ensures kept { (number next : ℕ) → IsKept graph.old.places.items graph.old.leaving.items graph.old.totals.items marks.old.matched.items marks.old.raised.items marks.old.counts.items marks.old.waiting.items marks.old.reached.items (vec_capacity marks.old.waiting) number next → IsKept graph.new.places.items graph.new.leaving.items graph.new.totals.items marks.new.matched.items marks.new.raised.items marks.new.counts.items marks.new.waiting.items marks.new.reached.items (vec_capacity marks.new.waiting) number next }
+    ensures nodes { nodes_from 0 graph.new.places.items ≡ nodes_from 0 graph.old.places.items }
+    ensures edges { edges_from graph.new.places.items 0 graph.new.leaving.items ≡ edges_from graph.old.places.items 0 graph.old.leaving.items }
+    ensures matched { marked_from 0 marks.new.matched.items ≡ marked_from 0 marks.old.matched.items }
+    ensures placed { OnOk result (node < length graph.new.places.items) }
+{
+    while graph.places.len() <= node {
+        grow(graph, marks, alloc)?;
+    }
+    Ok(())
+}
+
 impl<A: Allocator + Copy> Matcher<A> {
-    /// Makes one place more, which is free.
-    fn grow(&mut self) -> Result<(), AllocError>
-        ensures same { self.new ≡ self.old }
+    /// Puts a node that is not able, without edges.
+    fn put(&mut self, node: usize, posts: u8) -> Result<(), AllocError>
+        requires { has_node node self.old ≡ false }
+        ensures node { OnOk result (with_number node self.new.nodes ≡ (node, posts, false) ∷ []) }
+        ensures others { OnOk result (without node self.new.nodes ≡ self.old.nodes) }
+        ensures edges { self.new.edges ≡ self.old.edges }
+        ensures apart { OnOk result (filter (is_apart node) self.new.edges ≡ self.old.edges) }
+        ensures matched { self.new.matched ≡ self.old.matched }
+        ensures exact { OnOk result ((n : ℕ) → is_member nat_eq self.new.matched n ≡ is_matched self.new.nodes self.new.edges n) }
+        ensures err { OnErr result (self.new ≡ self.old) }
     {
-        self.graph.places.reserve(1)?;
-        self.graph.leaving.reserve(1)?;
-        self.graph.totals.reserve(1)?;
-        self.marks.matched.reserve(1)?;
-        self.marks.raised.reserve(1)?;
-        self.marks.counts.reserve(1)?;
-        self.marks.waiting.reserve(self.graph.places.len() + 1)?;
-        self.graph.places.push_reserved(FREE);
-        self.graph.leaving.push_reserved(Leaving::new(self.alloc));
-        self.graph.totals.push_reserved(Counts::none(self.alloc));
-        self.marks.matched.push_reserved(false);
-        self.marks.raised.push_reserved(false);
-        self.marks.counts.push_reserved(Counts::none(self.alloc));
+        if self.next == u64::MAX {
+            return Err(AllocError);
+        }
+        make_room(&mut self.graph, &mut self.marks, node, self.alloc)?;
+        let totals = Counts::zeros(self.alloc, posts)?;
+        let counts = Counts::zeros(self.alloc, posts)?;
+        self.graph.places[node] = Place {
+            taken: true,
+            able: false,
+            posts,
+            stamp: self.next,
+        };
+        drop(replace(&mut self.graph.totals[node], totals));
+        drop(replace(&mut self.marks.counts[node], counts));
+        self.next += 1;
         Ok(())
+    }
+}
+
+impl<A: Allocator + Copy> Matcher<A> {
+    /// Puts a node that is not there, with edges that leave it or lead to it. An edge that is given twice counts twice.
+    ///
+    /// Work is in proportion to the edges; and where the node is able, also to the able and unmatched nodes that its edges
+    /// reach, with their edges. A number beyond all that were there before takes memory and work for each place up to it, once.
+    ///
+    /// # Errors
+    /// `AllocError` where a growth was refused; and where so many nodes or edges have come that their counters are at
+    /// their ends, which 2^64 of them would take. Then nothing has changed.
+    pub fn add(
+        &mut self,
+        node: usize,
+        posts: u8,
+        able: bool,
+        edges: &[Edge],
+    ) -> Result<(), AllocError>
+        requires absent { has_node node self.old ≡ false }
+        requires touch { All (λ edge. is_apart node edge ≡ false) edges.now }
+        requires ends { All (λ edge. Contains (numbers ((node, posts, able) ∷ self.old.nodes)) edge.provider × Any (λ node. (node.0 ≡ edge.waiter) × (edge.post < node.1)) ((node, posts, able) ∷ self.old.nodes)) edges.now }
+        ensures node { OnOk result (with_number node self.new.nodes ≡ (node, posts, able) ∷ []) }
+        ensures others { OnOk result (without node self.new.nodes ≡ self.old.nodes) }
+        ensures edges { OnOk result ((test : Edge → Bool) → count_by test self.new.edges ≡ count_by test self.old.edges + count_by test edges.now) }
+        ensures matched { OnOk result ((n : ℕ) → is_member nat_eq self.new.matched n ≡ is_matched self.new.nodes self.new.edges n) }
+        ensures err { OnErr result (self.new ≡ self.old) }
+    {
+        self.put(node, posts)?;
+        let filled = self.fill(node, able, edges);
+        if filled.is_err() {
+            self.erase(node);
+        }
+        filled
     }
 }
 
@@ -163,5 +258,112 @@ impl<A: Allocator> Matcher<A> {
             self.graph.places[node].able = false;
             self.marks.fell(&self.graph, node, meter);
         }
+    }
+
+    /// Puts an edge that touches the node, which is not able.
+    fn link(&mut self, node: usize, edge: Edge) -> Result<(), AllocError>
+        requires unable { is_able node self.old.nodes ≡ false }
+        requires touches { is_apart node edge ≡ false }
+        requires provider { Contains (numbers self.old.nodes) edge.provider }
+        requires waiter { Any (λ node. (node.0 ≡ edge.waiter) × (edge.post < node.1)) self.old.nodes }
+        ensures nodes { self.new.nodes ≡ self.old.nodes }
+        ensures edges { OnOk result ((test : Edge → Bool) → count_by test self.new.edges ≡ count_by test self.old.edges + count_by test (edge ∷ [])) }
+        ensures apart { filter (is_apart node) self.new.edges ≡ filter (is_apart node) self.old.edges }
+        ensures matched { self.new.matched ≡ self.old.matched }
+        ensures exact { OnOk result ((n : ℕ) → is_member nat_eq self.new.matched n ≡ is_matched self.new.nodes self.new.edges n) }
+    {
+        if self.number == usize::MAX {
+            return Err(AllocError);
+        }
+        let out = Out {
+            head: edge.head,
+            waiter: edge.waiter,
+            post: edge.post,
+            stamp: self.graph.places[edge.waiter].stamp,
+        };
+        self.graph.leaving[edge.provider].push(out)?;
+        self.number += 1;
+        self.graph.totals[edge.waiter].raise(usize::from(edge.post));
+        if self.marks.raised[edge.provider] {
+            self.marks.counts[edge.waiter].raise(usize::from(edge.post));
+        }
+        Ok(())
+    }
+
+    /// Puts edges that touch the node, which is not able: all of them, or some where a growth was refused.
+    fn link_all(&mut self, node: usize, edges: &[Edge]) -> Result<(), AllocError>
+        requires unable { is_able node self.old.nodes ≡ false }
+        requires touch { All (λ edge. is_apart node edge ≡ false) edges.now }
+        requires ends { All (λ edge. Contains (numbers self.old.nodes) edge.provider × Any (λ node. (node.0 ≡ edge.waiter) × (edge.post < node.1)) self.old.nodes) edges.now }
+        requires exact { (n : ℕ) → is_member nat_eq self.old.matched n ≡ is_matched self.old.nodes self.old.edges n }
+        ensures nodes { self.new.nodes ≡ self.old.nodes }
+        ensures edges { OnOk result ((test : Edge → Bool) → count_by test self.new.edges ≡ count_by test self.old.edges + count_by test edges.now) }
+        ensures apart { filter (is_apart node) self.new.edges ≡ filter (is_apart node) self.old.edges }
+        ensures matched { self.new.matched ≡ self.old.matched }
+        ensures exact { OnOk result ((n : ℕ) → is_member nat_eq self.new.matched n ≡ is_matched self.new.nodes self.new.edges n) }
+    {
+        for edge in edges {
+            self.link(node, *edge)?;
+        }
+        Ok(())
+    }
+
+    /// Puts edges that touch the node, which is not able, and lets it be able where it is to be so. Where a growth was
+    /// refused, some of the edges are there, and nothing else has changed.
+    fn fill(&mut self, node: usize, able: bool, edges: &[Edge]) -> Result<(), AllocError>
+        requires there { has_node node self.old ≡ true }
+        requires unable { is_able node self.old.nodes ≡ false }
+        requires touch { All (λ edge. is_apart node edge ≡ false) edges.now }
+        requires ends { All (λ edge. Contains (numbers self.old.nodes) edge.provider × Any (λ node. (node.0 ≡ edge.waiter) × (edge.post < node.1)) self.old.nodes) edges.now }
+        requires exact { (n : ℕ) → is_member nat_eq self.old.matched n ≡ is_matched self.old.nodes self.old.edges n }
+        ensures nodes { OnOk result (self.new.nodes ≡ (if able then with_flag node true self.old.nodes else self.old.nodes)) }
+        ensures edges { OnOk result ((test : Edge → Bool) → count_by test self.new.edges ≡ count_by test self.old.edges + count_by test edges.now) }
+        ensures apart { filter (is_apart node) self.new.edges ≡ filter (is_apart node) self.old.edges }
+        ensures exact { OnOk result ((n : ℕ) → is_member nat_eq self.new.matched n ≡ is_matched self.new.nodes self.new.edges n) }
+        ensures err_nodes { OnErr result (self.new.nodes ≡ self.old.nodes) }
+        ensures err_matched { OnErr result (self.new.matched ≡ self.old.matched) }
+    {
+        self.link_all(node, edges)?;
+        if able {
+            self.enable(node)?;
+        }
+        Ok(())
+    }
+
+    /// Lets the node go that is not able, with its edges.
+    fn erase(&mut self, node: usize)
+        requires there { has_node node self.old ≡ true }
+        requires unable { is_able node self.old.nodes ≡ false }
+        ensures nodes { self.new.nodes ≡ without node self.old.nodes }
+        ensures edges { self.new.edges ≡ filter (is_apart node) self.old.edges }
+        ensures kept { self.new.matched ≡ self.old.matched }
+        ensures matched { (n : ℕ) → is_member nat_eq self.new.matched n ≡ is_matched self.new.nodes self.new.edges n }
+    {
+        lower_totals(
+            &self.graph.places,
+            &self.graph.leaving,
+            node,
+            &mut self.graph.totals,
+        );
+        self.graph.places[node] = FREE;
+        self.graph.leaving[node].clear();
+        self.graph.totals[node].clear();
+        self.marks.counts[node].clear();
+    }
+
+    /// Lets the node go, with the edges that leave it and those that lead to it. Takes no memory.
+    ///
+    /// The meter counts each edge whose provider stops being matched, and other work is in proportion to these and
+    /// to the edges that leave the node, those among them whose waiters have gone since; it is not in proportion to
+    /// the edges of its neighbours.
+    pub fn remove(&mut self, node: usize, meter: &mut Meter)
+        requires { has_node node self.old ≡ true }
+        ensures nodes { self.new.nodes ≡ without node self.old.nodes }
+        ensures edges { self.new.edges ≡ filter (is_apart node) self.old.edges }
+        ensures matched { (n : ℕ) → is_member nat_eq self.new.matched n ≡ is_matched self.new.nodes self.new.edges n }
+        ensures counted { meter.new ≤ meter.old + lost self.old self.new }
+    {
+        self.disable(node, meter);
+        self.erase(node);
     }
 }

@@ -35,6 +35,10 @@ abbrev pub nodes_from : ℕ → List Place → List (ℕ × ℕ × Bool)
 nodes_from n [] = []
 nodes_from n (place ∷ more) = (if place.taken then (n, place.posts, place.able) ∷ [] else []) ++ nodes_from (n + 1) more
 
+-- A node of that number is able.
+abbrev pub is_able : ℕ → List (ℕ × ℕ × Bool) → Bool
+is_able n nodes = list_any (λ node. (node.0 == n) && node.2) nodes
+
 -- The numbers of those that are marked, of which the first has at least this number.
 abbrev pub marked_from : ℕ → List Bool → List ℕ
 marked_from n [] = []
@@ -157,7 +161,7 @@ pub record IsKept (places : List Place) (leaving : List (List Out)) (totals : Li
   pub none_waits : waiting ≡ []
   pub none_reached : reached ≡ []
   pub roomy : length places ≤ room
-  pub numbered : number ≡ length (edges_from places 0 leaving)
+  pub numbered : length (edges_from places 0 leaving) ≤ number
   pub older : (n : ℕ) → (place_at places n).stamp < next
   pub outs_older : (n : ℕ) → All (λ out. out.stamp < next) (slice_index_or leaving n [])
   pub able_taken : (n : ℕ) → (place_at places n).able ≡ true → (place_at places n).taken ≡ true
