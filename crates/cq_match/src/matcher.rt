@@ -1,13 +1,16 @@
 //! The matched nodes of a graph, kept while its nodes come and go.
 
-ghost use Rattle.std.specs.Prelude.{◌≡◌, ℕ, Bool, true, false, ◌+◌, ◌≤◌, ◌↔◌, OnOk, OnErr, nat_eq};
+ghost use Rattle.std.specs.Prelude.{◌≡◌, ℕ, Bool, true, false, ◌+◌, ◌≤◌, ◌↔◌, [], filter, IfOk, OnOk, OnErr, nat_eq};
+ghost use Rattle.std.specs.List.Sorted.{IsPermutation, IsSorted};
 ghost use Rattle.std.specs.Set.{is_member};
 ghost use Rattle.cq_match.specs.Graph.{provider_count};
 ghost use Rattle.cq_match.specs.Matched.{is_matched};
-ghost use Rattle.cq_match.specs.Matcher.{nothing, has_node, with_flag, lost};
+ghost use Rattle.cq_match.specs.Matcher.{nothing, has_node, with_flag, lost, leaves, waiter_cmp};
 
+use crate::Edge;
 use crate::graph::{Graph, Leaving, Place};
 use crate::marks::{Counts, Marks};
+use crate::showing::{copied_graph, copied_marks, waiters_of};
 use cq_atom::Meter;
 use std::alloc::{AllocError, Allocator, Global};
 use std::marker::Model;
@@ -163,5 +166,42 @@ impl<A: Allocator> Matcher<A> {
             self.graph.places[node].able = false;
             self.marks.fell(&self.graph, node, meter);
         }
+    }
+}
+
+impl<A: Allocator + Copy> Matcher<A> {
+    /// The edges that leave the node, by waiter, among these by postcondition, and among these by head; none where the
+    /// node is not there.
+    ///
+    /// The edges that came to leave the node since it is there are looked at, also where their waiters have gone, and
+    /// those that are left are sorted. No clause says so.
+    ///
+    /// # Errors
+    /// `AllocError` where a growth was refused.
+    pub fn waiters(&self, node: usize) -> Result<Vec<Edge, A>, AllocError>
+        ensures permutation { IfOk result (λ waiters. IsPermutation (filter (leaves node) self.now.edges) waiters.items) }
+        ensures ordered { IfOk result (λ waiters. IsSorted waiter_cmp waiters.items) }
+        ensures absent { IfOk result (λ waiters. has_node node self.now ≡ false → waiters.items ≡ []) }
+    {
+        waiters_of(self.alloc, &self.graph, node)
+    }
+
+    /// A matcher of equal content, on the same allocator. It has room enough that the calls which take no memory take
+    /// none on it either. All nodes and edges are copied, and all places up to the greatest number.
+    ///
+    /// # Errors
+    /// `AllocError` where a growth was refused.
+    pub fn copy(&self) -> Result<Matcher<A>, AllocError>
+        ensures { IfOk result (λ copy. copy ≡ self.now) }
+    {
+        let graph = copied_graph(self.alloc, &self.graph)?;
+        let marks = copied_marks(self.alloc, &self.marks, self.graph.places.len())?;
+        Ok(Matcher {
+            graph,
+            marks,
+            number: self.number,
+            next: self.next,
+            alloc: self.alloc,
+        })
     }
 }
