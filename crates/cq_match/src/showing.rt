@@ -6,32 +6,9 @@ ghost use Rattle.cq_match.specs.Matcher.{waiter_cmp};
 ghost use Rattle.cq_match.specs.Steps.Kept.{edges_left};
 
 use crate::Edge;
-use crate::graph::{Graph, Out, Place, is_live};
+use crate::graph::{Graph, Out, is_live};
 use crate::marks::Marks;
 use std::alloc::{AllocError, Allocator};
-
-/// The edges that leave the node, as they are kept, but for those that have gone.
-fn live_edges<A: Allocator>(
-    alloc: A,
-    places: &[Place],
-    node: usize,
-    outs: &[Out],
-) -> Result<Vec<Edge, A>, AllocError>
-    ensures { IfOk result (λ edges. edges.items ≡ edges_left places.now node outs.now) }
-{
-    let mut edges = Vec::new(alloc);
-    for out in outs {
-        if is_live(places, *out) {
-            edges.push(Edge {
-                provider: node,
-                head: out.head,
-                waiter: out.waiter,
-                post: out.post,
-            })?;
-        }
-    }
-    Ok(edges)
-}
 
 /// The edges that leave the node, by waiter, post and head; none where it has no place.
 pub(crate) fn waiters_of<A: Allocator + Copy>(
@@ -46,7 +23,17 @@ pub(crate) fn waiters_of<A: Allocator + Copy>(
         Some(leaving) => leaving.outs(),
         None => &[],
     };
-    let mut edges = live_edges(alloc, &graph.places, node, outs)?;
+    let mut edges = Vec::new(alloc);
+    for out in outs {
+        if is_live(&graph.places, *out) {
+            edges.push(Edge {
+                provider: node,
+                head: out.head,
+                waiter: out.waiter,
+                post: out.post,
+            })?;
+        }
+    }
     edges.sort_unstable_by_key(|edge| (edge.waiter, edge.post, edge.head));
     Ok(edges)
 }
