@@ -2,6 +2,8 @@
 -- (the matched set kept while nodes come, go, and become able or not: this project's profile)
 use Rattle.std.specs.Prelude.{ℕ, Bool, not, ◌&&◌, ◌==◌, nat_eq, List, [], map, filter, count_by, if◌then◌else◌}
 use Rattle.std.specs.Set.{is_member}
+use Rattle.std.specs.declared.cmp.Ordering.{Ordering}
+use Rattle.std.specs.Ordering.{nat_cmp, ordering_then}
 use Rattle.cq_match.specs.declared.edge.Edge.{Edge}
 use Rattle.cq_match.specs.Matched.{numbers}
 
@@ -38,3 +40,11 @@ lost before after = count_by (λ edge. is_member nat_eq before.matched edge.prov
 -- The edge neither leaves the node nor leads to it.
 abbrev pub is_apart : ℕ → Edge → Bool
 is_apart n edge = not (edge.provider == n) && not (edge.waiter == n)
+
+-- The edge leaves the node.
+abbrev pub leaves : ℕ → Edge → Bool
+leaves n edge = edge.provider == n
+
+-- The order of edges that leave one node: by waiter, then by postcondition, then by head.
+abbrev pub waiter_cmp : Edge → Edge → Ordering
+waiter_cmp a b = ordering_then (ordering_then (nat_cmp a.waiter b.waiter) (nat_cmp a.post b.post)) (nat_cmp a.head b.head)

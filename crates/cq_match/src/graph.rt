@@ -84,6 +84,17 @@ impl<A: Allocator> Leaving<A> {
     }
 }
 
+impl<A: Allocator + Clone> Clone for Leaving<A> {
+    ghost use Rattle.std.specs.Prelude.{◌≡◌};
+
+    ghost is_clone = { λ a b. b ≡ a };
+
+    fn clone(&self) -> Result<Leaving<A>, AllocError> {
+        let outs = self.outs.clone()?;
+        Ok(Leaving { outs })
+    }
+}
+
 /// Whether the edge is one still: its waiter is there.
 pub(crate) fn is_live(places: &[Place], out: Out) -> bool
     ensures { result ≡ is_live places.now out }

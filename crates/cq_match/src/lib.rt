@@ -21,6 +21,7 @@ mod marks;
 mod matched;
 mod matcher;
 mod settle;
+mod showing;
 
 pub use edge::{Edge, is_crowd};
 pub use matched::greatest;

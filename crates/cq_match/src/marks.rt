@@ -87,6 +87,17 @@ impl<A: Allocator> Counts<A> {
     }
 }
 
+impl<A: Allocator + Clone> Clone for Counts<A> {
+    ghost use Rattle.std.specs.Prelude.{◌≡◌};
+
+    ghost is_clone = { λ a b. b ≡ a };
+
+    fn clone(&self) -> Result<Counts<A>, AllocError> {
+        let counts = self.counts.clone()?;
+        Ok(Counts { counts })
+    }
+}
+
 /// What is known of the nodes by their places.
 #[derive(Drop)]
 pub(crate) struct Marks<A: Allocator> {

@@ -1,17 +1,19 @@
 //! The matched nodes of a graph, kept while its nodes come and go.
 
-ghost use Rattle.std.specs.Prelude.{◌≡◌, ℕ, Bool, true, false, ◌+◌, ◌≤◌, ◌<◌, ◌↔◌, OnOk, OnErr, nat_eq, filter, count_by, length, vec_capacity, List, [], ◌∷◌, if◌then◌else◌};
+ghost use Rattle.std.specs.Prelude.{◌≡◌, ℕ, Bool, true, false, ◌+◌, ◌≤◌, ◌<◌, ◌↔◌, IfOk, OnOk, OnErr, nat_eq, filter, count_by, length, vec_capacity, List, [], ◌∷◌, if◌then◌else◌};
 ghost use Rattle.std.specs.List.{All, Any, Contains};
+ghost use Rattle.std.specs.List.Sorted.{IsPermutation, IsSorted};
 ghost use Rattle.std.specs.Set.{is_member};
 ghost use Rattle.cq_match.specs.Graph.{provider_count};
 ghost use Rattle.cq_match.specs.declared.edge.Edge.{Edge};
 ghost use Rattle.cq_match.specs.Matched.{is_matched, numbers};
-ghost use Rattle.cq_match.specs.Matcher.{nothing, has_node, with_flag, without, with_number, is_apart, lost};
+ghost use Rattle.cq_match.specs.Matcher.{nothing, has_node, with_flag, without, with_number, is_apart, lost, leaves, waiter_cmp};
 ghost use Rattle.cq_match.specs.Steps.Kept.{is_able, nodes_from, edges_from, marked_from, IsKept};
 
 use crate::edge::Edge;
 use crate::graph::{Graph, Leaving, Out, Place, lower_totals};
 use crate::marks::{Counts, Marks};
+use crate::showing::{copied_graph, copied_marks, waiters_of};
 use cq_atom::Meter;
 use std::alloc::{AllocError, Allocator, Global};
 use std::marker::Model;
@@ -365,5 +367,42 @@ impl<A: Allocator> Matcher<A> {
     {
         self.disable(node, meter);
         self.erase(node);
+    }
+}
+
+impl<A: Allocator + Copy> Matcher<A> {
+    /// The edges that leave the node, by waiter, among these by postcondition, and among these by head; none where the
+    /// node is not there.
+    ///
+    /// The edges that came to leave the node since it is there are looked at, also where their waiters have gone, and
+    /// those that are left are sorted. No clause says so.
+    ///
+    /// # Errors
+    /// `AllocError` where a growth was refused.
+    pub fn waiters(&self, node: usize) -> Result<Vec<Edge, A>, AllocError>
+        ensures permutation { IfOk result (λ waiters. IsPermutation (filter (leaves node) self.now.edges) waiters.items) }
+        ensures ordered { IfOk result (λ waiters. IsSorted waiter_cmp waiters.items) }
+        ensures absent { IfOk result (λ waiters. has_node node self.now ≡ false → waiters.items ≡ []) }
+    {
+        waiters_of(self.alloc, &self.graph, node)
+    }
+
+    /// A matcher of equal content, on the same allocator. It has room enough that the calls which take no memory take
+    /// none on it either. All nodes and edges are copied, and all places up to the greatest number.
+    ///
+    /// # Errors
+    /// `AllocError` where a growth was refused.
+    pub fn copy(&self) -> Result<Matcher<A>, AllocError>
+        ensures { IfOk result (λ copy. copy ≡ self.now) }
+    {
+        let graph = copied_graph(self.alloc, &self.graph)?;
+        let marks = copied_marks(self.alloc, &self.marks, self.graph.places.len())?;
+        Ok(Matcher {
+            graph,
+            marks,
+            number: self.number,
+            next: self.next,
+            alloc: self.alloc,
+        })
     }
 }
