@@ -1,7 +1,6 @@
-use Rattle.std.proofs.Common.{◌≡◌, ℕ, ◌<◌, Bool, true, false, eqb, [], List, get_or, set, refl, sym, ap, ◌∙◌, arith, vec_capacity}
+use Rattle.std.proofs.Common.{◌≡◌, true, eqb, [], set, refl, sym, ap, ◌∙◌, arith, vec_capacity}
 use Rattle.std.specs.List.{list_any}
 use Rattle.std.proofs.lemmas.List.{get_or_default}
-use Rattle.cq_match.specs.declared.graph.Place.{Place}
 use Rattle.cq_match.specs.Matcher.{MatcherRecord, with_flag}
 use Rattle.cq_match.specs.Steps.Kept.{free, place_at, is_able}
 use Rattle.cq_match.proofs.Rows.{row, taken-placed}
