@@ -25,3 +25,4 @@ pub mod Slots
 pub mod Standing
 pub mod Tests
 pub mod Union
+pub mod Waking

@@ -80,7 +80,7 @@ impl<A: Allocator> Counts<A> {
     }
 
     /// Whether some postcondition has no counted edge.
-    fn has_none(&self) -> bool
+    pub(crate) fn has_none(&self) -> bool
         ensures { result ≡ list_any (λ count. count == 0) self.now }
     {
         self.counts.iter().any(|count| *count == 0)

@@ -161,8 +161,8 @@ impl<A: Allocator + Copy> Matcher<A> {
 impl<A: Allocator + Copy> Matcher<A> {
     /// Puts a node that is not there, with edges that leave it or lead to it. An edge that is given twice counts twice.
     ///
-    /// Work is in proportion to the edges; and where the node is able, also to the able and unmatched nodes that its edges
-    /// reach, with their edges. A number beyond all that were there before takes memory and work for each place up to it, once.
+    /// Work is in proportion to the edges; and where the node is able and has an edge to each postcondition, also to the
+    /// able and unmatched nodes that its edges reach, with their edges. A number beyond all that were there before takes memory and work for each place up to it, once.
     ///
     /// # Errors
     /// `AllocError` where a growth was refused; and where so many nodes or edges have come that their counters are at
@@ -310,6 +310,22 @@ impl<A: Allocator> Matcher<A> {
         Ok(())
     }
 
+    /// Lets the node be able that was not. Where a postcondition of it has no edge, it looks at no other node.
+    fn wake(&mut self, node: usize) -> Result<(), AllocError>
+        requires there { has_node node self.old ≡ true }
+        requires unable { is_able node self.old.nodes ≡ false }
+        ensures nodes { OnOk result (self.new.nodes ≡ with_flag node true self.old.nodes) }
+        ensures edges { OnOk result (self.new.edges ≡ self.old.edges) }
+        ensures matched { OnOk result ((n : ℕ) → is_member nat_eq self.new.matched n ≡ is_matched self.new.nodes self.new.edges n) }
+        ensures err { OnErr result (self.new ≡ self.old) }
+    {
+        if !self.graph.totals[node].has_none() {
+            return self.enable(node);
+        }
+        self.graph.places[node].able = true;
+        Ok(())
+    }
+
     /// Puts edges that touch the node, which is not able, and lets it be able where it is to be so. Where a growth was
     /// refused, some of the edges are there, and nothing else has changed.
     fn fill(&mut self, node: usize, able: bool, edges: &[Edge]) -> Result<(), AllocError>
@@ -327,7 +343,7 @@ impl<A: Allocator> Matcher<A> {
     {
         self.link_all(node, edges)?;
         if able {
-            self.enable(node)?;
+            self.wake(node)?;
         }
         Ok(())
     }
