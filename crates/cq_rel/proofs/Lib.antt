@@ -9,3 +9,4 @@ pub mod Kept
 pub mod Edits
 pub mod Members
 pub mod Whole
+pub mod Undone

@@ -102,7 +102,7 @@ in-any row (r ∷ rows) h =
 pub is-member : (b : Bool) (rows : List RowRecord) (row : RowRecord) → b ≡ list_any (same_row row) rows → IsTrue b ↔ Contains rows row
 is-member b rows row e = (λ t. contains-from_in rows row (any-in row rows (sym e ∙ t)), λ c. e ∙ in-any row rows (in-from_contains rows row c))
 
-row_total : (catalog : List Declaration) → IsTotalOrder (row_order catalog)
+pub row_total : (catalog : List Declaration) → IsTotalOrder (row_order catalog)
 row_total catalog = then_total (on_total (λ (r : RowRecord). place_in catalog r.relation) nat_cmp_total) (on_total (λ (r : RowRecord). r.values) values_total)
 
 -- one place is of one relation
@@ -117,13 +117,13 @@ place-one (d ∷ ds) a b m n p q e =
     (λ t. absurd (let x = place-later d ds a s in let y = place-here d ds b t in omega arith))
     (λ t. place-one ds a b m n (rw s at p) (rw t at q) (let x = place-later d ds a s in let y = place-later d ds b t in omega arith)))
 
-tied-rows : (catalog : List Declaration) (r s : RowRecord) → IsUnder catalog r → IsUnder catalog s → row_order catalog r s ≡ Equal → r ≡ s
+pub tied-rows : (catalog : List Declaration) (r s : RowRecord) → IsUnder catalog r → IsUnder catalog s → row_order catalog r s ≡ Equal → r ≡ s
 tied-rows catalog r s p q e =
     let both = then-tied (nat_cmp (place_in catalog r.relation) (place_in catalog s.relation)) (values_order r.values s.values) e in
     row-eq r s (place-one catalog r.relation s.relation (length r.values) (length s.values) p q (nats-tied (place_in catalog r.relation) (place_in catalog s.relation) both.0))
     (values-tied r.values s.values both.1)
 
-by_order : (o : Ordering) (P : Type 0) → (o ≡ Less → P) → (o ≡ Equal → P) → (o ≡ Greater → P) → P
+pub by_order : (o : Ordering) (P : Type 0) → (o ≡ Less → P) → (o ≡ Equal → P) → (o ≡ Greater → P) → P
 by_order Less P f g h = f refl
 by_order Equal P f g h = g refl
 by_order Greater P f g h = h refl
