@@ -15,14 +15,17 @@ use Rattle.cq_roster.specs.Roster.{SeatRecord, seat_of, place_named, is_taken_pl
 use Rattle.cq_roster.specs.Steps.Kept.{number_named, IsKept}
 use Rattle.cq_roster.proofs.Found.{by_bool, apart, Entry, none_placed}
 
-pub behind : (es : List Entry) (next : ℕ) (s : SeatRecord) → AllByRecursion (λ e. e.0 < next) es → insert_entry nat_cmp es next s ≡ es ++ (next, s) ∷ []
+-- a number above all others goes last
+behind : (es : List Entry) (next : ℕ) (s : SeatRecord) → AllByRecursion (λ e. e.0 < next) es → insert_entry nat_cmp es next s ≡ es ++ (next, s) ∷ []
 behind [] next s all = refl
 behind (e ∷ es) next s all = rw (← nat_cmp_is next e.0 Greater all.0) (ap (λ l. e ∷ l) (behind es next s all.1))
 
+-- the next number lies above it too
 all_below : (es : List Entry) (next : ℕ) (s : SeatRecord) → AllByRecursion (λ e. e.0 < next) es → AllByRecursion (λ e. e.0 < next + 1) (es ++ (next, s) ∷ [])
 all_below [] next s all = (omega arith, tt)
 all_below (e ∷ es) next s all = (let lt : e.0 < next = all.0 in omega arith, all_below es next s all.1)
 
+-- its name has that number, and each other name the one that it had
 number-push : (q : List ℕ) (es : List Entry) (next : ℕ) (s : SeatRecord) → number_named s.name es ≡ None → number_named q (es ++ (next, s) ∷ []) ≡ cond (bytes_eq s.name q) (Some next) (number_named q es)
 number-push q [] next s h = rw (nat_list_eq_equiv.symm q s.name) (by_bool (bytes_eq s.name q) _ (λ t. rw t refl) (λ f. rw f refl))
 number-push q (e ∷ es) next s h = by_bool (bytes_eq s.name e.1.name) _
@@ -33,12 +36,14 @@ number-push q (e ∷ es) next s h = by_bool (bytes_eq s.name e.1.name) _
 
 -- ---- the seats
 
+-- a name without a place is no seat's
 name_free : (name : List ℕ) (seats : List SeatRecord) → place_named name seats ≡ None → list_any (bytes_eq name) (map (λ s. s.name) seats) ≡ false
 name_free name [] h = refl
 name_free name (s ∷ ss) h = by_bool (bytes_eq name s.name) _
     (λ t. let no : Some s.place ≡ None = rw t at h in cc)
     (λ f. rw f (name_free name ss (rw f at h)))
 
+-- a roster with a new name at a new place is a roster
 pub IsRoster-push : (name : List ℕ) (place : ℕ) (seats : List SeatRecord) → IsRoster seats → place_named name seats ≡ None → is_taken_place place seats ≡ false → IsRoster (seats ++ seat_of name place ∷ [])
 IsRoster-push name place seats valid absent free = record {
   names = subst (IsDistinct bytes_eq) (sym (map-append (λ (s : SeatRecord). s.name) seats (seat_of name place ∷ []))) (IsDistinct-push nat_list_eq_equiv (map (λ s. s.name) seats) name valid.names (name_free name seats absent));
@@ -61,6 +66,8 @@ module _ (name : List ℕ) (place : ℕ) (es fs : List Entry) (numbers more : Li
     below = subst (AllByRecursion (λ e. e.0 < next + 1)) (sym added) (all_below es next (seat_of name place) kept.below);
     valid = subst IsRoster (sym added_last) (IsRoster-push name place (values_of es) kept.valid absent free);
   }
+
+-- ---- what the calls did, over a copy of the name and over room that was made
 
 pub put_named : (n name : List ℕ) (place next : ℕ) (es fs : List Entry) → n ≡ name → fs ≡ insert_entry nat_cmp es next (seat_of n place) → fs ≡ insert_entry nat_cmp es next (seat_of name place)
 put_named n name place next es fs named put = put ∙ ap (λ m. insert_entry nat_cmp es next (seat_of m place)) named

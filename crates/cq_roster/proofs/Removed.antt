@@ -23,13 +23,14 @@ module _ {X K : Type 0} (eq : K → K → Bool) (f : X → K) (p : X → Bool) w
       by_bool (p x) (AllByRecursion (λ y. eq k y ≡ false) (map f (filter p (x ∷ xs))))
       (λ t. rw t (h.0, apart_still k xs h.1)) (λ g. rw g (apart_still k xs h.1))
 
-  pub distinct_still : (xs : List X) → IsDistinct eq (map f xs) → IsDistinct eq (map f (filter p xs))
+  distinct_still : (xs : List X) → IsDistinct eq (map f xs) → IsDistinct eq (map f (filter p xs))
   unfolding IsDistinct
   distinct_still [] h = tt
   distinct_still (x ∷ xs) h =
       by_bool (p x) (IsDistinct eq (map f (filter p (x ∷ xs))))
       (λ t. rw t (apart_still (f x) xs h.0, distinct_still xs h.1)) (λ g. rw g (distinct_still xs h.1))
 
+-- a roster without one of its names is a roster
 pub IsRoster-without : (name : List ℕ) (seats : List SeatRecord) → IsRoster seats → IsRoster (without name seats)
 IsRoster-without name seats valid = record {
   names = distinct_still bytes_eq (λ (s : SeatRecord). s.name) (λ s. not (is_named name s)) seats valid.names;
@@ -38,10 +39,10 @@ IsRoster-without name seats valid = record {
 
 -- ---- the entries without those of the name
 
-abbrev pub others : List ℕ → List Entry → List Entry
+abbrev others : List ℕ → List Entry → List Entry
 others name es = filter (λ e. not (is_named name e.1)) es
 
-pub values-others : (name : List ℕ) (es : List Entry) → values_of (others name es) ≡ without name (values_of es)
+values-others : (name : List ℕ) (es : List Entry) → values_of (others name es) ≡ without name (values_of es)
 values-others name [] = refl
 values-others name (e ∷ es) = by_bool (bytes_eq name e.1.name) _ (λ t. rw t (values-others name es)) (λ f. rw f (ap (λ l. e.1 ∷ l) (values-others name es)))
 
@@ -54,12 +55,14 @@ keeps_all : (name : List ℕ) (es : List Entry) → AllByRecursion (λ y. bytes_
 keeps_all name [] all = refl
 keeps_all name (e ∷ es) all = let away : bytes_eq name e.1.name ≡ false = all.0 in rw away (ap (λ l. e ∷ l) (keeps_all name es all.1))
 
+-- a name without a number is no seat's
 all_away : (name : List ℕ) (es : List Entry) → number_named name es ≡ None → AllByRecursion (λ y. bytes_eq name y ≡ false) (map (λ s. s.name) (values_of es))
 all_away name [] h = tt
 all_away name (e ∷ es) h = by_bool (bytes_eq name e.1.name) (AllByRecursion (λ y. bytes_eq name y ≡ false) (map (λ s. s.name) (values_of (e ∷ es))))
     (λ t. let no : Some e.0 ≡ None = rw t at h in cc)
     (λ f. (f, all_away name es (rw f at h)))
 
+-- without a name that no seat has the seats are as they were
 pub values_stay : (name : List ℕ) (es : List Entry) → number_named name es ≡ None → values_of es ≡ without name (values_of es)
 values_stay name es h = sym (ap values_of (keeps_all name es (all_away name es h))) ∙ values-others name es
 
@@ -77,12 +80,13 @@ number_others q name (e ∷ es) is = by_bool (bytes_eq name e.1.name) _
     rw (t, away) (number_others q name es is))
     (λ f. by_bool (bytes_eq q e.1.name) _ (λ s. rw (f, s) refl) (λ s. rw (f, s) (number_others q name es is)))
 
-pub number-others : (q : List ℕ) (name : List ℕ) (es : List Entry) → number_named q (others name es) ≡ cond (bytes_eq name q) None (number_named q es)
+-- of the others each name has its number still
+number-others : (q : List ℕ) (name : List ℕ) (es : List Entry) → number_named q (others name es) ≡ cond (bytes_eq name q) None (number_named q es)
 number-others q name es = by_bool (bytes_eq name q) _ (λ t. rw t (none_others q name es t)) (λ f. rw f (number_others q name es f))
 
 -- ---- the entry at the number of the name, taken out
 
-pub removed : (name : List ℕ) (es : List Entry) (k : ℕ) → IsStrictlySortedBy nat_cmp (keys_of es) → IsDistinct bytes_eq (map (λ s. s.name) (values_of es)) → number_named name es ≡ Some k → remove_entry (is_at (nat_cmp k)) es ≡ others name es
+removed : (name : List ℕ) (es : List Entry) (k : ℕ) → IsStrictlySortedBy nat_cmp (keys_of es) → IsDistinct bytes_eq (map (λ s. s.name) (values_of es)) → number_named name es ≡ Some k → remove_entry (is_at (nat_cmp k)) es ≡ others name es
 unfolding IsStrictlySortedBy IsDistinct
 removed name [] k sorted distinct h = refl
 removed name (e ∷ es) k sorted distinct h = by_bool (bytes_eq name e.1.name) _
@@ -99,7 +103,7 @@ removed name (e ∷ es) k sorted distinct h = by_bool (bytes_eq name e.1.name) _
     rw (f, is) (ap (λ l. e ∷ l) (removed name es k sorted.1 distinct.1 rest)))
 
 module _ (name : List ℕ) (es fs : List Entry) (numbers left : List (List ℕ × ℕ)) (next k : ℕ) (kept : IsKept es numbers next) (found : number_named name es ≡ Some k) (taken : fs ≡ remove_entry (is_at (nat_cmp k)) es) where
-  pub left_others : fs ≡ others name es
+  left_others : fs ≡ others name es
   left_others = taken ∙ removed name es k kept.rising kept.valid.names found
 
   pub left_without : values_of fs ≡ without name (values_of es)

@@ -86,8 +86,8 @@ impl<A: Allocator + Copy> Roster<A> {
     /// Logarithmic expected time.
     ///
     /// # Errors
-    /// `AllocError` where a growth was refused; then nothing has changed. The same after 2^64 - 1
-    /// seats that came, which no caller lives to see.
+    /// `AllocError` where a growth was refused; then nothing has changed. The same once
+    /// 2^64 - 1 seats have come, which takes longer than any run.
     pub fn add(&mut self, name: &Name<A>, place: usize) -> Result<(), AllocError>
         requires absent { place_named name.now self.old ≡ None }
         requires free { is_taken_place place self.old ≡ false }
