@@ -1,0 +1,4 @@
+pub mod Found
+pub mod Removed
+pub mod Added
+pub mod CallerLemmas
