@@ -14,5 +14,6 @@ pub mod Rising
 pub mod Nodes
 pub mod Kept
 pub mod Refusals
+pub mod Residents
 pub mod Rows
 pub mod Shown

@@ -1,0 +1,54 @@
+-- Pending queries in places of their own, and the graph among them, whose nodes are the places in any order.
+use Rattle.std.specs.Prelude.{◌≡◌, ◌↔◌, ℕ, Bool, not, ◌==◌, List, [], ◌∷◌, ◌++◌, length, map, filter, count_by, slice_index_or}
+use Rattle.std.specs.List.{Contains, flat_map, enumerate_from}
+use Rattle.cq_atom.specs.Atom.{AtomRecord}
+use Rattle.cq_match.specs.declared.edge.Edge.{Edge}
+use Rattle.cq_board.specs.Pool.{PendingQuery}
+use Rattle.cq_board.specs.Edges.{edge_if}
+
+-- A pending query with its place. Lists of residents are in posting order.
+abbrev pub Resident : Type 0
+Resident = ℕ × PendingQuery
+
+abbrev pub places_of : List Resident → List ℕ
+places_of residents = map (λ r. r.0) residents
+
+abbrev pub queries_of : List Resident → List PendingQuery
+queries_of residents = map (λ r. r.1) residents
+
+-- The place of the query at a position in posting order.
+abbrev pub place_at : List Resident → ℕ → ℕ
+place_at residents position = slice_index_or (places_of residents) position 0
+
+-- The residents but for the one in that place.
+abbrev pub all_but : ℕ → List Resident → List Resident
+all_but place residents = filter (λ r. not (r.0 == place)) residents
+
+-- The edges from the residents' heads to one postcondition of one waiter.
+abbrev pub edges_from : List Resident → ℕ → ℕ × AtomRecord → List Edge
+edges_from providers waiter post = flat_map (λ provider. flat_map (λ head. edge_if provider.0 head waiter post) (enumerate_from 0 provider.1.query.heads)) providers
+
+-- The edges from the heads of the first to the postconditions of the second.
+abbrev pub edges_between : List Resident → List Resident → List Edge
+edges_between providers waiters = flat_map (λ waiter. flat_map (edges_from providers waiter.0) (enumerate_from 0 waiter.1.query.posts)) waiters
+
+-- All edges, by their ends' places.
+abbrev pub edges_among : List Resident → List Edge
+edges_among residents = edges_between residents residents
+
+-- The edges between one resident and the others, and between it and itself.
+abbrev pub edges_touching : List Resident → Resident → List Edge
+edges_touching residents r = edges_between residents (r ∷ []) ++ (edges_between (r ∷ []) residents ++ edges_between (r ∷ []) (r ∷ []))
+
+-- The nodes: each place with its query's number of postconditions, and whether it is able.
+abbrev pub nodes_among : (Resident → Bool) → List Resident → List (ℕ × ℕ × Bool)
+nodes_among able residents = map (λ r. (r.0, length r.1.query.posts, able r)) residents
+
+-- The edge with other numbers for its ends.
+abbrev pub renamed : (ℕ → ℕ) → Edge → Edge
+renamed f edge = record { provider = f edge.provider; head = edge.head; waiter = f edge.waiter; post = edge.post }
+
+-- The nodes and the edges are those of the residents, in any order.
+pub record IsGraphOf (able : Resident → Bool) (residents : List Resident) (nodes : List (ℕ × ℕ × Bool)) (edges : List Edge) : Type 0 where
+  pub same_nodes : (node : ℕ × ℕ × Bool) → Contains nodes node ↔ Contains (nodes_among able residents) node
+  pub same_edges : (test : Edge → Bool) → count_by test edges ≡ count_by test (edges_among residents)
