@@ -17,3 +17,4 @@ pub mod Refusals
 pub mod Residents
 pub mod Rows
 pub mod Shown
+pub mod Touching

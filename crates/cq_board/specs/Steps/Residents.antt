@@ -1,8 +1,9 @@
 -- Pending queries in places of their own, and the graph among them, whose nodes are the places in any order.
-use Rattle.std.specs.Prelude.{◌≡◌, ◌↔◌, ℕ, Bool, not, ◌==◌, List, [], ◌∷◌, ◌++◌, length, map, filter, count_by, slice_index_or}
-use Rattle.std.specs.List.{Contains, flat_map, enumerate_from}
+use Rattle.std.specs.Prelude.{◌≡◌, ◌↔◌, ℕ, Bool, true, not, Some, ◌==◌, List, [], ◌∷◌, ◌++◌, length, map, filter, count_by, slice_index_or}
+use Rattle.std.specs.List.{Contains, flat_map, enumerate_from, slice_get}
 use Rattle.cq_atom.specs.Atom.{AtomRecord}
 use Rattle.cq_match.specs.declared.edge.Edge.{Edge}
+use Rattle.cq_board.specs.Supply.{unifies}
 use Rattle.cq_board.specs.Pool.{PendingQuery}
 use Rattle.cq_board.specs.Edges.{edge_if}
 
@@ -39,6 +40,16 @@ edges_among residents = edges_between residents residents
 -- The edges between one resident and the others, and between it and itself.
 abbrev pub edges_touching : List Resident → Resident → List Edge
 edges_touching residents r = edges_between residents (r ∷ []) ++ (edges_between (r ∷ []) residents ++ edges_between (r ∷ []) (r ∷ []))
+
+-- The edge leads from a head of the one to a postcondition of the other, and the two unify.
+pub record Supplies (provider waiter : Resident) (edge : Edge) : Type 0 where
+  pub offered : AtomRecord
+  pub wanted : AtomRecord
+  pub comes_from : edge.provider ≡ provider.0
+  pub leads_to : edge.waiter ≡ waiter.0
+  pub head : slice_get provider.1.query.heads edge.head ≡ Some offered
+  pub post : slice_get waiter.1.query.posts edge.post ≡ Some wanted
+  pub unify : unifies offered wanted ≡ true
 
 -- The nodes: each place with its query's number of postconditions, and whether it is able.
 abbrev pub nodes_among : (Resident → Bool) → List Resident → List (ℕ × ℕ × Bool)
