@@ -15,6 +15,7 @@ pub mod Nodes
 pub mod Kept
 pub mod Refusals
 pub mod Residents
+pub mod Pairwise
 pub mod Rows
 pub mod Shown
 pub mod Touching

@@ -1,5 +1,5 @@
 -- Which edges touch a resident, and that none of them comes twice.
-use Rattle.std.proofs.Common.{◌≡◌, ℕ, ◌⊎◌, inl, inr, true, List, [], ◌∷◌, ◌++◌, refl, sym, ap, subst, ◌∙◌}
+use Rattle.std.proofs.Common.{◌≡◌, ℕ, ◌<◌, ◌⊎◌, inl, inr, Bool, true, List, [], ◌∷◌, ◌++◌, count_by, refl, sym, ap, subst, ◌∙◌, arith}
 use Rattle.std.specs.List.{flat_map, enumerate_from, slice_get}
 use Rattle.cq_atom.specs.Atom.{AtomRecord}
 use Rattle.cq_match.specs.declared.edge.Edge.{Edge}
@@ -9,6 +9,7 @@ use Rattle.cq_board.specs.Steps.Residents.{Resident, Supplies, edges_from, edges
 use Rattle.cq_board.proofs.Members.{by_bool, In, In-left, In-right, In-append, In-flat_map, In-flat_map_gives}
 use Rattle.cq_board.proofs.Ends.{In-edge_if, In-enumerate}
 use Rattle.cq_board.proofs.Among.{enumerate-In}
+use Rattle.cq_board.proofs.Pairwise.{Pairwise, Differ, Pairwise-append, Pairwise-flat_map, enumerate-rises, same_counts}
 
 -- ---- members
 
@@ -101,3 +102,118 @@ module _ (residents : List Resident) (r : Resident) (e : Edge) where
                   inr (inr (subst (λ (p : Resident). Supplies p r e) (only found.0 r found.2) (subst (λ (w : Resident). Supplies found.0 w e) (only found.1 r found.3) found.4)))
             ]
       ]
+
+-- ---- the order of edges
+
+-- What holds of two edges that differ in their waiters, else in their postconditions, else in their providers, else in their heads, holds of each two edges.
+module _ (S : ℕ → ℕ → Type 0) (R : Edge → Edge → Type 0)
+    (by_waiter : (a b : Edge) → S a.waiter b.waiter → R a b)
+    (by_post : (a b : Edge) → a.waiter ≡ b.waiter → a.post < b.post → R a b)
+    (by_provider : (a b : Edge) → a.waiter ≡ b.waiter → a.post ≡ b.post → S a.provider b.provider → R a b)
+    (by_head : (a b : Edge) → a.waiter ≡ b.waiter → a.post ≡ b.post → a.provider ≡ b.provider → a.head < b.head → R a b) where
+  edge_alone : (provider : ℕ) (head : ℕ × AtomRecord) (waiter : ℕ) (post : ℕ × AtomRecord) → Pairwise R (edge_if provider head waiter post)
+  edge_alone provider head waiter post =
+      by_bool (unifies head.1 post.1) (Pairwise R (edge_if provider head waiter post)) (λ t. rw t (λ y m. absurd m, tt)) (λ f. rw f tt)
+
+  edges_by_head : (waiter : ℕ) (post : ℕ × AtomRecord) (p : Resident) → Pairwise R (flat_map (λ head. edge_if p.0 head waiter post) (enumerate_from 0 p.1.query.heads))
+  edges_by_head waiter post p =
+      Pairwise-flat_map (λ (h k : ℕ × AtomRecord). h.0 < k.0) R (λ head. edge_if p.0 head waiter post) (enumerate_from 0 p.1.query.heads) (enumerate-rises 0 p.1.query.heads)
+      (λ head. edge_alone p.0 head waiter post)
+      (λ h k low a b m n.
+      let is = In-edge_if p.0 h waiter post a m in
+      let also = In-edge_if p.0 k waiter post b n in
+      by_head a b
+      (ap (λ (x : Edge). x.waiter) is ∙ sym (ap (λ (x : Edge). x.waiter) also))
+      (ap (λ (x : Edge). x.post) is ∙ sym (ap (λ (x : Edge). x.post) also))
+      (ap (λ (x : Edge). x.provider) is ∙ sym (ap (λ (x : Edge). x.provider) also))
+      (let first : a.head ≡ h.0 = ap (λ (x : Edge). x.head) is in let second : b.head ≡ k.0 = ap (λ (x : Edge). x.head) also in omega arith))
+
+  -- the ends of an edge to one postcondition
+  from_ends : (providers : List Resident) (waiter : ℕ) (post : ℕ × AtomRecord) (e : Edge) → In e (edges_from providers waiter post) → (e.waiter ≡ waiter) × (e.post ≡ post.0)
+  from_ends providers waiter post e h =
+      let p = In-flat_map_gives (λ (p : Resident). flat_map (λ head. edge_if p.0 head waiter post) (enumerate_from 0 p.1.query.heads)) providers e h in
+      let head = In-flat_map_gives (λ head. edge_if p.0.0 head waiter post) (enumerate_from 0 p.0.1.query.heads) e p.2 in
+      let is = In-edge_if p.0.0 head.0 waiter post e head.2 in
+      (ap (λ (x : Edge). x.waiter) is, ap (λ (x : Edge). x.post) is)
+
+  head_ends : (p : Resident) (waiter : ℕ) (post : ℕ × AtomRecord) (e : Edge) → In e (flat_map (λ head. edge_if p.0 head waiter post) (enumerate_from 0 p.1.query.heads))
+      → (e.waiter ≡ waiter) × (e.post ≡ post.0) × (e.provider ≡ p.0)
+  head_ends p waiter post e h =
+      let head = In-flat_map_gives (λ head. edge_if p.0 head waiter post) (enumerate_from 0 p.1.query.heads) e h in
+      let is = In-edge_if p.0 head.0 waiter post e head.2 in
+      (ap (λ (x : Edge). x.waiter) is, ap (λ (x : Edge). x.post) is, ap (λ (x : Edge). x.provider) is)
+
+  module _ (providers : List Resident) (apart : Pairwise (λ (a b : Resident). S a.0 b.0) providers) where
+    edges_by_provider : (waiter : ℕ) (post : ℕ × AtomRecord) → Pairwise R (edges_from providers waiter post)
+    edges_by_provider waiter post =
+        Pairwise-flat_map (λ (a b : Resident). S a.0 b.0) R (λ (p : Resident). flat_map (λ head. edge_if p.0 head waiter post) (enumerate_from 0 p.1.query.heads)) providers apart
+        (edges_by_head waiter post)
+        (λ p q s a b m n.
+        let is = head_ends p waiter post a m in
+        let also = head_ends q waiter post b n in
+        by_provider a b (is.0 ∙ sym also.0) (is.1 ∙ sym also.1) (subst (λ (k : ℕ). S a.provider k) (sym also.2) (subst (λ (k : ℕ). S k q.0) (sym is.2) s)))
+
+    edges_by_post : (w : Resident) → Pairwise R (flat_map (edges_from providers w.0) (enumerate_from 0 w.1.query.posts))
+    edges_by_post w =
+        Pairwise-flat_map (λ (h k : ℕ × AtomRecord). h.0 < k.0) R (edges_from providers w.0) (enumerate_from 0 w.1.query.posts) (enumerate-rises 0 w.1.query.posts)
+        (edges_by_provider w.0)
+        (λ h k low a b m n.
+        let is = from_ends providers w.0 h a m in
+        let also = from_ends providers w.0 k b n in
+        by_post a b (is.0 ∙ sym also.0) (let first : a.post ≡ h.0 = is.1 in let second : b.post ≡ k.0 = also.1 in omega arith))
+
+    pub edges_pairwise : (waiters : List Resident) → Pairwise (λ (a b : Resident). S a.0 b.0) waiters → Pairwise R (edges_between providers waiters)
+    edges_pairwise waiters rising =
+        Pairwise-flat_map (λ (a b : Resident). S a.0 b.0) R (λ (w : Resident). flat_map (edges_from providers w.0) (enumerate_from 0 w.1.query.posts)) waiters rising
+        edges_by_post
+        (λ v w s a b m n.
+        let is = In-flat_map_gives (edges_from providers v.0) (enumerate_from 0 v.1.query.posts) a m in
+        let also = In-flat_map_gives (edges_from providers w.0) (enumerate_from 0 w.1.query.posts) b n in
+        let here = (from_ends providers v.0 is.0 a is.2).0 in
+        let there = (from_ends providers w.0 also.0 b also.2).0 in
+        by_waiter a b (subst (λ (k : ℕ). S a.waiter k) (sym there) (subst (λ (k : ℕ). S k w.0) (sym here) s)))
+
+-- ---- no double
+
+abbrev pub Apart : Resident → Resident → Type 0
+Apart a b = Differ a.0 b.0
+
+less-differ : (m n : ℕ) → m < n → Differ m n
+less-differ m n low e = omega arith
+
+pub between_differ : (providers waiters : List Resident) → Pairwise Apart providers → Pairwise Apart waiters → Pairwise Differ (edges_between providers waiters)
+between_differ providers waiters p w =
+    edges_pairwise (λ m n. Differ m n) (λ a b. Differ a b)
+    (λ a b s e. s (ap (λ (x : Edge). x.waiter) e))
+    (λ a b i s e. less-differ a.post b.post s (ap (λ (x : Edge). x.post) e))
+    (λ a b i j s e. s (ap (λ (x : Edge). x.provider) e))
+    (λ a b i j k s e. less-differ a.head b.head s (ap (λ (x : Edge). x.head) e))
+    providers p waiters w
+
+module _ (residents : List Resident) (r : Resident) (apart : Pairwise Apart residents) (free : (p : Resident) → In p residents → Differ p.0 r.0) where
+  alone : Pairwise Apart (r ∷ [])
+  alone = (λ y m. absurd m, tt)
+
+  -- No edge touches the resident twice.
+  pub touching_differ : Pairwise Differ (edges_touching residents r)
+  touching_differ =
+      Pairwise-append Differ (edges_between residents (r ∷ [])) (edges_between (r ∷ []) residents ++ edges_between (r ∷ []) (r ∷ [])) (between_differ residents (r ∷ []) apart alone)
+      (Pairwise-append Differ (edges_between (r ∷ []) residents) (edges_between (r ∷ []) (r ∷ [])) (between_differ (r ∷ []) residents alone apart) (between_differ (r ∷ []) (r ∷ []) alone alone)
+      (λ a b m n e.
+      let is = between_gives (r ∷ []) residents a m in
+      let also = between_gives (r ∷ []) (r ∷ []) b n in
+      free is.1 is.3 (sym is.4.leads_to ∙ ap (λ (x : Edge). x.waiter) e ∙ also.4.leads_to ∙ ap (λ (x : Resident). x.0) (only also.1 r also.3))))
+      (λ a b m n e.
+      let is = between_gives residents (r ∷ []) a m in
+      let from_r : b.provider ≡ r.0 = elim (In-append b (edges_between (r ∷ []) residents) (edges_between (r ∷ []) (r ∷ [])) n) [
+        | inl k ↦ let also = between_gives (r ∷ []) residents b k in also.4.comes_from ∙ ap (λ (x : Resident). x.0) (only also.0 r also.2)
+        | inr k ↦ let also = between_gives (r ∷ []) (r ∷ []) b k in also.4.comes_from ∙ ap (λ (x : Resident). x.0) (only also.0 r also.2)
+      ] in
+      free is.0 is.2 (sym is.4.comes_from ∙ ap (λ (x : Edge). x.provider) e ∙ from_r))
+
+  -- A list without doubles of exactly these edges has as many of each kind.
+  pub touching_counted : (added : List Edge) → Pairwise Differ added → ((e : Edge) → In e added → Touches residents r e) → ((e : Edge) → Touches residents r e → In e added)
+      → (test : Edge → Bool) → count_by test added ≡ count_by test (edges_touching residents r)
+  touching_counted added differ gives has test =
+      same_counts test added (edges_touching residents r) differ touching_differ
+      (λ e m. touching_has residents r e (gives e m)) (λ e m. has e (touching_gives residents r e m))
