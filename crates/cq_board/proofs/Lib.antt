@@ -16,6 +16,7 @@ pub mod Kept
 pub mod Refusals
 pub mod Residents
 pub mod Pairwise
+pub mod Positions
 pub mod Rows
 pub mod Shown
 pub mod Touching
