@@ -17,6 +17,7 @@ pub mod Refusals
 pub mod Residents
 pub mod Pairwise
 pub mod Positions
+pub mod Graphs
 pub mod Rows
 pub mod Shown
 pub mod Touching

@@ -2,6 +2,7 @@
 use Rattle.std.proofs.Common.{◌≡◌, ℕ, ◌+◌, Bool, true, false, not, ◌==◌, List, [], ◌∷◌, ◌++◌, count_by, if◌then◌else◌, refl, ap, ◌∙◌, arith}
 use Rattle.std.specs.Prelude.{filter}
 use Rattle.std.specs.List.{flat_map, enumerate_from}
+use Rattle.std.proofs.lemmas.Bool.{not-true, not-false}
 use Rattle.std.proofs.lemmas.Grind.{flat_map-append}
 use Rattle.std.proofs.lemmas.List.Elements.{filter-append}
 use Rattle.std.proofs.lemmas.List.Sums.{sum_by-append}
@@ -40,14 +41,6 @@ module _ {X Y : Type 0} (test : Y → Bool) where
   filter-flat_map_none f none [] = refl
   filter-flat_map_none f none (x ∷ xs) =
       filter-append test (f x) (flat_map f xs) ∙ ap (λ ys. ys ++ filter test (flat_map f xs)) (none x) ∙ filter-flat_map_none f none xs
-
-not-true : (b : Bool) → not b ≡ true → b ≡ false
-not-true true e = cc
-not-true false e = refl
-
-not-false : (b : Bool) → not b ≡ false → b ≡ true
-not-false true e = refl
-not-false false e = cc
 
 module _ (p provider : ℕ) (head : ℕ × AtomRecord) (waiter : ℕ) (post : ℕ × AtomRecord) where
   edge_stays : (provider == p) ≡ false → (waiter == p) ≡ false → filter (is_apart p) (edge_if provider head waiter post) ≡ edge_if provider head waiter post
