@@ -18,6 +18,7 @@ pub mod Residents
 pub mod Pairwise
 pub mod Positions
 pub mod Graphs
+pub mod Sorted
 pub mod Rows
 pub mod Shown
 pub mod Touching

@@ -1,5 +1,7 @@
 -- Pending queries in places of their own, and the graph among them, whose nodes are the places in any order.
 use Rattle.std.specs.Prelude.{◌≡◌, ◌↔◌, ℕ, Bool, true, not, Some, ◌==◌, List, [], ◌∷◌, ◌++◌, length, map, filter, count_by, slice_index_or}
+use Rattle.std.specs.declared.cmp.Ordering.{Ordering}
+use Rattle.std.specs.Ordering.{nat_cmp, ordering_then}
 use Rattle.std.specs.List.{Contains, flat_map, enumerate_from, slice_get}
 use Rattle.cq_atom.specs.Atom.{AtomRecord}
 use Rattle.cq_match.specs.declared.edge.Edge.{Edge}
@@ -58,6 +60,10 @@ nodes_among able residents = map (λ r. (r.0, length r.1.query.posts, able r)) r
 -- The edge with other numbers for its ends.
 abbrev pub renamed : (ℕ → ℕ) → Edge → Edge
 renamed f edge = record { provider = f edge.provider; head = edge.head; waiter = f edge.waiter; post = edge.post }
+
+-- The order of edges: by waiter, then by postcondition, then by provider, then by head.
+abbrev pub edge_cmp : Edge → Edge → Ordering
+edge_cmp a b = ordering_then (ordering_then (ordering_then (nat_cmp a.waiter b.waiter) (nat_cmp a.post b.post)) (nat_cmp a.provider b.provider)) (nat_cmp a.head b.head)
 
 -- The nodes and the edges are those of the residents, in any order.
 pub record IsGraphOf (able : Resident → Bool) (residents : List Resident) (nodes : List (ℕ × ℕ × Bool)) (edges : List Edge) : Type 0 where
