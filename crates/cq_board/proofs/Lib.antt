@@ -19,6 +19,7 @@ pub mod Pairwise
 pub mod Positions
 pub mod Graphs
 pub mod Sorted
+pub mod Upkeep
 pub mod Rows
 pub mod Shown
 pub mod Touching
