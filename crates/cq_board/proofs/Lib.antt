@@ -20,6 +20,7 @@ pub mod Positions
 pub mod Graphs
 pub mod Sorted
 pub mod Upkeep
+pub mod Placed
 pub mod Rows
 pub mod Shown
 pub mod Touching

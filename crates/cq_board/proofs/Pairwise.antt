@@ -1,8 +1,7 @@
 -- Lists each two elements of which stand in a relation, the earlier to the later.
-use Rattle.std.proofs.Common.{◌≡◌, ℕ, ◌+◌, ◌<◌, ◌⊎◌, inl, inr, Bool, false, List, [], ◌∷◌, ◌++◌, map, count_by, if◌then◌else◌, refl, sym, ap, subst, ◌∙◌, arith}
-use Rattle.std.specs.Prelude.{nat_eq}
+use Rattle.std.proofs.Common.{◌≡◌, ℕ, ◌+◌, ◌<◌, ◌⊎◌, inl, inr, Bool, true, false, List, [], ◌∷◌, ◌++◌, map, count_by, if◌then◌else◌, refl, sym, ap, subst, ◌∙◌, arith}
 use Rattle.std.specs.List.{AllByRecursion, IsDistinct, flat_map, enumerate_from}
-use Rattle.std.proofs.lemmas.Bool.{eq-eqb}
+use Rattle.std.specs.Bool.{Decides}
 use Rattle.std.proofs.lemmas.List.Sums.{sum_by-append, sum_by-cons}
 use Rattle.cq_board.proofs.Members.{In, In-left, In-right, In-append, In-flat_map_gives}
 use Rattle.cq_board.proofs.Ends.{In-enumerate_from}
@@ -37,16 +36,24 @@ pub enumerate-rises : {X : Type 0} (n : ℕ) (xs : List X) → Pairwise (λ (p q
 enumerate-rises n [] = tt
 enumerate-rises n (x ∷ xs) = (λ q m. let found = In-enumerate_from (n + 1) xs q m in let at = found.1 in omega arith, enumerate-rises (n + 1) xs)
 
--- numbers that a list gives its elements, and that differ
-pub distinct-differ : {X : Type 0} (f : X → ℕ) (xs : List X) → IsDistinct nat_eq (map f xs) → Pairwise (λ x y. Differ (f x) (f y)) xs
+-- keys that a list gives its elements, and that differ
+pub distinct-differ : {X K : Type 0} (same : K → K → Bool) (decides : (k l : K) → Decides (same k l) (k ≡ l)) (f : X → K) (xs : List X) → IsDistinct same (map f xs) → Pairwise (λ x y. Differ (f x) (f y)) xs
 unfolding IsDistinct
-distinct-differ f [] h = tt
-distinct-differ {X} f (x ∷ xs) h = (λ y m e. apart xs h.0 y m e, distinct-differ f xs h.1)
+distinct-differ same decides f [] h = tt
+distinct-differ {X} {K} same decides f (x ∷ xs) h = (λ y m e. apart xs h.0 y m e, distinct-differ same decides f xs h.1)
   where
-    apart : (ys : List X) → AllByRecursion (λ n. nat_eq (f x) n ≡ false) (map f ys) → (y : X) → In y ys → f x ≡ f y → ⊥
+    apart : (ys : List X) → AllByRecursion (λ k. same (f x) k ≡ false) (map f ys) → (y : X) → In y ys → f x ≡ f y → ⊥
     apart [] all y m e = m
-    apart (z ∷ ys) all y (inl s) e = let t = eq-eqb (f x) (f z) (e ∙ ap f s) in let first = all.0 in cc
+    apart (z ∷ ys) all y (inl s) e = let t : same (f x) (f z) ≡ true = (decides (f x) (f z)).1 (e ∙ ap f s) in let first : same (f x) (f z) ≡ false = all.0 in cc
     apart (z ∷ ys) all y (inr m) e = apart ys all.1 y m e
+
+-- elements with the same key are one
+pub same-key : {X K : Type 0} (f : X → K) (xs : List X) → Pairwise (λ x y. Differ (f x) (f y)) xs → (x y : X) → In x xs → In y xs → f x ≡ f y → x ≡ y
+same-key f [] h x y m n e = absurd m
+same-key f (z ∷ xs) h x y (inl p) (inl q) e = p ∙ sym q
+same-key f (z ∷ xs) h x y (inl p) (inr n) e = absurd (h.0 y n (ap f (sym p) ∙ e))
+same-key f (z ∷ xs) h x y (inr m) (inl q) e = absurd (h.0 x m (ap f (sym q) ∙ sym e))
+same-key f (z ∷ xs) h x y (inr m) (inr n) e = same-key f xs h.1 x y m n e
 
 -- ---- lists without doubles that have the same members
 

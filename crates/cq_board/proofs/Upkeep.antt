@@ -47,7 +47,7 @@ same-map f xs ys same =
     (λ y h. let found = In-map_gives f xs y h in subst (λ z. In z (map f ys)) (sym found.2) (In-map f ys found.0 (same-In xs ys same found.0 found.1)))
     (λ y h. let found = In-map_gives f ys y h in subst (λ z. In z (map f xs)) (sym found.2) (In-map f xs found.0 (same-In_back xs ys same found.0 found.1)))
 
-filter-by_map : {X Y : Type 0} (f : X → Y) (p : X → Bool) (q : Y → Bool) (xs : List X) → ((x : X) → In x xs → p x ≡ q (f x)) → map f (filter p xs) ≡ filter q (map f xs)
+pub filter-by_map : {X Y : Type 0} (f : X → Y) (p : X → Bool) (q : Y → Bool) (xs : List X) → ((x : X) → In x xs → p x ≡ q (f x)) → map f (filter p xs) ≡ filter q (map f xs)
 filter-by_map f p q [] same = refl
 filter-by_map f p q (x ∷ xs) same =
     let rest = filter-by_map f p q xs (λ y m. same y (inr m)) in

@@ -1,12 +1,17 @@
 -- Pending queries in places of their own, and the graph among them, whose nodes are the places in any order.
-use Rattle.std.specs.Prelude.{◌≡◌, ◌↔◌, ℕ, Bool, true, not, Some, ◌==◌, List, [], ◌∷◌, ◌++◌, length, map, filter, count_by, slice_index_or}
+use Rattle.std.specs.Prelude.{◌≡◌, ◌↔◌, ℕ, Bool, true, not, Some, option_map, if◌then◌else◌, nat_eq, ◌==◌, List, [], ◌∷◌, ◌++◌, length, map, filter, count_by, slice_index_or}
 use Rattle.std.specs.declared.cmp.Ordering.{Ordering}
 use Rattle.std.specs.Ordering.{nat_cmp, ordering_then}
+use Rattle.std.specs.Map.{lookup}
 use Rattle.std.specs.List.{Contains, flat_map, enumerate_from, slice_get}
 use Rattle.cq_atom.specs.Atom.{AtomRecord}
 use Rattle.cq_match.specs.declared.edge.Edge.{Edge}
+use Rattle.cq_match.specs.Graph.{provider_count, is_crowd}
 use Rattle.cq_board.specs.Supply.{unifies}
+use Rattle.cq_board.specs.declared.link.Link.{Link}
+use Rattle.cq_board.specs.declared.link.Crowd.{Crowd}
 use Rattle.cq_board.specs.Pool.{PendingQuery}
+use Rattle.cq_board.specs.Board.{name_or_none}
 use Rattle.cq_board.specs.Edges.{edge_if}
 
 -- A pending query with its place. Lists of residents are in posting order.
@@ -64,6 +69,24 @@ renamed f edge = record { provider = f edge.provider; head = edge.head; waiter =
 -- The order of edges: by waiter, then by postcondition, then by provider, then by head.
 abbrev pub edge_cmp : Edge → Edge → Ordering
 edge_cmp a b = ordering_then (ordering_then (ordering_then (nat_cmp a.waiter b.waiter) (nat_cmp a.post b.post)) (nat_cmp a.provider b.provider)) (nat_cmp a.head b.head)
+
+-- The postcondition of a resident, where it has a crowd of providers among the edges by places.
+abbrev pub crowd_at_place : List Edge → Resident → ℕ × AtomRecord → List (Crowd (List ℕ))
+crowd_at_place edges r (post, wanted) =
+    let count = provider_count r.0 post edges in
+    if is_crowd count then (record { waiter = r.1.name; post = post; providers = count }) ∷ [] else []
+
+-- The crowded postconditions of residents, in posting order.
+abbrev pub crowds_among : List Edge → List Resident → List (Crowd (List ℕ))
+crowds_among edges residents = flat_map (λ r. flat_map (crowd_at_place edges r) (enumerate_from 0 r.1.query.posts)) residents
+
+-- The name of the resident in that place.
+abbrev pub name_in : List Resident → ℕ → List ℕ
+name_in residents place = name_or_none (option_map (λ q. q.name) (lookup (nat_eq place) residents))
+
+-- An edge by places, by the names of its ends.
+abbrev pub link_in : List Resident → Edge → Link (List ℕ)
+link_in residents edge = record { provider = name_in residents edge.provider; head = edge.head; waiter = name_in residents edge.waiter; post = edge.post }
 
 -- The nodes and the edges are those of the residents, in any order.
 pub record IsGraphOf (able : Resident → Bool) (residents : List Resident) (nodes : List (ℕ × ℕ × Bool)) (edges : List Edge) : Type 0 where
