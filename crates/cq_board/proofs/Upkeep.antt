@@ -4,6 +4,7 @@ use Rattle.std.specs.Prelude.{filter, nat_eq}
 use Rattle.std.specs.List.{All, Any, AllByRecursion, Contains, IsDistinct}
 use Rattle.std.specs.Set.{is_member}
 use Rattle.std.proofs.lemmas.Bool.{eqb-true}
+use Rattle.std.proofs.lemmas.Bool.Decides.{Decides-eqb}
 use Rattle.std.proofs.lemmas.Cmp.{nat_eq_equiv}
 use Rattle.std.proofs.lemmas.List.{map-append}
 use Rattle.std.proofs.lemmas.Map.Keys.{IsDistinct-push}
@@ -16,8 +17,8 @@ use Rattle.cq_board.proofs.Members.{by_bool, In, In-left, In-right, In-append, a
 use Rattle.cq_board.proofs.Ends.{In-filter_among}
 use Rattle.cq_board.proofs.Among.{Contains-In, In-Contains, All-In, Any-In}
 use Rattle.cq_board.proofs.Residents.{edges_withdrawn, edges_posted}
-use Rattle.cq_board.proofs.Pairwise.{Differ}
-use Rattle.cq_board.proofs.Touching.{Touches}
+use Rattle.cq_board.proofs.Pairwise.{Pairwise, Differ, distinct-differ}
+use Rattle.cq_board.proofs.Touching.{Touches, touching_counted}
 use Rattle.cq_board.proofs.Graphs.{one_if, count-cons, numbers_among}
 
 -- ---- lists with the same members
@@ -93,6 +94,10 @@ nodes-same able other (r ∷ residents) same =
 -- No residents have no nodes and no edges.
 pub graph_opening : (able : Resident → Bool) → IsGraphOf able [] [] []
 graph_opening able = record { same_nodes = λ node. (λ h. h, λ h. h); same_edges = λ test. refl }
+
+-- The nodes and edges among residents are their graph.
+pub graph_itself : (able : Resident → Bool) (residents : List Resident) → IsGraphOf able residents (nodes_among able residents) (edges_among residents)
+graph_itself able residents = record { same_nodes = λ node. (λ h. h, λ h. h); same_edges = λ test. refl }
 
 -- Where the flags are the same, the graph is.
 pub graph_reflagged : (able other : Resident → Bool) (residents : List Resident) (nodes : List (ℕ × ℕ × Bool)) (edges : List Edge) → ((r : Resident) → In r residents → able r ≡ other r)
@@ -202,6 +207,15 @@ module _ (able : Resident → Bool) (residents : List Resident) (nodes : List (�
     pub added_ends : (added : List Edge) → ((e : Edge) → In e added → Touches residents r e)
         → All (λ (edge : Edge). Contains (numbers ((r.0, length r.1.query.posts, able r) ∷ nodes)) edge.provider × Any (λ (node : ℕ × ℕ × Bool). (node.0 ≡ edge.waiter) × (edge.post < node.1)) ((r.0, length r.1.query.posts, able r) ∷ nodes)) added
     added_ends added touches = All-In Ends added (λ e m. touch_ends e (touches e m))
+
+    -- A resident comes in a free place, with exactly the edges that touch it, each once.
+    pub graph_added : IsDistinct nat_eq (places_of residents) → is_member nat_eq (numbers nodes) r.0 ≡ false → (nodes' : List (ℕ × ℕ × Bool)) (edges' added : List Edge)
+        → with_number r.0 nodes' ≡ (r.0, length r.1.query.posts, able r) ∷ [] → without r.0 nodes' ≡ nodes → ((test : Edge → Bool) → count_by test edges' ≡ count_by test edges + count_by test added)
+        → Pairwise Differ added → ((e : Edge) → In e added → Touches residents r e) → ((e : Edge) → Touches residents r e → In e added)
+        → IsGraphOf able (residents ++ r ∷ []) nodes' edges'
+    graph_added distinct none nodes' edges' added new old more once touches all =
+        graph_posted r nodes' edges' added new old more
+        (touching_counted residents r (distinct-differ nat_eq Decides-eqb (λ (x : Resident). x.0) residents distinct) (graph_free r.0 none) added once touches all)
 
 -- Edges that touch a resident are not apart from its place.
 pub added_touch : (residents : List Resident) (r : Resident) (added : List Edge) → ((e : Edge) → In e added → Touches residents r e) → All (λ (edge : Edge). is_apart r.0 edge ≡ false) added
