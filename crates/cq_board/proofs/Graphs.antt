@@ -141,40 +141,47 @@ module _ (flag : PendingQuery → Bool) (residents : List Resident) (distinct : 
       let e = get_or (edges_of pending) k d in
       (position-known e.provider (omega arith), position-known e.waiter (omega arith))
 
-  module _ (nodes : List (ℕ × ℕ × Bool)) (edges : List Edge) (graph : IsGraphOf (λ r. flag r.1) residents nodes edges) (i : ℕ) (low : i < length residents) where
-    -- The node of a query is matched as the query is at its position.
-    pub graph_matched : is_matched nodes edges (place_at residents i) ≡ is_matched (nodes_among (λ p. flag p.1) (enumerate_from 0 (queries_of residents))) (edges_of (queries_of residents)) i
-    graph_matched =
-        let n = place_at residents i in
-        matched-reordered nodes (nodes_among (λ r. flag r.1) residents) edges (edges_among residents) graph.same_nodes (λ test. any-same test edges (edges_among residents) (graph.same_edges test)) n
-        ∙ ap (λ (es : List Edge). is_matched (nodes_among (λ r. flag r.1) residents) es n) (sym (edges_placed residents))
-        ∙ ap (λ (ns : List (ℕ × ℕ × Bool)). is_matched ns (map (renamed (place_at residents)) (edges_of pending)) n)
-        (sym (nodes_moved flag (place_at residents) (enumerate_from 0 pending) ∙ ap (nodes_among (λ r. flag r.1)) (residents_moved residents)))
-        ∙ matched-renamed (place_at residents) at_positions (edges_of pending)
-        (λ a b known also same. place-injective residents distinct a b (known-position a known) (known-position b also) same)
-        edges-within i (position-known i low)
-
-    -- A postcondition has as many providers.
-    pub graph_providers : (post : ℕ) → provider_count (place_at residents i) post edges ≡ provider_count i post (edges_of (queries_of residents))
-    graph_providers post =
-        let n = place_at residents i in
+  module _ (nodes : List (ℕ × ℕ × Bool)) (edges : List Edge) (graph : IsGraphOf (λ r. flag r.1) residents nodes edges) where
+    -- Edges that pass a test by their places are as many as those that pass it by their positions.
+    pub graph_counted : (by_place by_position : Edge → Bool) → ((e : Edge) → e.provider < length residents → e.waiter < length residents → by_place (renamed (place_at residents) e) ≡ by_position e)
+        → count_by by_place edges ≡ count_by by_position (edges_of (queries_of residents))
+    graph_counted by_place by_position same =
         let f = place_at residents in
-        length-filter (leads_to n post) edges ∙ graph.same_edges (leads_to n post) ∙ ap (count_by (leads_to n post)) (sym (edges_placed residents))
-        ∙ count-map (leads_to n post) (renamed f) (edges_of pending)
-        ∙ count-same (λ e. leads_to n post (renamed f e)) (leads_to i post) (edges_of pending)
+        graph.same_edges by_place ∙ ap (count_by by_place) (sym (edges_placed residents)) ∙ count-map by_place (renamed f) (edges_of pending)
+        ∙ count-same (λ e. by_place (renamed f e)) by_position (edges_of pending)
         (λ k d inside.
-        let e = get_or (edges_of pending) k d in
         let ends = HasEnds-at pending (edges_of pending) refl k d inside in
         let len = pending-length in
-        let waiter : e.waiter < length residents = let w = ends.waiter in omega arith in
-        ap (λ (b : Bool). b && eqb e.post post) (same-place e.waiter waiter))
-        ∙ sym (length-filter (leads_to i post) (edges_of pending))
-      where
-        same-place : (w : ℕ) → w < length residents → eqb (place_at residents w) (place_at residents i) ≡ eqb w i
-        same-place w inside =
-            by_bool (eqb w i) (eqb (place_at residents w) (place_at residents i) ≡ eqb w i)
-            (λ t. eq-eqb (place_at residents w) (place_at residents i) (ap (place_at residents) (eqb-true w i t)) ∙ sym t)
-            (λ f. ne_eqb (place_at residents w) (place_at residents i) (λ e. let is = place-injective residents distinct w i inside low e in let t = eq-eqb w i is in cc) ∙ sym f)
+        let provider = ends.provider in
+        let waiter = ends.waiter in
+        same (get_or (edges_of pending) k d) (omega arith) (omega arith))
+
+    module _ (i : ℕ) (low : i < length residents) where
+      -- The node of a query is matched as the query is at its position.
+      pub graph_matched : is_matched nodes edges (place_at residents i) ≡ is_matched (nodes_among (λ p. flag p.1) (enumerate_from 0 (queries_of residents))) (edges_of (queries_of residents)) i
+      graph_matched =
+          let n = place_at residents i in
+          matched-reordered nodes (nodes_among (λ r. flag r.1) residents) edges (edges_among residents) graph.same_nodes (λ test. any-same test edges (edges_among residents) (graph.same_edges test)) n
+          ∙ ap (λ (es : List Edge). is_matched (nodes_among (λ r. flag r.1) residents) es n) (sym (edges_placed residents))
+          ∙ ap (λ (ns : List (ℕ × ℕ × Bool)). is_matched ns (map (renamed (place_at residents)) (edges_of pending)) n)
+          (sym (nodes_moved flag (place_at residents) (enumerate_from 0 pending) ∙ ap (nodes_among (λ r. flag r.1)) (residents_moved residents)))
+          ∙ matched-renamed (place_at residents) at_positions (edges_of pending)
+          (λ a b known also same. place-injective residents distinct a b (known-position a known) (known-position b also) same)
+          edges-within i (position-known i low)
+
+      -- A postcondition has as many providers.
+      pub graph_providers : (post : ℕ) → provider_count (place_at residents i) post edges ≡ provider_count i post (edges_of (queries_of residents))
+      graph_providers post =
+          let n = place_at residents i in
+          length-filter (leads_to n post) edges
+          ∙ graph_counted (leads_to n post) (leads_to i post) (λ e provider waiter. ap (λ (b : Bool). b && eqb e.post post) (same-place e.waiter waiter))
+          ∙ sym (length-filter (leads_to i post) (edges_of pending))
+        where
+          same-place : (w : ℕ) → w < length residents → eqb (place_at residents w) (place_at residents i) ≡ eqb w i
+          same-place w inside =
+              by_bool (eqb w i) (eqb (place_at residents w) (place_at residents i) ≡ eqb w i)
+              (λ t. eq-eqb (place_at residents w) (place_at residents i) (ap (place_at residents) (eqb-true w i t)) ∙ sym t)
+              (λ f. ne_eqb (place_at residents w) (place_at residents i) (λ e. let is = place-injective residents distinct w i inside low e in let t = eq-eqb w i is in cc) ∙ sym f)
 
 -- Where all are able, the node of a query is matched exactly where the query is.
 pub graph_matched_at : (residents : List Resident) → IsDistinct nat_eq (places_of residents) → (nodes : List (ℕ × ℕ × Bool)) (edges : List Edge) → IsGraphOf (λ r. true) residents nodes edges

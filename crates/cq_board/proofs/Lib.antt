@@ -21,6 +21,7 @@ pub mod Graphs
 pub mod Sorted
 pub mod Upkeep
 pub mod Placed
+pub mod Linked
 pub mod Rows
 pub mod Shown
 pub mod Touching

@@ -1,16 +1,19 @@
 -- Pending queries in places of their own, and the graph among them, whose nodes are the places in any order.
-use Rattle.std.specs.Prelude.{◌≡◌, ◌↔◌, ℕ, Bool, true, not, Some, option_map, if◌then◌else◌, nat_eq, ◌==◌, List, [], ◌∷◌, ◌++◌, length, map, filter, count_by, slice_index_or}
+use Rattle.std.specs.Prelude.{◌≡◌, ◌↔◌, ℕ, Bool, true, not, Option, Some, option_map, find, if◌then◌else◌, nat_eq, ◌==◌, List, [], ◌∷◌, ◌++◌, length, map, filter, count_by, slice_index_or}
 use Rattle.std.specs.declared.cmp.Ordering.{Ordering}
 use Rattle.std.specs.Ordering.{nat_cmp, ordering_then}
 use Rattle.std.specs.Map.{lookup}
+use Rattle.std.specs.Option.{option_map_or}
 use Rattle.std.specs.List.{Contains, flat_map, enumerate_from, slice_get}
 use Rattle.cq_atom.specs.Atom.{AtomRecord}
+use Rattle.cq_atom.specs.Unify.{Unify}
 use Rattle.cq_match.specs.declared.edge.Edge.{Edge}
 use Rattle.cq_match.specs.Graph.{provider_count, is_crowd}
 use Rattle.cq_board.specs.Supply.{unifies}
 use Rattle.cq_board.specs.declared.link.Link.{Link}
 use Rattle.cq_board.specs.declared.link.Crowd.{Crowd}
 use Rattle.cq_board.specs.Pool.{PendingQuery}
+use Rattle.cq_board.specs.Edits.{is_named}
 use Rattle.cq_board.specs.Board.{name_or_none}
 use Rattle.cq_board.specs.Edges.{edge_if}
 
@@ -57,6 +60,25 @@ pub record Supplies (provider waiter : Resident) (edge : Edge) : Type 0 where
   pub head : slice_get provider.1.query.heads edge.head ≡ Some offered
   pub post : slice_get waiter.1.query.posts edge.post ≡ Some wanted
   pub unify : unifies offered wanted ≡ true
+
+-- What the resident in that place offers, and what it waits for; nothing where there is none.
+abbrev pub heads_in : List Resident → ℕ → List AtomRecord
+heads_in residents place = option_map_or (λ q. q.query.heads) (lookup (nat_eq place) residents) []
+
+abbrev pub posts_in : List Resident → ℕ → List AtomRecord
+posts_in residents place = option_map_or (λ q. q.query.posts) (lookup (nat_eq place) residents) []
+
+-- The edge leads from one of the heads at its provider's place to one of the postconditions at its waiter's place, and the two unify.
+pub record IsLinked (heads posts : ℕ → List AtomRecord) (edge : Edge) : Type 0 where
+  pub offered : AtomRecord
+  pub wanted : AtomRecord
+  pub head : slice_get (heads edge.provider) edge.head ≡ Some offered
+  pub post : slice_get (posts edge.waiter) edge.post ≡ Some wanted
+  pub unify : Unify offered wanted
+
+-- The place of the resident whose query has the name.
+abbrev pub place_in : List ℕ → List Resident → Option ℕ
+place_in name residents = option_map (λ r. r.0) (find (λ r. is_named name r.1) residents)
 
 -- The nodes: each place with its query's number of postconditions, and whether it is able.
 abbrev pub nodes_among : (Resident → Bool) → List Resident → List (ℕ × ℕ × Bool)
