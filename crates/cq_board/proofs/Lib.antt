@@ -22,6 +22,7 @@ pub mod Sorted
 pub mod Upkeep
 pub mod Placed
 pub mod Linked
+pub mod Calling
 pub mod Rows
 pub mod Shown
 pub mod Touching

@@ -48,6 +48,14 @@ flat_map-same : {X Y : Type 0} (f g : X → List Y) (xs : List X) → ((x : X) �
 flat_map-same f g [] same = refl
 flat_map-same f g (x ∷ xs) same = ap (λ ys. ys ++ flat_map f xs) (same x (inl refl)) ∙ ap (λ ys. g x ++ ys) (flat_map-same f g xs (λ y m. same y (inr m)))
 
+filter-same : {X : Type 0} (p q : X → Bool) (xs : List X) → ((x : X) → In x xs → p x ≡ q x) → filter p xs ≡ filter q xs
+filter-same p q [] same = refl
+filter-same p q (x ∷ xs) same =
+    let rest = filter-same p q xs (λ y m. same y (inr m)) in
+    by_bool (q x) (filter p (x ∷ xs) ≡ filter q (x ∷ xs))
+    (λ t. let here : p x ≡ true = same x (inl refl) ∙ t in rw (t, here) (ap (λ ys. x ∷ ys) rest))
+    (λ t. let here : p x ≡ false = same x (inl refl) ∙ t in rw (t, here) rest)
+
 -- ---- tests at places and at positions
 
 module _ (residents : List Resident) (at_position at_place : ℕ → Bool) (same : (i : ℕ) → i < length residents → at_place (place_at residents i) ≡ at_position i) where
@@ -82,7 +90,7 @@ module _ (residents : List Resident) (at_position at_place : ℕ → Bool) (same
           (λ t. elim (rw t at h) as (λ _. In x (y ∷ xs)) [ inl e ↦ inl e | inr k ↦ inr (among x xs k) ])
           (λ f. inr (among x xs (rw f at h)))
 
-slice_get-some : {X : Type 0} (xs : List X) (i : ℕ) → i < length xs → (x : X) × (slice_get xs i ≡ Some x)
+pub slice_get-some : {X : Type 0} (xs : List X) (i : ℕ) → i < length xs → (x : X) × (slice_get xs i ≡ Some x)
 slice_get-some [] i low = absurd (omega arith)
 slice_get-some (x ∷ xs) zero low = (x, refl)
 slice_get-some (x ∷ xs) (suc i) low = slice_get-some xs i (omega arith)
@@ -118,32 +126,39 @@ module _ (residents : List Resident) (distinct : IsDistinct nat_eq (places_of re
       ∙ sym (map-map (link_in residents) (renamed f) (edges_of pending))
       ∙ ap (map (link_in residents)) (edges_placed residents)
 
-  -- The queries that are left are those without the name of the one that goes.
-  pub queries_withdrawn : (r : Resident) → In r residents → IsDistinct bytes_eq (map name_of (queries_of residents))
-      → queries_of (all_but r.0 residents) ≡ filter (λ other. not (is_named r.1.name other)) (queries_of residents)
-  queries_withdrawn r there named =
-      filter-by_map (λ (x : Resident). x.1) (λ x. not (nat_eq x.0 r.0)) (λ other. not (is_named r.1.name other)) residents (λ x m. ap not (alike x m))
-    where
-      by_names : Pairwise (λ (x y : Resident). Differ x.1.name y.1.name) residents
-      by_names = distinct-differ bytes_eq bytes_eq-Decides (λ (x : Resident). x.1.name) residents (subst (IsDistinct bytes_eq) (map-map name_of (λ (x : Resident). x.1) residents) named)
+  module _ (r : Resident) (there : In r residents) (named : IsDistinct bytes_eq (map name_of (queries_of residents))) where
+    -- one resident has the place, and the same one has the name
+    pub place-name : (x : Resident) → In x residents → nat_eq x.0 r.0 ≡ is_named r.1.name x.1
+    place-name = alike
+      where
+        by_names : Pairwise (λ (x y : Resident). Differ x.1.name y.1.name) residents
+        by_names = distinct-differ bytes_eq bytes_eq-Decides (λ (x : Resident). x.1.name) residents (subst (IsDistinct bytes_eq) (map-map name_of (λ (x : Resident). x.1) residents) named)
 
-      by_places : Pairwise (λ (x y : Resident). Differ x.0 y.0) residents
-      by_places = distinct-differ nat_eq Decides-eqb (λ (x : Resident). x.0) residents distinct
+        by_places : Pairwise (λ (x y : Resident). Differ x.0 y.0) residents
+        by_places = distinct-differ nat_eq Decides-eqb (λ (x : Resident). x.0) residents distinct
 
-      alike : (x : Resident) → In x residents → nat_eq x.0 r.0 ≡ is_named r.1.name x.1
-      alike x m =
-          by_bool (is_named r.1.name x.1) (nat_eq x.0 r.0 ≡ is_named r.1.name x.1)
-          (λ t.
-          let name : x.1.name ≡ r.1.name = sym ((bytes_eq-Decides r.1.name x.1.name).0 t) in
-          let one : x ≡ r = same-key (λ (y : Resident). y.1.name) residents by_names x r m there name in
-          (Decides-eqb x.0 r.0).1 (ap (λ (y : Resident). y.0) one) ∙ sym t)
-          (λ f.
-          by_bool (nat_eq x.0 r.0) (nat_eq x.0 r.0 ≡ is_named r.1.name x.1)
-          (λ t.
-          let one : x ≡ r = same-key (λ (y : Resident). y.0) residents by_places x r m there ((Decides-eqb x.0 r.0).0 t) in
-          let named_so : is_named r.1.name x.1 ≡ true = (bytes_eq-Decides r.1.name x.1.name).1 (sym (ap (λ (y : Resident). y.1.name) one)) in
-          absurd (let never : true ≡ false = sym named_so ∙ f in cc))
-          (λ g. g ∙ sym f))
+        alike : (x : Resident) → In x residents → nat_eq x.0 r.0 ≡ is_named r.1.name x.1
+        alike x m =
+            by_bool (is_named r.1.name x.1) (nat_eq x.0 r.0 ≡ is_named r.1.name x.1)
+            (λ t.
+            let name : x.1.name ≡ r.1.name = sym ((bytes_eq-Decides r.1.name x.1.name).0 t) in
+            let one : x ≡ r = same-key (λ (y : Resident). y.1.name) residents by_names x r m there name in
+            (Decides-eqb x.0 r.0).1 (ap (λ (y : Resident). y.0) one) ∙ sym t)
+            (λ f.
+            by_bool (nat_eq x.0 r.0) (nat_eq x.0 r.0 ≡ is_named r.1.name x.1)
+            (λ t.
+            let one : x ≡ r = same-key (λ (y : Resident). y.0) residents by_places x r m there ((Decides-eqb x.0 r.0).0 t) in
+            let named_so : is_named r.1.name x.1 ≡ true = (bytes_eq-Decides r.1.name x.1.name).1 (sym (ap (λ (y : Resident). y.1.name) one)) in
+            absurd (let never : true ≡ false = sym named_so ∙ f in cc))
+            (λ g. g ∙ sym f))
+
+    -- Those that are left are those without the name of the one that goes.
+    pub residents_withdrawn : all_but r.0 residents ≡ filter (λ x. not (is_named r.1.name x.1)) residents
+    residents_withdrawn = filter-same (λ (x : Resident). not (nat_eq x.0 r.0)) (λ x. not (is_named r.1.name x.1)) residents (λ x m. ap not (place-name x m))
+
+    pub queries_withdrawn : queries_of (all_but r.0 residents) ≡ filter (λ other. not (is_named r.1.name other)) (queries_of residents)
+    queries_withdrawn =
+        filter-by_map (λ (x : Resident). x.1) (λ x. not (nat_eq x.0 r.0)) (λ other. not (is_named r.1.name other)) residents (λ x m. ap not (place-name x m))
 
   module _ (flag : PendingQuery → Bool) (nodes : List (ℕ × ℕ × Bool)) (edges : List Edge) (graph : IsGraphOf (λ r. flag r.1) residents nodes edges) where
     abbrev crowd_of : ℕ → List ℕ → ℕ → List (Crowd (List ℕ))
