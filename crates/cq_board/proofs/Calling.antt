@@ -1,25 +1,31 @@
 -- Residents by their names: what is found by a name at a place is what is found at a position.
-use Rattle.std.proofs.Common.{◌≡◌, ℕ, ◌+◌, ◌<◌, ◌⊎◌, inl, inr, Bool, true, not, ltb, List, [], ◌∷◌, length, map, refl, sym, ap, ◌∙◌, Option, Some, None, if◌then◌else◌}
-use Rattle.std.specs.Prelude.{nat_eq, option_map, find}
+use Rattle.std.proofs.Common.{false, true, ◌≡◌, ℕ, ◌+◌, ◌<◌, ◌⊎◌, inl, inr, Bool, not, ltb, List, [], ◌∷◌, length, map, refl, sym, ap, ◌∙◌, Option, Some, None, if◌then◌else◌, eq-eqb, suc, zero, count_by, subst, ◌&&◌}
+use Rattle.std.specs.Prelude.{nat_eq, option_map, find, filter}
 use Rattle.std.specs.List.{IsDistinct, slice_get, position_or_len}
-use Rattle.std.specs.Option.{option_and_then}
+use Rattle.std.specs.Option.{option_and_then, option_map_or}
 use Rattle.std.specs.Str.{bytes_eq}
 use Rattle.std.proofs.Math.ListN.{length-map}
-use Rattle.std.proofs.lemmas.Bool.{ltb-true, ltb-false}
+use Rattle.std.proofs.lemmas.Bool.{ltb-true, ltb-false, eqb-true}
 use Rattle.std.proofs.lemmas.List.Folds.{find_at}
 use Rattle.std.proofs.lemmas.Option.{slice_get_past, slice_get-map, get_or_from_slice_get}
 use Rattle.std.proofs.lemmas.Slice.Eq.{bytes_eq-Decides}
 use Rattle.cq_match.specs.declared.edge.Edge.{Edge}
-use Rattle.cq_match.specs.Matched.{is_matched}
-use Rattle.cq_board.specs.Pool.{PendingQuery}
+use Rattle.cq_match.specs.Matched.{is_matched, numbers}
+use Rattle.cq_board.specs.Pool.{PendingQuery, name_of}
 use Rattle.cq_board.specs.Edits.{is_named}
-use Rattle.cq_board.specs.Board.{place_of, is_matched_at}
+use Rattle.cq_board.specs.Board.{place_of, is_matched_at, name_at, name_or_none}
 use Rattle.cq_board.specs.Named.{matched_named}
-use Rattle.cq_board.specs.Steps.Residents.{Resident, places_of, queries_of, place_at, place_in, IsGraphOf}
-use Rattle.cq_board.proofs.Members.{by_bool, In}
-use Rattle.cq_board.proofs.Pairwise.{Pairwise, Differ, distinct-differ}
-use Rattle.cq_board.proofs.Graphs.{graph_matched_at}
-use Rattle.cq_board.proofs.Placed.{slice_get-some}
+use Rattle.cq_board.specs.Steps.Residents.{Resident, places_of, queries_of, place_at, place_in, IsGraphOf, all_but}
+use Rattle.cq_board.proofs.Members.{by_bool, In, any_gives, any_has, In-map_gives, In-filter, In-filter_gives}
+use Rattle.cq_board.proofs.Pairwise.{Pairwise, Differ, distinct-differ, same-key, Pairwise-filter}
+use Rattle.cq_board.proofs.Graphs.{graph_matched_at, graph_counted}
+use Rattle.cq_board.proofs.Placed.{slice_get-some, residents_withdrawn, map-map}
+use Rattle.std.specs.Set.{is_member}
+use Rattle.std.proofs.lemmas.Bool.Decides.{Decides-eqb}
+use Rattle.cq_match.proofs.Renaming.{matched-known}
+use Rattle.cq_board.specs.Edges.{edges_of}
+use Rattle.cq_board.proofs.Among.{In-Contains}
+use Rattle.cq_board.proofs.Upkeep.{places_withdrawn, graph_has}
 
 first-mapped : {X Y : Type 0} (p : Y → Bool) (f : X → Y) (xs : List X) → position_or_len p (map f xs) ≡ position_or_len (λ x. p (f x)) xs
 first-mapped p f [] = refl
@@ -87,16 +93,92 @@ module _ (residents : List Resident) where
     matched_called name =
         called_tested (is_matched_at (queries_of residents)) (is_matched nodes edges) (λ i low. graph_matched_at residents distinct nodes edges graph i low) name
 
--- A resident is found by its name, where names are distinct.
-pub found_called : (residents : List Resident) → IsDistinct bytes_eq (map (λ r. r.1.name) residents) → (r : Resident) → In r residents → find (λ x. is_named r.1.name x.1) residents ≡ Some r
-found_called residents named r m = first residents (distinct-differ bytes_eq bytes_eq-Decides (λ (x : Resident). x.1.name) residents named) m
+abbrev pub OwnNames : List Resident → Type 0
+OwnNames residents = Pairwise (λ (x y : Resident). Differ x.1.name y.1.name) residents
+
+-- A resident is found by its name, where each has a name of its own.
+pub found_called : (residents : List Resident) → OwnNames residents → (r : Resident) → In r residents → find (λ x. is_named r.1.name x.1) residents ≡ Some r
+found_called [] h r m = absurd m
+found_called (x ∷ residents) h r (inl e) =
+    let t : is_named r.1.name x.1 ≡ true = (bytes_eq-Decides r.1.name x.1.name).1 (ap (λ (y : Resident). y.1.name) e) in
+    rw t (ap Some (sym e))
+found_called (x ∷ residents) h r (inr m) =
+    by_bool (is_named r.1.name x.1) (find (λ y. is_named r.1.name y.1) (x ∷ residents) ≡ Some r)
+    (λ t. absurd (h.0 r m (sym ((bytes_eq-Decides r.1.name x.1.name).0 t))))
+    (λ f. rw f (found_called residents h.1 r m))
+
+pub own_names : (residents : List Resident) → IsDistinct bytes_eq (map name_of (queries_of residents)) → OwnNames residents
+own_names residents named =
+    distinct-differ bytes_eq bytes_eq-Decides (λ (x : Resident). x.1.name) residents (subst (IsDistinct bytes_eq) (map-map name_of (λ (x : Resident). x.1) residents) named)
+
+-- ---- a query that has gone
+
+left-out : (p : Resident → Bool) (residents : List Resident) → find p (filter (λ x. not (p x)) residents) ≡ None
+left-out p [] = refl
+left-out p (x ∷ residents) =
+    by_bool (p x) (find p (filter (λ y. not (p y)) (x ∷ residents)) ≡ None) (λ t. rw t (left-out p residents)) (λ f. rw (f, f) (left-out p residents))
+
+-- matched, where there is one to be matched
+abbrev pub and_there : Option Bool → Bool
+and_there o = option_map_or (λ b. b) o false
+
+module _ (residents : List Resident) (distinct : IsDistinct nat_eq (places_of residents)) (named : IsDistinct bytes_eq (map name_of (queries_of residents))) (r : Resident) (there : In r residents)
+    (nodes : List (ℕ × ℕ × Bool)) (edges : List Edge) (graph : IsGraphOf (λ x. true) (all_but r.0 residents) nodes edges) where
+  abbrev rest : List Resident
+  rest = all_but r.0 residents
+
+  called-rest : (name : List ℕ) → matched_named name (queries_of rest) ≡ option_map (is_matched nodes edges) (place_in name rest)
+  called-rest = matched_called rest (places_withdrawn r.0 residents distinct) nodes edges graph
+
+  not-matched : is_matched nodes edges r.0 ≡ false
+  not-matched =
+      by_bool (is_matched nodes edges r.0) (is_matched nodes edges r.0 ≡ false)
+      (λ t.
+      let known = In-Contains (numbers nodes) r.0 (matched-known nodes edges r.0 t) in
+      let member : is_member nat_eq (places_of rest) r.0 ≡ true = sym (graph_has (λ x. true) rest nodes edges graph r.0) ∙ any_has (nat_eq r.0) (numbers nodes) r.0 known (eq-eqb r.0 r.0 refl) in
+      let place = any_gives (nat_eq r.0) (places_of rest) member in
+      let of = In-map_gives (λ (x : Resident). x.0) rest place.0 place.1 in
+      let apart : not (nat_eq of.0.0 r.0) ≡ true = In-filter_gives (λ (x : Resident). not (nat_eq x.0 r.0)) residents of.0 of.1 in
+      let is : nat_eq of.0.0 r.0 ≡ true = eq-eqb of.0.0 r.0 (sym of.2 ∙ sym (eqb-true r.0 place.0 place.2)) in
+      absurd (let never : false ≡ true = sym (ap not is) ∙ apart in cc))
+      (λ f. f)
+
+  -- Where a query has gone, whoever was there is matched at its place exactly where it is by its name.
+  pub matched_left : (x : Resident) → In x residents → is_matched nodes edges x.0 ≡ and_there (matched_named x.1.name (queries_of rest))
+  matched_left x m =
+      by_bool (nat_eq x.0 r.0) (is_matched nodes edges x.0 ≡ and_there (matched_named x.1.name (queries_of rest)))
+      (λ t.
+      let one : x ≡ r = same-key (λ (y : Resident). y.0) residents (distinct-differ nat_eq Decides-eqb (λ (y : Resident). y.0) residents distinct) x r m there (eqb-true x.0 r.0 t) in
+      let none : find (λ y. is_named r.1.name y.1) rest ≡ None = ap (find (λ y. is_named r.1.name y.1)) (residents_withdrawn residents distinct r there named) ∙ left-out (λ y. is_named r.1.name y.1) residents in
+      let gone : matched_named r.1.name (queries_of rest) ≡ None =
+      called-rest r.1.name ∙ ap (λ (o : Option Resident). option_map (is_matched nodes edges) (option_map (λ y. y.0) o)) none in
+      subst (λ (y : Resident). is_matched nodes edges y.0 ≡ and_there (matched_named y.1.name (queries_of rest))) (sym one) (not-matched ∙ sym (ap and_there gone)))
+      (λ f.
+      let stays : In x rest = In-filter (λ (y : Resident). not (nat_eq y.0 r.0)) residents x m (ap not f) in
+      let names : OwnNames rest = Pairwise-filter (λ (y z : Resident). Differ y.1.name z.1.name) (λ y. not (nat_eq y.0 r.0)) residents (own_names residents named) in
+      sym (ap and_there (called-rest x.1.name ∙ ap (λ (o : Option Resident). option_map (is_matched nodes edges) (option_map (λ y. y.0) o)) (found_called rest names x stays))))
+
+slice_get-In : (xs : List Resident) (i : ℕ) (x : Resident) → slice_get xs i ≡ Some x → In x xs
+slice_get-In [] i x e = cc
+slice_get-In (y ∷ xs) zero x e = let same : x ≡ y = cc in inl same
+slice_get-In (y ∷ xs) (suc i) x e = inr (slice_get-In xs i x e)
+
+-- Edges that have lost their provider are as many by places as by positions and names.
+pub lost_counted : (flag : PendingQuery → Bool) (residents : List Resident) (distinct : IsDistinct nat_eq (places_of residents)) (nodes : List (ℕ × ℕ × Bool)) (edges : List Edge)
+    → IsGraphOf (λ r. flag r.1) residents nodes edges → (before_place before_position : ℕ → Bool) → ((i : ℕ) → i < length residents → before_place (place_at residents i) ≡ before_position i)
+    → (after_place : ℕ → Bool) (after_name : List ℕ → Bool) → ((x : Resident) → In x residents → after_place x.0 ≡ after_name x.1.name)
+    → count_by (λ e. before_place e.provider && not (after_place e.provider)) edges
+    ≡ count_by (λ e. before_position e.provider && not (after_name (name_or_none (name_at (queries_of residents) e.provider)))) (edges_of (queries_of residents))
+lost_counted flag residents distinct nodes edges graph before_place before_position before after_place after_name after =
+    graph_counted flag residents distinct nodes edges graph (λ e. before_place e.provider && not (after_place e.provider))
+    (λ e. before_position e.provider && not (after_name (name_or_none (name_at (queries_of residents) e.provider))))
+    (λ e low also. ap (λ (b : Bool). b && not (after_place (place_at residents e.provider))) (before e.provider low) ∙ ap (λ (b : Bool). before_position e.provider && not b) (at_name e.provider low))
   where
-    first : (rs : List Resident) → Pairwise (λ (x y : Resident). Differ x.1.name y.1.name) rs → In r rs → find (λ x. is_named r.1.name x.1) rs ≡ Some r
-    first [] h m = absurd m
-    first (x ∷ rs) h (inl e) =
-        let t : is_named r.1.name x.1 ≡ true = (bytes_eq-Decides r.1.name x.1.name).1 (ap (λ (y : Resident). y.1.name) e) in
-        rw t (ap Some (sym e))
-    first (x ∷ rs) h (inr m) =
-        by_bool (is_named r.1.name x.1) (find (λ y. is_named r.1.name y.1) (x ∷ rs) ≡ Some r)
-        (λ t. absurd (h.0 r m (sym ((bytes_eq-Decides r.1.name x.1.name).0 t))))
-        (λ f. rw f (first rs h.1 m))
+    at_name : (i : ℕ) → i < length residents → after_place (place_at residents i) ≡ after_name (name_or_none (name_at (queries_of residents) i))
+    at_name i low =
+        let found = slice_get-some residents i low in
+        let x = found.0 in
+        let place : place_at residents i ≡ x.0 = get_or_from_slice_get (places_of residents) i x.0 0 (slice_get-map (λ (y : Resident). y.0) residents i ∙ ap (option_map (λ (y : Resident). y.0)) found.1) in
+        let query : slice_get (queries_of residents) i ≡ Some x.1 = slice_get-map (λ (y : Resident). y.1) residents i ∙ ap (option_map (λ (y : Resident). y.1)) found.1 in
+        ap after_place place ∙ after x (slice_get-In residents i x found.1)
+        ∙ sym (ap (λ (o : Option PendingQuery). after_name (name_or_none (option_map (λ p. p.name) o))) query)

@@ -3,8 +3,9 @@ use Rattle.std.proofs.Common.{◌≡◌, ℕ, ◌+◌, ◌<◌, ◌⊎◌, inl, 
 use Rattle.std.specs.List.{AllByRecursion, IsDistinct, flat_map, enumerate_from}
 use Rattle.std.specs.Bool.{Decides}
 use Rattle.std.proofs.lemmas.List.Sums.{sum_by-append, sum_by-cons}
-use Rattle.cq_board.proofs.Members.{In, In-left, In-right, In-append, In-flat_map_gives}
-use Rattle.cq_board.proofs.Ends.{In-enumerate_from}
+use Rattle.cq_board.proofs.Members.{In, In-left, In-right, In-append, In-flat_map_gives, by_bool}
+use Rattle.cq_board.proofs.Ends.{In-enumerate_from, In-filter_among}
+use Rattle.std.specs.Prelude.{filter}
 
 abbrev pub Pairwise : {X : Type 0} → (X → X → Type 0) → List X → Type 0
 Pairwise {X} R [] = Unit {0}
@@ -30,6 +31,13 @@ Pairwise-flat_map S R f (x ∷ xs) h each apart =
 pub Pairwise-weaker : {X : Type 0} (R S : X → X → Type 0) → ((x y : X) → R x y → S x y) → (xs : List X) → Pairwise R xs → Pairwise S xs
 Pairwise-weaker R S f [] h = tt
 Pairwise-weaker R S f (x ∷ xs) h = (λ y m. f x y (h.0 y m), Pairwise-weaker R S f xs h.1)
+
+pub Pairwise-filter : {X : Type 0} (R : X → X → Type 0) (p : X → Bool) (xs : List X) → Pairwise R xs → Pairwise R (filter p xs)
+Pairwise-filter R p [] h = tt
+Pairwise-filter R p (x ∷ xs) h =
+    by_bool (p x) (Pairwise R (filter p (x ∷ xs)))
+    (λ t. rw t (λ y m. h.0 y (In-filter_among p xs y m), Pairwise-filter R p xs h.1))
+    (λ f. rw f (Pairwise-filter R p xs h.1))
 
 -- places rise
 pub enumerate-rises : {X : Type 0} (n : ℕ) (xs : List X) → Pairwise (λ (p q : ℕ × X). p.0 < q.0) (enumerate_from n xs)
