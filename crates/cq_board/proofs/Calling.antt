@@ -111,6 +111,16 @@ pub own_names : (residents : List Resident) → IsDistinct bytes_eq (map name_of
 own_names residents named =
     distinct-differ bytes_eq bytes_eq-Decides (λ (x : Resident). x.1.name) residents (subst (IsDistinct bytes_eq) (map-map name_of (λ (x : Resident). x.1) residents) named)
 
+-- the place that a list with a seat for each resident has under a name
+pub place_seated : {S : Type 0} (seat : Resident → S) (place : S → ℕ) (test : S → Bool) (name : List ℕ) → ((r : Resident) → place (seat r) ≡ r.0) → ((r : Resident) → test (seat r) ≡ is_named name r.1)
+    → (residents : List Resident) → option_map place (find test (map seat residents)) ≡ place_in name residents
+place_seated seat place test name same_place same_test [] = refl
+place_seated seat place test name same_place same_test (r ∷ residents) =
+    let rest = place_seated seat place test name same_place same_test residents in
+    by_bool (is_named name r.1) (option_map place (find test (map seat (r ∷ residents))) ≡ place_in name (r ∷ residents))
+    (λ t. let here : test (seat r) ≡ true = same_test r ∙ t in rw (t, here) (ap Some (same_place r)))
+    (λ f. let here : test (seat r) ≡ false = same_test r ∙ f in rw (f, here) rest)
+
 -- ---- a query that has gone
 
 left-out : (p : Resident → Bool) (residents : List Resident) → find p (filter (λ x. not (p x)) residents) ≡ None
