@@ -34,10 +34,10 @@ module _ {X : Type 0} where
       (λ t. let found : Some y.1 ≡ Some x = rw t at e in let same : x ≡ y.1 = cc in let at : p ≡ y.0 = eqb-true p y.0 t in inl (λ i. (at i, same i)))
       (λ f. inr (lookup-In es p x (rw f at e)))
 
-  In-lookup : (es : List (ℕ × X)) → IsDistinct nat_eq (map (λ e. e.0) es) → (y : ℕ × X) → In y es → lookup (nat_eq y.0) es ≡ Some y.1
+  pub In-lookup : (es : List (ℕ × X)) → IsDistinct nat_eq (map (λ e. e.0) es) → (y : ℕ × X) → In y es → lookup (nat_eq y.0) es ≡ Some y.1
   In-lookup es distinct y m = let found = In-slice_get es y m in lookup_from_place nat_eq_equiv es found.0 y.0 y.1 distinct found.1
 
-  lookup-free : (es : List (ℕ × X)) (p : ℕ) → is_member nat_eq (map (λ e. e.0) es) p ≡ false → lookup (nat_eq p) es ≡ None
+  pub lookup-free : (es : List (ℕ × X)) (p : ℕ) → is_member nat_eq (map (λ e. e.0) es) p ≡ false → lookup (nat_eq p) es ≡ None
   lookup-free [] p none = refl
   lookup-free (y ∷ es) p none =
       by_bool (nat_eq p y.0) (lookup (nat_eq p) (y ∷ es) ≡ None)
@@ -82,7 +82,7 @@ module _ {X : Type 0} where
 
 -- ---- a finite map by places
 
-tie-eq : (p n : ℕ) → eq_by_cmp nat_cmp p n ≡ nat_eq p n
+pub tie-eq : (p n : ℕ) → eq_by_cmp nat_cmp p n ≡ nat_eq p n
 tie-eq p n =
     by_bool (nat_eq p n) (eq_by_cmp nat_cmp p n ≡ nat_eq p n)
     (λ t. ap is_eq (ap (nat_cmp p) (sym (eqb-true p n t)) ∙ tied_itself nat_cmp_total p) ∙ sym t)

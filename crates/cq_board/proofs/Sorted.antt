@@ -1,24 +1,27 @@
 -- The edges of pending queries rise, and a sorted list of them is theirs.
-use Rattle.std.proofs.Common.{◌≡◌, ℕ, suc, ◌<◌, inl, inr, Bool, true, false, List, [], ◌∷◌, length, get_or, map, count_by, refl, sym, ap, subst, ◌∙◌, arith}
-use Rattle.std.specs.List.{list_any, enumerate_from}
+use Rattle.std.proofs.Common.{◌≡◌, ℕ, suc, ◌<◌, inl, inr, Bool, true, false, List, [], ◌∷◌, length, get_or, map, count_by, refl, sym, ap, subst, ◌∙◌, arith, eq-eqb}
+use Rattle.std.specs.List.{list_any, enumerate_from, IsDistinct, position_or_len}
 use Rattle.std.specs.List.Sorted.{IsPermutation, IsSorted}
 use Rattle.std.specs.Cmp.{IsTotalOrder, Equal-is}
 use Rattle.std.specs.declared.cmp.Ordering.{Ordering}
 use Rattle.std.specs.declared.cmp.Ordering.TheVariants.{Less, Equal, Greater}
 use Rattle.std.specs.Ordering.{nat_cmp, ordering_then, is_lt, is_eq}
 use Rattle.std.proofs.lemmas.Cmp.{nat_cmp_total, on_total, then_total, tied_itself, ranked}
-use Rattle.std.proofs.lemmas.Bool.{lt-ltb}
+use Rattle.std.proofs.lemmas.Bool.{lt-ltb, ne_eqb}
 use Rattle.std.proofs.lemmas.List.Sorted.{ranks_by, sorted_far, sum_by-IsPermutation}
 use Rattle.cq_match.specs.declared.edge.Edge.{Edge}
 use Rattle.cq_board.specs.Pool.{PendingQuery}
 use Rattle.cq_board.specs.Edges.{edges_of}
-use Rattle.cq_board.specs.Steps.Residents.{Resident, queries_of, place_at, edges_among, renamed, edge_cmp}
+use Rattle.cq_board.specs.Steps.Residents.{Resident, queries_of, place_at, edges_among, renamed, edge_cmp, places_of, IsGraphOf}
 use Rattle.cq_board.proofs.Members.{In, any_gives, any_has}
 use Rattle.cq_board.proofs.Among.{Contains-In}
 use Rattle.cq_board.proofs.Pairwise.{Pairwise, enumerate-rises}
 use Rattle.cq_board.proofs.Positions.{edges_positioned}
-use Rattle.cq_board.proofs.Graphs.{one_if, count-cons, any-same, count-map}
+use Rattle.cq_board.proofs.Graphs.{one_if, count-cons, any-same, count-map, place-injective}
 use Rattle.cq_board.proofs.Touching.{edges_pairwise}
+use Rattle.std.specs.Prelude.{nat_eq}
+use Rattle.std.proofs.Math.ListN.{length-map}
+use Rattle.std.proofs.lemmas.List.Sums.{position_or_len_is}
 
 -- ---- lists by places
 
@@ -145,3 +148,19 @@ module _ (g : ℕ → ℕ) (residents : List Resident) (same : (k : ℕ) → k <
   pub positioned-edges : (shown : List Edge) → IsPermutation (map (renamed g) edges) shown → IsSorted edge_cmp shown → shown ≡ edges_of (queries_of residents)
   positioned-edges shown moved sorted =
       sorted-edges (queries_of residents) shown (λ test. sum_by-IsPermutation (λ e. one_if (test e)) (map (renamed g) edges) shown moved ∙ positioned-counts test) sorted
+
+-- ---- positions by a search among the places
+
+-- the place of a position is found there among the places
+pub position-placed : (residents : List Resident) → IsDistinct nat_eq (places_of residents) → (k : ℕ) → k < length residents → position_or_len (nat_eq (place_at residents k)) (places_of residents) ≡ k
+position-placed residents distinct k low =
+    let len = length-map residents (λ (r : Resident). r.0) in
+    position_or_len_is (nat_eq (place_at residents k)) (places_of residents) k 0 (omega arith)
+    (λ j less. ne_eqb (place_at residents k) (place_at residents j) (λ e. let is = place-injective residents distinct k j low (omega arith) e in omega arith))
+    (λ inside. eq-eqb (place_at residents k) (place_at residents k) refl)
+
+-- The edges of a graph of residents, with the numbers of their places in the place of places, and sorted, are those of the queries.
+pub numbered-edges : (able : Resident → Bool) (residents : List Resident) → IsDistinct nat_eq (places_of residents) → (nodes : List (ℕ × ℕ × Bool)) (edges : List Edge) → IsGraphOf able residents nodes edges
+    → (shown : List Edge) → IsPermutation (map (renamed (λ place. position_or_len (nat_eq place) (places_of residents))) edges) shown → IsSorted edge_cmp shown → shown ≡ edges_of (queries_of residents)
+numbered-edges able residents distinct nodes edges graph shown moved sorted =
+    positioned-edges (λ place. position_or_len (nat_eq place) (places_of residents)) residents (position-placed residents distinct) edges graph.same_edges shown moved sorted
