@@ -23,6 +23,7 @@ pub mod Upkeep
 pub mod Placed
 pub mod Linked
 pub mod Calling
+pub mod Leaving
 pub mod Rows
 pub mod Shown
 pub mod Touching

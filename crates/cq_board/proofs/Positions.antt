@@ -11,7 +11,7 @@ use Rattle.cq_board.proofs.Members.{by_bool}
 -- ---- other places
 
 module _ {Y Z : Type 0} (g : Y → Z) where
-  map-flat_map : {X : Type 0} (f : X → List Y) (h : X → List Z) → ((x : X) → map g (f x) ≡ h x) → (xs : List X) → map g (flat_map f xs) ≡ flat_map h xs
+  pub map-flat_map : {X : Type 0} (f : X → List Y) (h : X → List Z) → ((x : X) → map g (f x) ≡ h x) → (xs : List X) → map g (flat_map f xs) ≡ flat_map h xs
   map-flat_map f h each [] = refl
   map-flat_map f h each (x ∷ xs) = map-append g (f x) (flat_map f xs) ∙ ap (λ ys. ys ++ map g (flat_map f xs)) (each x) ∙ ap (λ ys. h x ++ ys) (map-flat_map f h each xs)
 
