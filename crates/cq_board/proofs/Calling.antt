@@ -132,41 +132,56 @@ left-out p (x ∷ residents) =
 abbrev pub and_there : Option Bool → Bool
 and_there o = option_map_or (λ b. b) o false
 
-module _ (residents : List Resident) (distinct : IsDistinct nat_eq (places_of residents)) (named : IsDistinct bytes_eq (map name_of (queries_of residents))) (r : Resident) (there : In r residents)
-    (nodes : List (ℕ × ℕ × Bool)) (edges : List Edge) (graph : IsGraphOf (λ x. true) (all_but r.0 residents) nodes edges) where
-  abbrev rest : List Resident
-  rest = all_but r.0 residents
+-- In the graph of those that are left, the place that was left is not matched.
+pub gone_unmatched : (able : Resident → Bool) (p : ℕ) (residents : List Resident) (nodes : List (ℕ × ℕ × Bool)) (edges : List Edge) → IsGraphOf able (all_but p residents) nodes edges → is_matched nodes edges p ≡ false
+gone_unmatched able p residents nodes edges graph =
+    let rest = all_but p residents in
+    by_bool (is_matched nodes edges p) (is_matched nodes edges p ≡ false)
+    (λ t.
+    let known = In-Contains (numbers nodes) p (matched-known nodes edges p t) in
+    let member : is_member nat_eq (places_of rest) p ≡ true = sym (graph_has able rest nodes edges graph p) ∙ any_has (nat_eq p) (numbers nodes) p known (eq-eqb p p refl) in
+    let place = any_gives (nat_eq p) (places_of rest) member in
+    let of = In-map_gives (λ (x : Resident). x.0) rest place.0 place.1 in
+    let apart : not (nat_eq of.0.0 p) ≡ true = In-filter_gives (λ (x : Resident). not (nat_eq x.0 p)) residents of.0 of.1 in
+    let is : nat_eq of.0.0 p ≡ true = eq-eqb of.0.0 p (sym of.2 ∙ sym (eqb-true p place.0 place.2)) in
+    absurd (let never : false ≡ true = sym (ap not is) ∙ apart in cc))
+    (λ f. f)
 
-  called-rest : (name : List ℕ) → matched_named name (queries_of rest) ≡ option_map (is_matched nodes edges) (place_in name rest)
-  called-rest = matched_called rest (places_withdrawn r.0 residents distinct) nodes edges graph
+module _ (residents : List Resident) (distinct : IsDistinct nat_eq (places_of residents)) (named : IsDistinct bytes_eq (map name_of (queries_of residents))) where
+  -- A test at the place of a resident is that at the position of its name.
+  pub stay_tested : (at_position at_place : ℕ → Bool) → ((i : ℕ) → i < length residents → at_place (place_at residents i) ≡ at_position i)
+      → (x : Resident) → In x residents → at_place x.0 ≡ and_there (option_map at_position (place_of x.1.name (queries_of residents)))
+  stay_tested at_position at_place same x m =
+      sym (ap and_there (called_tested residents at_position at_place same x.1.name
+      ∙ ap (λ (o : Option Resident). option_map at_place (option_map (λ y. y.0) o)) (found_called residents (own_names residents named) x m)))
 
-  not-matched : is_matched nodes edges r.0 ≡ false
-  not-matched =
-      by_bool (is_matched nodes edges r.0) (is_matched nodes edges r.0 ≡ false)
-      (λ t.
-      let known = In-Contains (numbers nodes) r.0 (matched-known nodes edges r.0 t) in
-      let member : is_member nat_eq (places_of rest) r.0 ≡ true = sym (graph_has (λ x. true) rest nodes edges graph r.0) ∙ any_has (nat_eq r.0) (numbers nodes) r.0 known (eq-eqb r.0 r.0 refl) in
-      let place = any_gives (nat_eq r.0) (places_of rest) member in
-      let of = In-map_gives (λ (x : Resident). x.0) rest place.0 place.1 in
-      let apart : not (nat_eq of.0.0 r.0) ≡ true = In-filter_gives (λ (x : Resident). not (nat_eq x.0 r.0)) residents of.0 of.1 in
-      let is : nat_eq of.0.0 r.0 ≡ true = eq-eqb of.0.0 r.0 (sym of.2 ∙ sym (eqb-true r.0 place.0 place.2)) in
-      absurd (let never : false ≡ true = sym (ap not is) ∙ apart in cc))
-      (λ f. f)
+  module _ (r : Resident) (there : In r residents) where
+    abbrev rest : List Resident
+    rest = all_but r.0 residents
 
-  -- Where a query has gone, whoever was there is matched at its place exactly where it is by its name.
-  pub matched_left : (x : Resident) → In x residents → is_matched nodes edges x.0 ≡ and_there (matched_named x.1.name (queries_of rest))
-  matched_left x m =
-      by_bool (nat_eq x.0 r.0) (is_matched nodes edges x.0 ≡ and_there (matched_named x.1.name (queries_of rest)))
-      (λ t.
-      let one : x ≡ r = same-key (λ (y : Resident). y.0) residents (distinct-differ nat_eq Decides-eqb (λ (y : Resident). y.0) residents distinct) x r m there (eqb-true x.0 r.0 t) in
-      let none : find (λ y. is_named r.1.name y.1) rest ≡ None = ap (find (λ y. is_named r.1.name y.1)) (residents_withdrawn residents distinct r there named) ∙ left-out (λ y. is_named r.1.name y.1) residents in
-      let gone : matched_named r.1.name (queries_of rest) ≡ None =
-      called-rest r.1.name ∙ ap (λ (o : Option Resident). option_map (is_matched nodes edges) (option_map (λ y. y.0) o)) none in
-      subst (λ (y : Resident). is_matched nodes edges y.0 ≡ and_there (matched_named y.1.name (queries_of rest))) (sym one) (not-matched ∙ sym (ap and_there gone)))
-      (λ f.
-      let stays : In x rest = In-filter (λ (y : Resident). not (nat_eq y.0 r.0)) residents x m (ap not f) in
-      let names : OwnNames rest = Pairwise-filter (λ (y z : Resident). Differ y.1.name z.1.name) (λ y. not (nat_eq y.0 r.0)) residents (own_names residents named) in
-      sym (ap and_there (called-rest x.1.name ∙ ap (λ (o : Option Resident). option_map (is_matched nodes edges) (option_map (λ y. y.0) o)) (found_called rest names x stays))))
+    -- The same of those that were there, where one has gone, whose place does not pass.
+    pub left_tested : (at_position at_place : ℕ → Bool) → ((i : ℕ) → i < length rest → at_place (place_at rest i) ≡ at_position i) → at_place r.0 ≡ false
+        → (x : Resident) → In x residents → at_place x.0 ≡ and_there (option_map at_position (place_of x.1.name (queries_of rest)))
+    left_tested at_position at_place same fails x m =
+        let goal : Resident → Type 0 = λ y. at_place y.0 ≡ and_there (option_map at_position (place_of y.1.name (queries_of rest))) in
+        by_bool (nat_eq x.0 r.0) (goal x)
+        (λ t.
+        let one : x ≡ r = same-key (λ (y : Resident). y.0) residents (distinct-differ nat_eq Decides-eqb (λ (y : Resident). y.0) residents distinct) x r m there (eqb-true x.0 r.0 t) in
+        let none : find (λ y. is_named r.1.name y.1) rest ≡ None = ap (find (λ y. is_named r.1.name y.1)) (residents_withdrawn residents distinct r there named) ∙ left-out (λ y. is_named r.1.name y.1) residents in
+        let gone : option_map at_position (place_of r.1.name (queries_of rest)) ≡ None =
+        called_tested rest at_position at_place same r.1.name ∙ ap (λ (o : Option Resident). option_map at_place (option_map (λ y. y.0) o)) none in
+        subst goal (sym one) (fails ∙ sym (ap and_there gone)))
+        (λ f.
+        let stays : In x rest = In-filter (λ (y : Resident). not (nat_eq y.0 r.0)) residents x m (ap not f) in
+        let names : OwnNames rest = Pairwise-filter (λ (y z : Resident). Differ y.1.name z.1.name) (λ y. not (nat_eq y.0 r.0)) residents (own_names residents named) in
+        sym (ap and_there (called_tested rest at_position at_place same x.1.name ∙ ap (λ (o : Option Resident). option_map at_place (option_map (λ y. y.0) o)) (found_called rest names x stays))))
+
+    -- Where a query has gone, whoever was there is matched at its place exactly where it is by its name, where all are able.
+    pub matched_left : (nodes : List (ℕ × ℕ × Bool)) (edges : List Edge) → IsGraphOf (λ x. true) (all_but r.0 residents) nodes edges
+        → (x : Resident) → In x residents → is_matched nodes edges x.0 ≡ and_there (matched_named x.1.name (queries_of (all_but r.0 residents)))
+    matched_left nodes edges graph =
+        left_tested (is_matched_at (queries_of rest)) (is_matched nodes edges) (λ i low. graph_matched_at rest (places_withdrawn r.0 residents distinct) nodes edges graph i low)
+        (gone_unmatched (λ x. true) r.0 residents nodes edges graph)
 
 slice_get-In : (xs : List Resident) (i : ℕ) (x : Resident) → slice_get xs i ≡ Some x → In x xs
 slice_get-In [] i x e = cc
