@@ -14,5 +14,16 @@ pub mod Rising
 pub mod Nodes
 pub mod Kept
 pub mod Refusals
+pub mod Residents
+pub mod Pairwise
+pub mod Positions
+pub mod Graphs
+pub mod Sorted
+pub mod Upkeep
+pub mod Placed
+pub mod Linked
+pub mod Calling
+pub mod Leaving
 pub mod Rows
 pub mod Shown
+pub mod Touching

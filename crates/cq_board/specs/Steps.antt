@@ -2,4 +2,5 @@
 pub mod Runs
 pub mod Choices
 pub mod Parts
+pub mod Residents
 pub mod Scratch

@@ -19,6 +19,7 @@ pub mod Pruning
 pub mod Raising
 pub mod Ranks
 pub mod Reaching
+pub mod Renaming
 pub mod Rows
 pub mod Settling
 pub mod Slots
