@@ -15,18 +15,27 @@ fn edge(provider: usize, waiter: usize) -> Edge {
     }
 }
 
+/// The number of the third node: nobody stands before it from 2 on.
+const THIRD: usize = 9;
+
 /// Node 0 waits for node 1, which waits for a third.
 fn begun<A: Allocator + Copy>(alloc: A) -> Result<Twin<A>, AllocError> {
-    let mut twin = Twin::begin(alloc, 3, 4)?;
+    let mut twin = Twin::begin(alloc, THIRD + 1, 4)?;
     twin.add(0, 1, true, &[])?;
     twin.add(1, 1, true, &[edge(1, 0)])?;
     Ok(twin)
 }
 
+fn is_ring_matched<A: Allocator>(twin: &Twin<A>) -> bool {
+    [0, 1, THIRD]
+        .iter()
+        .all(|node| twin.matcher().is_matched(*node))
+}
+
 /// Whether the third comes, which waits for node 0, and all are matched.
 fn close<A: Allocator + Copy>(twin: &mut Twin<A>) -> Result<bool, AllocError> {
-    let added = twin.add(2, 1, true, &[edge(2, 1), edge(0, 2)])?;
-    Ok(added && (0..3).all(|node| twin.matcher().is_matched(node)))
+    let added = twin.add(THIRD, 1, true, &[edge(THIRD, 1), edge(0, THIRD)])?;
+    Ok(added && is_ring_matched(twin))
 }
 
 /// The third comes.
@@ -109,7 +118,7 @@ struct Waiting;
 
 fn shows_waiter<A: Allocator + Copy>(twin: &Twin<A>) -> Result<bool, AllocError> {
     let waiters = twin.matcher().waiters(0)?;
-    Ok(waiters.as_slice() == [edge(0, 2)].as_slice())
+    Ok(waiters.as_slice() == [edge(0, THIRD)].as_slice())
 }
 
 fn waited<A: Allocator + Copy>(alloc: A, twin: &Twin<A>) -> Outcome {
@@ -140,7 +149,7 @@ struct Copying;
 
 fn copied<A: Allocator + Copy>(alloc: A, twin: &mut Twin<A>) -> Outcome {
     match twin.go_on_with_copy() {
-        Ok(()) => Outcome::done_if((0..3).all(|node| twin.matcher().is_matched(node))),
+        Ok(()) => Outcome::done_if(is_ring_matched(twin)),
         Err(_) => Outcome::refused_if(
             twin.holds(alloc) == Ok(true)
                 && twin.go_on_with_copy() == Ok(())

@@ -1,7 +1,7 @@
 //! Tests of `cq_match`: worked graphs by calls, lists of edits from a generator, a ring and a chain of ten thousand nodes,
-//! and each growth refused in turn. A matcher is tested behind a [`guarded`] one, which looks by itself whether a call is
-//! allowed, so that no test proves it, and beside plain lists of what it must have ([`twin`], [`listed`]). Larger
-//! graphs are boards, which stand in the cases. Nothing but tests is here, and no crate stands on this one.
+//! and each growth refused in turn. A matcher is tested behind one that looks by itself whether a call is allowed
+//! (`guarded`), and beside plain lists of what it must have (`twin`, `listed`). Larger graphs are boards, which stand in
+//! the cases. Nothing but tests is here, and no crate stands on this one.
 #![tactic(auto)]
 
 #[cfg(test)]
