@@ -63,7 +63,7 @@ impl Tried for Adding {
 
 #[test]
 fn refused_growth_in_add(rt: HostRuntime) {
-    assert!(rt; matches!(refusals::<Adding>(rt.alloc()), Ok(4..)));
+    assert!(rt; matches!(refusals::<Adding>(rt.alloc()), Ok(8..)));
 }
 
 /// A node becomes able that another one waits for.
@@ -169,5 +169,5 @@ impl Tried for Copying {
 
 #[test]
 fn refused_growth_in_copy(rt: HostRuntime) {
-    assert!(rt; matches!(refusals::<Copying>(rt.alloc()), Ok(4..)));
+    assert!(rt; matches!(refusals::<Copying>(rt.alloc()), Ok(8..)));
 }
