@@ -27,10 +27,10 @@ impl Draws {
     }
 }
 
-/// How many edits were made, and how many of them left a matcher of some kind.
-#[derive(Clone, Copy, Debug, PartialEq, Eq, PartialOrd, Ord)]
+/// How many nodes came, and after how many edits the matcher was of some kind.
+#[derive(Clone, Copy, Debug)]
 struct Seen {
-    /// A node came. Beyond as many as there are places in a list, its place was used again.
+    /// The nodes that came. Those beyond the places of all lists came to places that were used before.
     came: u64,
     /// A matched node supplies itself.
     itself: u64,
@@ -166,16 +166,26 @@ fn is_kept(alloc: Global, twin: &Twin) -> Result<bool, AllocError> {
     Ok(twin.holds(alloc)? && twin.is_shown_by(alloc, &copy)?)
 }
 
-/// Whether each edit of a list is made and kept.
-fn keep_list(alloc: Global, draws: &mut Draws, seen: &mut Seen) -> Result<bool, AllocError> {
-    let mut twin = Twin::begin(alloc, usize::from(PLACES), 0)?;
+/// Whether each of fifty edits is made and kept.
+fn keep_edits(
+    alloc: Global,
+    draws: &mut Draws,
+    twin: &mut Twin,
+    seen: &mut Seen,
+) -> Result<bool, AllocError> {
     for _ in 0..50 {
-        if !edit(alloc, draws, &mut twin, seen)? || !is_kept(alloc, &twin)? {
+        if !edit(alloc, draws, twin, seen)? || !is_kept(alloc, twin)? {
             return Ok(false);
         }
         seen.look(twin.matcher(), twin.edges());
     }
     Ok(true)
+}
+
+/// Whether a list of edits is kept that begins without nodes.
+fn keep_list(alloc: Global, draws: &mut Draws, seen: &mut Seen) -> Result<bool, AllocError> {
+    let mut twin = Twin::begin(alloc, usize::from(PLACES), 0)?;
+    keep_edits(alloc, draws, &mut twin, seen)
 }
 
 /// The first list that is not kept.

@@ -18,11 +18,16 @@ fn edge(provider: usize, waiter: usize) -> Edge {
 /// The number of the third node: nobody stands before it from 2 on.
 const THIRD: usize = 9;
 
+fn add_two<A: Allocator + Copy>(twin: &mut Twin<A>) -> Result<(), AllocError> {
+    twin.add(0, 1, true, &[])?;
+    twin.add(1, 1, true, &[edge(1, 0)])?;
+    Ok(())
+}
+
 /// Node 0 waits for node 1, which waits for a third.
 fn begun<A: Allocator + Copy>(alloc: A) -> Result<Twin<A>, AllocError> {
     let mut twin = Twin::begin(alloc, THIRD + 1, 4)?;
-    twin.add(0, 1, true, &[])?;
-    twin.add(1, 1, true, &[edge(1, 0)])?;
+    add_two(&mut twin)?;
     Ok(twin)
 }
 
@@ -69,10 +74,15 @@ fn refused_growth_in_add(rt: HostRuntime) {
 /// A node becomes able that another one waits for.
 struct Enabling;
 
-fn unable<A: Allocator + Copy>(alloc: A) -> Result<Twin<A>, AllocError> {
-    let mut twin = Twin::begin(alloc, 2, 1)?;
+fn add_unable<A: Allocator + Copy>(twin: &mut Twin<A>) -> Result<(), AllocError> {
     twin.add(0, 1, true, &[])?;
     twin.add(1, 0, false, &[edge(1, 0)])?;
+    Ok(())
+}
+
+fn unable<A: Allocator + Copy>(alloc: A) -> Result<Twin<A>, AllocError> {
+    let mut twin = Twin::begin(alloc, 2, 1)?;
+    add_unable(&mut twin)?;
     Ok(twin)
 }
 

@@ -72,14 +72,18 @@ fn break_and_mend<A: Allocator + Copy>(
 }
 
 // The last node waits for node 0.
-fn ring_holds<A: Allocator + Copy>(alloc: A) -> Result<bool, AllocError> {
-    let mut kept = Guarded::begin(alloc, SIZE)?;
+fn is_ring_kept<A: Allocator + Copy>(kept: &mut Guarded<A>) -> Result<bool, AllocError> {
     let closing = [edge(SIZE - 1, SIZE - 2), edge(0, SIZE - 1)];
     Ok(
-        come_unmatched(&mut kept)?
-            && come_matched(&mut kept, 1, &closing)?
-            && break_and_mend(&mut kept, SIZE, 10_000)?,
+        come_unmatched(kept)?
+            && come_matched(kept, 1, &closing)?
+            && break_and_mend(kept, SIZE, 10_000)?,
     )
+}
+
+fn ring_holds<A: Allocator + Copy>(alloc: A) -> Result<bool, AllocError> {
+    let mut kept = Guarded::begin(alloc, SIZE)?;
+    is_ring_kept(&mut kept)
 }
 
 #[test]
@@ -88,15 +92,20 @@ fn ring_of_ten_thousand(rt: HostRuntime) -> Result<(), Fail> {
     Ok(())
 }
 
-// The last node waits for nobody. Where the middle one goes, those before it and itself lose one edge each, but node 0.
-fn chain_holds<A: Allocator + Copy>(alloc: A) -> Result<bool, AllocError> {
-    let mut kept = Guarded::begin(alloc, SIZE)?;
+// The last node waits for nobody. Where the middle one goes, it and those before it are matched no longer; each of them has
+// one edge, but node 0.
+fn is_chain_kept<A: Allocator + Copy>(kept: &mut Guarded<A>) -> Result<bool, AllocError> {
     let closing = [edge(SIZE - 1, SIZE - 2)];
     Ok(
-        come_unmatched(&mut kept)?
-            && come_matched(&mut kept, 0, &closing)?
-            && break_and_mend(&mut kept, MIDDLE + 1, 5_000)?,
+        come_unmatched(kept)?
+            && come_matched(kept, 0, &closing)?
+            && break_and_mend(kept, MIDDLE + 1, 5_000)?,
     )
+}
+
+fn chain_holds<A: Allocator + Copy>(alloc: A) -> Result<bool, AllocError> {
+    let mut kept = Guarded::begin(alloc, SIZE)?;
+    is_chain_kept(&mut kept)
 }
 
 #[test]

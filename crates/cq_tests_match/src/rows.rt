@@ -101,14 +101,23 @@ fn shows<A: Allocator + Copy>(alloc: A, twin: &Twin<A>, step: &Step) -> Result<b
 }
 
 /// The first step after which the matcher shows something else.
-fn other_step<A: Allocator + Copy>(alloc: A, steps: &[Step]) -> Result<Option<usize>, AllocError> {
-    let mut twin = Twin::begin(alloc, PLACES, 0)?;
+fn other_step_of<A: Allocator + Copy>(
+    alloc: A,
+    twin: &mut Twin<A>,
+    steps: &[Step],
+) -> Result<Option<usize>, AllocError> {
     for (place, step) in steps.iter().enumerate() {
-        if !make(alloc, &mut twin, &step.edit)? || !shows(alloc, &twin, step)? {
+        if !make(alloc, twin, &step.edit)? || !shows(alloc, twin, step)? {
             return Ok(Some(place));
         }
     }
     Ok(None)
+}
+
+/// The same of a matcher that begins without nodes.
+fn other_step<A: Allocator + Copy>(alloc: A, steps: &[Step]) -> Result<Option<usize>, AllocError> {
+    let mut twin = Twin::begin(alloc, PLACES, 0)?;
+    other_step_of(alloc, &mut twin, steps)
 }
 
 // Node 0 waits for node 1, that one for node 2, and that one for node 0. Node 1 goes and comes again.
