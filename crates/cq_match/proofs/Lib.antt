@@ -1,5 +1,6 @@
 pub mod Adding
 pub mod Bridge
+pub mod CallerLemmas
 pub mod Checking
 pub mod Coming
 pub mod Counting

@@ -1,10 +1,10 @@
 -- Lists of no number, of one and of two are distinct.
-use Rattle.std.proofs.Common.{◌≡◌, ℕ, ◌<◌, Bool, List, [], ◌∷◌, refl, arith, false, nat_eq}
-use Rattle.std.specs.List.{All, Any, Contains, IsDistinct}
+use Rattle.std.proofs.Common.{◌≡◌, ℕ, Bool, List, [], ◌∷◌, refl, arith, false, nat_eq}
+use Rattle.std.specs.List.{All, IsDistinct}
 use Rattle.std.proofs.lemmas.List.Elements.{All-from_recursion}
 use Rattle.cq_match.specs.declared.edge.Edge.{Edge}
-use Rattle.cq_match.specs.Matched.{numbers}
 use Rattle.std.proofs.lemmas.Map.Keys.{IsDistinct-from_apart}
+use Rattle.cq_tests_match.specs.Guarded.{HasEnds}
 
 pub none-distinct : IsDistinct nat_eq []
 none-distinct = IsDistinct-from_apart nat_eq [] (λ i j d before inside. absurd (omega arith))
@@ -19,13 +19,10 @@ two-distinct a b apart =
     let second : j ≡ 1 = omega arith in
     rw (first, second) apart)
 
--- what is asked of the edges of two nodes with one postcondition each, which wait for each other
-abbrev HasEnds : List (ℕ × ℕ × Bool) → Edge → Type 0
-HasEnds nodes edge = Contains (numbers nodes) edge.provider × Any (λ node. (node.0 ≡ edge.waiter) × (edge.post < node.1)) nodes
-
 abbrev pub edge : ℕ → ℕ → Edge
 edge provider waiter = record { provider = provider; head = 0; waiter = waiter; post = 0 }
 
+-- two nodes with one postcondition each, which wait for each other
 pub pair-ends : (a b : ℕ) (x y : Bool) → All (HasEnds ((a, 1, x) ∷ (b, 1, y) ∷ [])) (edge b a ∷ edge a b ∷ [])
 pair-ends a b x y =
     let nodes : List (ℕ × ℕ × Bool) = (a, 1, x) ∷ (b, 1, y) ∷ [] in
