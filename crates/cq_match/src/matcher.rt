@@ -226,7 +226,8 @@ impl<A: Allocator> Matcher<A> {
 
     /// Lets the node be able, also where it was so already.
     ///
-    /// Where it was not, the able and unmatched nodes that its edges reach are looked at, with their edges, and no others.
+    /// Where it was so, or a postcondition of it has no edge, no other node is looked at. Else those are looked at that
+    /// are able and unmatched and that its edges reach, with their edges, and no others.
     ///
     /// # Errors
     /// `AllocError` where a growth was refused; then nothing has changed.
@@ -240,13 +241,41 @@ impl<A: Allocator> Matcher<A> {
         if self.graph.places[node].able {
             return Ok(());
         }
+        self.wake(node)
+    }
+
+    /// Lets the node be able that was not. Where a postcondition of it has no edge, it looks at no other node.
+    fn wake(&mut self, node: usize) -> Result<(), AllocError>
+        requires there { has_node node self.old ≡ true }
+        requires unable { is_able node self.old.nodes ≡ false }
+        ensures nodes { OnOk result (self.new.nodes ≡ with_flag node true self.old.nodes) }
+        ensures edges { OnOk result (self.new.edges ≡ self.old.edges) }
+        ensures matched { (n : ℕ) → is_member nat_eq self.new.matched n ≡ is_matched self.new.nodes self.new.edges n }
+        ensures err { OnErr result (self.new ≡ self.old) }
+    {
+        if !self.graph.totals[node].has_none() {
+            return self.rouse(node);
+        }
+        self.graph.places[node].able = true;
+        Ok(())
+    }
+
+    /// Lets the node be able that was not, and looks at all nodes that may be matched by that.
+    fn rouse(&mut self, node: usize) -> Result<(), AllocError>
+        requires there { has_node node self.old ≡ true }
+        requires unable { is_able node self.old.nodes ≡ false }
+        ensures nodes { OnOk result (self.new.nodes ≡ with_flag node true self.old.nodes) }
+        ensures edges { OnOk result (self.new.edges ≡ self.old.edges) }
+        ensures matched { (n : ℕ) → is_member nat_eq self.new.matched n ≡ is_matched self.new.nodes self.new.edges n }
+        ensures err { OnErr result (self.new ≡ self.old) }
+    {
         self.marks.reached.reserve(self.graph.places.len())?;
         self.graph.places[node].able = true;
         self.marks.revive(&self.graph, node);
         Ok(())
     }
 
-    /// Lets the node be able no longer, also where it was not so before. Takes no memory.
+    /// Lets the node be able no longer, also where it was not so before. Then it looks at nothing else. Takes no memory.
     ///
     /// The meter counts each edge whose provider stops being matched, and no other work is in proportion to more than these.
     pub fn disable(&mut self, node: usize, meter: &mut Meter)
@@ -307,22 +336,6 @@ impl<A: Allocator> Matcher<A> {
         for edge in edges {
             self.link(node, *edge)?;
         }
-        Ok(())
-    }
-
-    /// Lets the node be able that was not. Where a postcondition of it has no edge, it looks at no other node.
-    fn wake(&mut self, node: usize) -> Result<(), AllocError>
-        requires there { has_node node self.old ≡ true }
-        requires unable { is_able node self.old.nodes ≡ false }
-        ensures nodes { OnOk result (self.new.nodes ≡ with_flag node true self.old.nodes) }
-        ensures edges { OnOk result (self.new.edges ≡ self.old.edges) }
-        ensures matched { OnOk result ((n : ℕ) → is_member nat_eq self.new.matched n ≡ is_matched self.new.nodes self.new.edges n) }
-        ensures err { OnErr result (self.new ≡ self.old) }
-    {
-        if !self.graph.totals[node].has_none() {
-            return self.enable(node);
-        }
-        self.graph.places[node].able = true;
         Ok(())
     }
 
