@@ -1,6 +1,6 @@
 //! Nodes by their places, and edges with the nodes that they leave.
 
-ghost use Rattle.std.specs.Prelude.{◌≡◌, ℕ, true, ◌+◌, ◌<◌, ◌≤◌, ◌++◌, ◌∷◌, [], List, length, count_by, slice_index_or, if◌then◌else◌};
+ghost use Rattle.std.specs.Prelude.{◌≡◌, ℕ, true, ◌+◌, ◌<◌, ◌≤◌, ◌++◌, ◌∷◌, ◌⊎◌, [], List, length, filter, count_by, slice_index_or, if◌then◌else◌};
 ghost use Rattle.std.specs.List.{All};
 ghost use Rattle.std.specs.Result.{is_ok};
 ghost use Rattle.cq_match.specs.Graph.{leads_to};
@@ -66,6 +66,20 @@ impl<A: Allocator> Leaving<A> {
         ensures { result.now ≡ self.now }
     {
         self.outs.as_slice()
+    }
+
+    /// Where the list is full, drops the edges that have gone, and makes room for as many again as are left and one more.
+    ///
+    /// So its room grows with the most edges that were there at once, and not with those that came and went; and
+    /// between two calls that visit it at least half as many edges have come as it has room for.
+    pub(crate) fn tidy(&mut self, places: &[Place]) -> Result<(), AllocError>
+        ensures { (self.new ≡ self.old) ⊎ (self.new ≡ filter (is_live places.now) self.old) }
+    {
+        if self.outs.len() == self.outs.capacity() {
+            self.outs.retain(|out| is_live(places, *out));
+            self.outs.reserve(self.outs.len() + 1)?;
+        }
+        Ok(())
     }
 
     /// Puts an edge to the end.

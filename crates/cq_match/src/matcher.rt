@@ -275,9 +275,11 @@ impl<A: Allocator> Matcher<A> {
         Ok(())
     }
 
-    /// Lets the node be able no longer, also where it was not so before. Then it looks at nothing else. Takes no memory.
+    /// Lets the node be able no longer, also where it was not so before: then nothing else is looked at. Takes no memory.
     ///
-    /// The meter counts each edge whose provider stops being matched, and no other work is in proportion to more than these.
+    /// The meter counts each edge whose provider stops being matched, and no other work is in proportion to more than
+    /// these and the edges beside them whose waiters have gone, of which a provider keeps no more than in proportion
+    /// to the most edges that left it at once.
     pub fn disable(&mut self, node: usize, meter: &mut Meter)
         requires { has_node node self.old ≡ true }
         ensures nodes { self.new.nodes ≡ with_flag node false self.old.nodes }
@@ -289,6 +291,14 @@ impl<A: Allocator> Matcher<A> {
             self.graph.places[node].able = false;
             self.marks.fell(&self.graph, node, meter);
         }
+    }
+
+    /// Drops the edges of the node whose waiters have gone, where one more would make their list grow, and makes room for it.
+    fn tidy(&mut self, node: usize) -> Result<(), AllocError>
+        requires { Contains (numbers self.old.nodes) node }
+        ensures { self.new ≡ self.old }
+    {
+        self.graph.leaving[node].tidy(&self.graph.places)
     }
 
     /// Puts an edge that touches the node, which is not able.
@@ -334,6 +344,7 @@ impl<A: Allocator> Matcher<A> {
         ensures exact { OnOk result ((n : ℕ) → is_member nat_eq self.new.matched n ≡ is_matched self.new.nodes self.new.edges n) }
     {
         for edge in edges {
+            self.tidy(edge.provider)?;
             self.link(node, *edge)?;
         }
         Ok(())
@@ -385,8 +396,8 @@ impl<A: Allocator> Matcher<A> {
     /// Lets the node go, with the edges that leave it and those that lead to it. Takes no memory.
     ///
     /// The meter counts each edge whose provider stops being matched, and other work is in proportion to these and
-    /// to the edges that leave the node, those among them whose waiters have gone since; it is not in proportion to
-    /// the edges of its neighbours.
+    /// to the edges that leave the node; it is not in proportion to the edges of its neighbours. Edges whose waiters
+    /// have gone may be looked at too, as `disable` says.
     pub fn remove(&mut self, node: usize, meter: &mut Meter)
         requires { has_node node self.old ≡ true }
         ensures nodes { self.new.nodes ≡ without node self.old.nodes }
@@ -403,8 +414,8 @@ impl<A: Allocator + Copy> Matcher<A> {
     /// The edges that leave the node, by waiter, among these by postcondition, and among these by head; none where the
     /// node is not there.
     ///
-    /// The edges that came to leave the node since it is there are looked at, also where their waiters have gone, and
-    /// those that are left are sorted. No clause says so.
+    /// The edges that leave the node are looked at and sorted. Others whose waiters have gone may be looked at too, no
+    /// more than in proportion to the most edges that left the node at once. No clause says so.
     ///
     /// # Errors
     /// `AllocError` where a growth was refused.
