@@ -80,7 +80,7 @@ impl<A: Allocator + Copy> Matcher<A> {
     }
 }
 
-/// Makes one place more, which is free.
+/// Makes one place more, which is free. Each list doubles its room where it is full, so a place takes constant time on average.
 fn grow<A: Allocator + Copy>(
     graph: &mut Graph<A>,
     marks: &mut Marks<A>,
@@ -108,7 +108,7 @@ fn grow<A: Allocator + Copy>(
     Ok(())
 }
 
-/// Makes the place of the node.
+/// Makes the place of the node, and those before it that are not there yet, one by one.
 fn make_room<A: Allocator + Copy>(
     graph: &mut Graph<A>,
     marks: &mut Marks<A>,
