@@ -1,6 +1,6 @@
 //! Nodes by their places, and edges with the nodes that they leave.
 
-ghost use Rattle.std.specs.Prelude.{◌≡◌, ℕ, true, ◌+◌, ◌<◌, ◌≤◌, ◌++◌, ◌∷◌, ◌⊎◌, [], List, length, filter, count_by, slice_index_or, if◌then◌else◌};
+ghost use Rattle.std.specs.Prelude.{OnOk, vec_len, vec_capacity, ◌≡◌, ℕ, true, ◌+◌, ◌<◌, ◌≤◌, ◌++◌, ◌∷◌, ◌⊎◌, [], List, length, filter, count_by, slice_index_or, if◌then◌else◌};
 ghost use Rattle.std.specs.List.{All};
 ghost use Rattle.std.specs.Result.{is_ok};
 ghost use Rattle.cq_match.specs.Graph.{leads_to};
@@ -128,6 +128,22 @@ pub(crate) struct Graph<A: Allocator> {
     pub(crate) leaving: Vec<Leaving<A>, A>,
     /// For each place, how many edges lead to each postcondition of its node.
     pub(crate) totals: Vec<Counts<A>, A>,
+}
+
+impl<A: Allocator> Graph<A> {
+    /// Makes room for one place more.
+    pub(crate) fn reserve_place(&mut self) -> Result<(), AllocError>
+        ensures places { self.new.places.items ≡ self.old.places.items }
+        ensures leaving { self.new.leaving.items ≡ self.old.leaving.items }
+        ensures totals { self.new.totals.items ≡ self.old.totals.items }
+        ensures places_room { OnOk result (vec_len self.new.places < vec_capacity self.new.places) }
+        ensures leaving_room { OnOk result (vec_len self.new.leaving < vec_capacity self.new.leaving) }
+        ensures totals_room { OnOk result (vec_len self.new.totals < vec_capacity self.new.totals) }
+    {
+        self.places.reserve(1)?;
+        self.leaving.reserve(1)?;
+        self.totals.reserve(1)
+    }
 }
 
 /// Counts the edges that leave the node no longer.

@@ -92,13 +92,8 @@ fn grow<A: Allocator + Copy>(
     ensures matched { marked_from 0 marks.new.matched.items ≡ marked_from 0 marks.old.matched.items }
     ensures longer { OnOk result (length graph.new.places.items ≡ length graph.old.places.items + 1) }
 {
-    graph.places.reserve(1)?;
-    graph.leaving.reserve(1)?;
-    graph.totals.reserve(1)?;
-    marks.matched.reserve(1)?;
-    marks.raised.reserve(1)?;
-    marks.counts.reserve(1)?;
-    marks.waiting.reserve(graph.places.len() + 1)?;
+    graph.reserve_place()?;
+    marks.reserve_place(graph.places.len() + 1)?;
     graph.places.push_reserved(FREE);
     graph.leaving.push_reserved(Leaving::new(alloc));
     graph.totals.push_reserved(Counts::none(alloc));
