@@ -40,6 +40,8 @@ pub(crate) struct Out {
 #[derive(Drop)]
 pub(crate) struct Leaving<A: Allocator> {
     outs: Vec<Out, A>,
+    /// How many were left when those that had gone were dropped last.
+    left: usize,
 }
 
 impl<A: Allocator> Model for Leaving<A> {
@@ -58,6 +60,7 @@ impl<A: Allocator> Leaving<A> {
     {
         Leaving {
             outs: Vec::new(alloc),
+            left: 0,
         }
     }
 
@@ -68,18 +71,17 @@ impl<A: Allocator> Leaving<A> {
         self.outs.as_slice()
     }
 
-    /// Where the list is full, drops the edges that have gone, and makes room for as many again as are left and one more.
+    /// Drops the edges that have gone, where the list is more than twice as long as when they were dropped last.
     ///
-    /// So its room grows with the most edges that were there at once, and not with those that came and went; and
-    /// between two calls that visit it at least half as many edges have come as it has room for.
-    pub(crate) fn tidy(&mut self, places: &[Place]) -> Result<(), AllocError>
+    /// So the list is never longer than twice what was left then, and two; and the work is paid by the edges that have
+    /// come since.
+    pub(crate) fn tidy(&mut self, places: &[Place])
         ensures { (self.new ≡ self.old) ⊎ (self.new ≡ filter (is_live places.now) self.old) }
     {
-        if self.outs.len() == self.outs.capacity() {
+        if self.outs.len() / 2 > self.left {
             self.outs.retain(|out| is_live(places, *out));
-            self.outs.reserve(self.outs.len() + 1)?;
+            self.left = self.outs.len();
         }
-        Ok(())
     }
 
     /// Puts an edge to the end.
@@ -95,6 +97,7 @@ impl<A: Allocator> Leaving<A> {
         ensures { self.new ≡ [] }
     {
         self.outs.clear();
+        self.left = 0;
     }
 }
 
@@ -105,7 +108,10 @@ impl<A: Allocator + Clone> Clone for Leaving<A> {
 
     fn clone(&self) -> Result<Leaving<A>, AllocError> {
         let outs = self.outs.clone()?;
-        Ok(Leaving { outs })
+        Ok(Leaving {
+            outs,
+            left: self.left,
+        })
     }
 }
 

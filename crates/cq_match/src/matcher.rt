@@ -272,9 +272,9 @@ impl<A: Allocator> Matcher<A> {
 
     /// Lets the node be able no longer, also where it was not so before: then nothing else is looked at. Takes no memory.
     ///
-    /// The meter counts each edge whose provider stops being matched, and no other work is in proportion to more than
-    /// these and the edges beside them whose waiters have gone, of which a provider keeps no more than in proportion
-    /// to the most edges that left it at once.
+    /// The meter counts each edge whose provider stops being matched. Other work is in proportion to these and to the
+    /// edges beside them whose waiters have gone: a provider drops these as others come, so that it never keeps more than
+    /// in proportion to the edges that left it when it dropped some last.
     pub fn disable(&mut self, node: usize, meter: &mut Meter)
         requires { has_node node self.old ≡ true }
         ensures nodes { self.new.nodes ≡ with_flag node false self.old.nodes }
@@ -288,12 +288,12 @@ impl<A: Allocator> Matcher<A> {
         }
     }
 
-    /// Drops the edges of the node whose waiters have gone, where one more would make their list grow, and makes room for it.
-    fn tidy(&mut self, node: usize) -> Result<(), AllocError>
+    /// Drops edges whose waiters have gone, where the node keeps many of them.
+    fn tidy(&mut self, node: usize)
         requires { Contains (numbers self.old.nodes) node }
         ensures { self.new ≡ self.old }
     {
-        self.graph.leaving[node].tidy(&self.graph.places)
+        self.graph.leaving[node].tidy(&self.graph.places);
     }
 
     /// Puts an edge that touches the node, which is not able.
@@ -339,7 +339,7 @@ impl<A: Allocator> Matcher<A> {
         ensures exact { OnOk result ((n : ℕ) → is_member nat_eq self.new.matched n ≡ is_matched self.new.nodes self.new.edges n) }
     {
         for edge in edges {
-            self.tidy(edge.provider)?;
+            self.tidy(edge.provider);
             self.link(node, *edge)?;
         }
         Ok(())
@@ -409,8 +409,8 @@ impl<A: Allocator + Copy> Matcher<A> {
     /// The edges that leave the node, by waiter, among these by postcondition, and among these by head; none where the
     /// node is not there.
     ///
-    /// The edges that leave the node are looked at and sorted. Others whose waiters have gone may be looked at too, no
-    /// more than in proportion to the most edges that left the node at once. No clause says so.
+    /// The edges that leave the node are sorted. Some whose waiters have gone may be looked at too, as `disable` says. No
+    /// clause says so.
     ///
     /// # Errors
     /// `AllocError` where a growth was refused.
