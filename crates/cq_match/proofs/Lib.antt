@@ -26,5 +26,6 @@ pub mod Settling
 pub mod Slots
 pub mod Standing
 pub mod Tests
+pub mod Tidying
 pub mod Union
 pub mod Waking

@@ -1,6 +1,6 @@
 //! Nodes by their places, and edges with the nodes that they leave.
 
-ghost use Rattle.std.specs.Prelude.{◌≡◌, ℕ, true, ◌+◌, ◌<◌, ◌≤◌, ◌++◌, ◌∷◌, [], List, length, count_by, slice_index_or, if◌then◌else◌};
+ghost use Rattle.std.specs.Prelude.{OnOk, vec_len, vec_capacity, ◌≡◌, ℕ, true, ◌+◌, ◌<◌, ◌≤◌, ◌++◌, ◌∷◌, ◌⊎◌, [], List, length, filter, count_by, slice_index_or, if◌then◌else◌};
 ghost use Rattle.std.specs.List.{All};
 ghost use Rattle.std.specs.Result.{is_ok};
 ghost use Rattle.cq_match.specs.Graph.{leads_to};
@@ -40,6 +40,8 @@ pub(crate) struct Out {
 #[derive(Drop)]
 pub(crate) struct Leaving<A: Allocator> {
     outs: Vec<Out, A>,
+    /// How many were left when those that had gone were dropped last.
+    left: usize,
 }
 
 impl<A: Allocator> Model for Leaving<A> {
@@ -58,6 +60,7 @@ impl<A: Allocator> Leaving<A> {
     {
         Leaving {
             outs: Vec::new(alloc),
+            left: 0,
         }
     }
 
@@ -66,6 +69,19 @@ impl<A: Allocator> Leaving<A> {
         ensures { result.now ≡ self.now }
     {
         self.outs.as_slice()
+    }
+
+    /// Drops the edges that have gone, where the list is more than twice as long as when they were dropped last.
+    ///
+    /// So the list is never longer than twice what was left then, and two; and the work is paid by the edges that have
+    /// come since.
+    pub(crate) fn tidy(&mut self, places: &[Place])
+        ensures { (self.new ≡ self.old) ⊎ (self.new ≡ filter (is_live places.now) self.old) }
+    {
+        if self.outs.len() / 2 > self.left {
+            self.outs.retain(|out| is_live(places, *out));
+            self.left = self.outs.len();
+        }
     }
 
     /// Puts an edge to the end.
@@ -81,6 +97,7 @@ impl<A: Allocator> Leaving<A> {
         ensures { self.new ≡ [] }
     {
         self.outs.clear();
+        self.left = 0;
     }
 }
 
@@ -91,7 +108,10 @@ impl<A: Allocator + Clone> Clone for Leaving<A> {
 
     fn clone(&self) -> Result<Leaving<A>, AllocError> {
         let outs = self.outs.clone()?;
-        Ok(Leaving { outs })
+        Ok(Leaving {
+            outs,
+            left: self.left,
+        })
     }
 }
 
@@ -114,6 +134,22 @@ pub(crate) struct Graph<A: Allocator> {
     pub(crate) leaving: Vec<Leaving<A>, A>,
     /// For each place, how many edges lead to each postcondition of its node.
     pub(crate) totals: Vec<Counts<A>, A>,
+}
+
+impl<A: Allocator> Graph<A> {
+    /// Makes room for one place more.
+    pub(crate) fn reserve_place(&mut self) -> Result<(), AllocError>
+        ensures places { self.new.places.items ≡ self.old.places.items }
+        ensures leaving { self.new.leaving.items ≡ self.old.leaving.items }
+        ensures totals { self.new.totals.items ≡ self.old.totals.items }
+        ensures places_room { OnOk result (vec_len self.new.places < vec_capacity self.new.places) }
+        ensures leaving_room { OnOk result (vec_len self.new.leaving < vec_capacity self.new.leaving) }
+        ensures totals_room { OnOk result (vec_len self.new.totals < vec_capacity self.new.totals) }
+    {
+        self.places.reserve(1)?;
+        self.leaving.reserve(1)?;
+        self.totals.reserve(1)
+    }
 }
 
 /// Counts the edges that leave the node no longer.

@@ -1,6 +1,6 @@
 //! Which nodes are matched, and how many matched providers each postcondition has.
 
-ghost use Rattle.std.specs.Prelude.{◌≡◌, ℕ, ◌+◌, ◌-◌, ◌==◌, ◌<◌, ◌≤◌, ◌≢◌, Bool, ◌++◌, ◌∷◌, ◌&&◌, not, [], List, count_by, length, false, true, replicate, IfOk, slice_index, slice_index_or, slice_set, if◌then◌else◌, vec_len, vec_capacity};
+ghost use Rattle.std.specs.Prelude.{◌≡◌, ℕ, ◌+◌, ◌-◌, ◌==◌, ◌<◌, ◌≤◌, ◌≢◌, Bool, ◌++◌, ◌∷◌, ◌&&◌, not, [], List, count_by, length, false, true, replicate, IfOk, OnOk, slice_index, slice_index_or, slice_set, if◌then◌else◌, vec_len, vec_capacity};
 ghost use Rattle.std.specs.List.{list_any};
 ghost use Rattle.cq_match.specs.Steps.Settle.{stands};
 ghost use Rattle.cq_match.specs.Steps.Kept.{place_at, count_at, edges_left, edges_from, feeds_post, busy, was_raised, OutsFit, Pruning, Counting, Grown, Reaches, Reaching, Settled, Closed};
@@ -114,6 +114,25 @@ pub(crate) struct Marks<A: Allocator> {
 }
 
 impl<A: Allocator> Marks<A> {
+    /// Makes room for one place more, and for so many nodes that wait.
+    pub(crate) fn reserve_place(&mut self, waiting: usize) -> Result<(), AllocError>
+        ensures matched { self.new.matched.items ≡ self.old.matched.items }
+        ensures raised { self.new.raised.items ≡ self.old.raised.items }
+        ensures counts { self.new.counts.items ≡ self.old.counts.items }
+        ensures waiting { self.new.waiting.items ≡ self.old.waiting.items }
+        ensures reached { self.new.reached ≡ self.old.reached }
+        ensures capacity { vec_capacity self.old.waiting ≤ vec_capacity self.new.waiting }
+        ensures matched_room { OnOk result (vec_len self.new.matched < vec_capacity self.new.matched) }
+        ensures raised_room { OnOk result (vec_len self.new.raised < vec_capacity self.new.raised) }
+        ensures counts_room { OnOk result (vec_len self.new.counts < vec_capacity self.new.counts) }
+        ensures waiting_room { OnOk result (waiting ≤ vec_capacity self.new.waiting) }
+    {
+        self.waiting.reserve(waiting)?;
+        self.matched.reserve(1)?;
+        self.raised.reserve(1)?;
+        self.counts.reserve(1)
+    }
+
     /// Counts an edge to the postcondition no longer. Where it was the last one, the waiter is matched no longer.
     fn lower(&mut self, waiter: usize, post: usize)
         requires waiter_within { waiter < length self.old.counts.items }

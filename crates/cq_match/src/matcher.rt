@@ -80,7 +80,7 @@ impl<A: Allocator + Copy> Matcher<A> {
     }
 }
 
-/// Makes one place more, which is free.
+/// Makes one place more, which is free. Each list doubles its room where it is full, so a place takes constant time on average.
 fn grow<A: Allocator + Copy>(
     graph: &mut Graph<A>,
     marks: &mut Marks<A>,
@@ -92,13 +92,8 @@ fn grow<A: Allocator + Copy>(
     ensures matched { marked_from 0 marks.new.matched.items ≡ marked_from 0 marks.old.matched.items }
     ensures longer { OnOk result (length graph.new.places.items ≡ length graph.old.places.items + 1) }
 {
-    graph.places.reserve(1)?;
-    graph.leaving.reserve(1)?;
-    graph.totals.reserve(1)?;
-    marks.matched.reserve(1)?;
-    marks.raised.reserve(1)?;
-    marks.counts.reserve(1)?;
-    marks.waiting.reserve(graph.places.len() + 1)?;
+    graph.reserve_place()?;
+    marks.reserve_place(graph.places.len() + 1)?;
     graph.places.push_reserved(FREE);
     graph.leaving.push_reserved(Leaving::new(alloc));
     graph.totals.push_reserved(Counts::none(alloc));
@@ -108,7 +103,7 @@ fn grow<A: Allocator + Copy>(
     Ok(())
 }
 
-/// Makes the place of the node.
+/// Makes the place of the node, and those before it that are not there yet, one by one.
 fn make_room<A: Allocator + Copy>(
     graph: &mut Graph<A>,
     marks: &mut Marks<A>,
@@ -226,7 +221,8 @@ impl<A: Allocator> Matcher<A> {
 
     /// Lets the node be able, also where it was so already.
     ///
-    /// Where it was not, the able and unmatched nodes that its edges reach are looked at, with their edges, and no others.
+    /// Where it was so, or a postcondition of it has no edge, no other node is looked at. Else those are looked at that
+    /// are able and unmatched and that its edges reach, with their edges, and no others.
     ///
     /// # Errors
     /// `AllocError` where a growth was refused; then nothing has changed.
@@ -240,15 +236,45 @@ impl<A: Allocator> Matcher<A> {
         if self.graph.places[node].able {
             return Ok(());
         }
+        self.wake(node)
+    }
+
+    /// Lets the node be able that was not. Where a postcondition of it has no edge, it looks at no other node.
+    fn wake(&mut self, node: usize) -> Result<(), AllocError>
+        requires there { has_node node self.old ≡ true }
+        requires unable { is_able node self.old.nodes ≡ false }
+        ensures nodes { OnOk result (self.new.nodes ≡ with_flag node true self.old.nodes) }
+        ensures edges { OnOk result (self.new.edges ≡ self.old.edges) }
+        ensures matched { (n : ℕ) → is_member nat_eq self.new.matched n ≡ is_matched self.new.nodes self.new.edges n }
+        ensures err { OnErr result (self.new ≡ self.old) }
+    {
+        if !self.graph.totals[node].has_none() {
+            return self.rouse(node);
+        }
+        self.graph.places[node].able = true;
+        Ok(())
+    }
+
+    /// Lets the node be able that was not, and looks at all nodes that may be matched by that.
+    fn rouse(&mut self, node: usize) -> Result<(), AllocError>
+        requires there { has_node node self.old ≡ true }
+        requires unable { is_able node self.old.nodes ≡ false }
+        ensures nodes { OnOk result (self.new.nodes ≡ with_flag node true self.old.nodes) }
+        ensures edges { OnOk result (self.new.edges ≡ self.old.edges) }
+        ensures matched { (n : ℕ) → is_member nat_eq self.new.matched n ≡ is_matched self.new.nodes self.new.edges n }
+        ensures err { OnErr result (self.new ≡ self.old) }
+    {
         self.marks.reached.reserve(self.graph.places.len())?;
         self.graph.places[node].able = true;
         self.marks.revive(&self.graph, node);
         Ok(())
     }
 
-    /// Lets the node be able no longer, also where it was not so before. Takes no memory.
+    /// Lets the node be able no longer, also where it was not so before: then nothing else is looked at. Takes no memory.
     ///
-    /// The meter counts each edge whose provider stops being matched, and no other work is in proportion to more than these.
+    /// The meter counts each edge whose provider stops being matched. Other work is in proportion to these and to the
+    /// edges beside them whose waiters have gone: a provider drops these as others come, so that it never keeps more than
+    /// in proportion to the edges that left it when it dropped some last.
     pub fn disable(&mut self, node: usize, meter: &mut Meter)
         requires { has_node node self.old ≡ true }
         ensures nodes { self.new.nodes ≡ with_flag node false self.old.nodes }
@@ -260,6 +286,14 @@ impl<A: Allocator> Matcher<A> {
             self.graph.places[node].able = false;
             self.marks.fell(&self.graph, node, meter);
         }
+    }
+
+    /// Drops edges whose waiters have gone, where the node keeps many of them.
+    fn tidy(&mut self, node: usize)
+        requires { Contains (numbers self.old.nodes) node }
+        ensures { self.new ≡ self.old }
+    {
+        self.graph.leaving[node].tidy(&self.graph.places);
     }
 
     /// Puts an edge that touches the node, which is not able.
@@ -305,24 +339,9 @@ impl<A: Allocator> Matcher<A> {
         ensures exact { OnOk result ((n : ℕ) → is_member nat_eq self.new.matched n ≡ is_matched self.new.nodes self.new.edges n) }
     {
         for edge in edges {
+            self.tidy(edge.provider);
             self.link(node, *edge)?;
         }
-        Ok(())
-    }
-
-    /// Lets the node be able that was not. Where a postcondition of it has no edge, it looks at no other node.
-    fn wake(&mut self, node: usize) -> Result<(), AllocError>
-        requires there { has_node node self.old ≡ true }
-        requires unable { is_able node self.old.nodes ≡ false }
-        ensures nodes { OnOk result (self.new.nodes ≡ with_flag node true self.old.nodes) }
-        ensures edges { OnOk result (self.new.edges ≡ self.old.edges) }
-        ensures matched { OnOk result ((n : ℕ) → is_member nat_eq self.new.matched n ≡ is_matched self.new.nodes self.new.edges n) }
-        ensures err { OnErr result (self.new ≡ self.old) }
-    {
-        if !self.graph.totals[node].has_none() {
-            return self.enable(node);
-        }
-        self.graph.places[node].able = true;
         Ok(())
     }
 
@@ -372,8 +391,8 @@ impl<A: Allocator> Matcher<A> {
     /// Lets the node go, with the edges that leave it and those that lead to it. Takes no memory.
     ///
     /// The meter counts each edge whose provider stops being matched, and other work is in proportion to these and
-    /// to the edges that leave the node, those among them whose waiters have gone since; it is not in proportion to
-    /// the edges of its neighbours.
+    /// to the edges that leave the node; it is not in proportion to the edges of its neighbours. Edges whose waiters
+    /// have gone may be looked at too, as `disable` says.
     pub fn remove(&mut self, node: usize, meter: &mut Meter)
         requires { has_node node self.old ≡ true }
         ensures nodes { self.new.nodes ≡ without node self.old.nodes }
@@ -390,8 +409,8 @@ impl<A: Allocator + Copy> Matcher<A> {
     /// The edges that leave the node, by waiter, among these by postcondition, and among these by head; none where the
     /// node is not there.
     ///
-    /// The edges that came to leave the node since it is there are looked at, also where their waiters have gone, and
-    /// those that are left are sorted. No clause says so.
+    /// The edges that leave the node are sorted. Some whose waiters have gone may be looked at too, as `disable` says. No
+    /// clause says so.
     ///
     /// # Errors
     /// `AllocError` where a growth was refused.
