@@ -9,8 +9,8 @@ use Rattle.cq_atom.specs.declared.limits.TheConstants.{MAX_ATOMS}
 use Rattle.cq_atom.specs.Atom.{AtomRecord}
 use Rattle.cq_match.specs.declared.edge.Edge.{Edge}
 use Rattle.cq_index.specs.Index.{AtomMap, IsPartnerAt}
-use Rattle.cq_links.specs.declared.asking.Part.{Part}
-use Rattle.cq_links.specs.declared.asking.Part.TheVariants.{Heads, Posts}
+use Rattle.cq_links.specs.declared.asking.Side.{Side}
+use Rattle.cq_links.specs.declared.asking.Side.TheVariants.{Heads, Posts}
 use Rattle.cq_links.specs.Steps.Asking.{edge_of, Adds, IsAnswer, Answers, IsAnswerTo, AnswersAll}
 use Rattle.cq_links.proofs.Tests.{by_bool, same_number, other_number}
 use Rattle.cq_links.proofs.Once.{mapped, from_mapped, once_append, once_mapped}
@@ -77,7 +77,7 @@ module _ (make : ℕ → ℕ → Edge) (index : AtomMap) (atoms : List AtomRecor
 
 -- ---- an edge tells what it was made of
 
-pub one_key : (part : Part) (place number k l : ℕ) → edge_of part place number k ≡ edge_of part place number l → k ≡ l
+pub one_key : (side : Side) (place number k l : ℕ) → edge_of side place number k ≡ edge_of side place number l → k ≡ l
 one_key Heads place number k l e =
     let quotient : k / MAX_ATOMS ≡ l / MAX_ATOMS = ap (λ (x : Edge). x.waiter) e in
     let rest : k % MAX_ATOMS ≡ l % MAX_ATOMS = ap (λ (x : Edge). x.post) e in
@@ -87,6 +87,6 @@ one_key Posts place number k l e =
     let rest : k % MAX_ATOMS ≡ l % MAX_ATOMS = ap (λ (x : Edge). x.head) e in
     omega arith
 
-pub one_number : (part : Part) (place m n k l : ℕ) → edge_of part place m k ≡ edge_of part place n l → m ≡ n
+pub one_number : (side : Side) (place m n k l : ℕ) → edge_of side place m k ≡ edge_of side place n l → m ≡ n
 one_number Heads place m n k l e = ap (λ (x : Edge). x.head) e
 one_number Posts place m n k l e = ap (λ (x : Edge). x.post) e

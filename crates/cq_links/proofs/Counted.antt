@@ -20,6 +20,7 @@ use Rattle.cq_links.specs.Links.{Ends, LinkMap, all_heads, all_posts, candidate_
 use Rattle.cq_links.specs.Steps.Blocks.{is_in_block}
 use Rattle.cq_links.specs.Steps.Kept.{IsKept}
 use Rattle.cq_links.proofs.Tests.{by_bool, same_number, other_number, nat_tie}
+use Rattle.cq_links.proofs.Keys.{key_is, rest_low}
 use Rattle.cq_links.proofs.Blocks.{no_block, in_block, from_block, shorter_block, own_put, apart}
 
 -- ---- rising places
@@ -96,7 +97,7 @@ distinct_numbered (a ∷ atoms) first rest low distinct = (
   distinct_numbered atoms (suc first) rest (all_weaker (λ k. first + suc (length atoms) ≤ k) (λ k. suc first + length atoms ≤ k) (keys_of rest) (λ k above. let up : first + suc (length atoms) ≤ k = above in omega arith) low) distinct,
 )
 
--- ---- all atoms of one part, with their keys
+-- ---- all atoms of one side, with their keys
 
 module _ (f : Ends → List AtomRecord) where
   keyed : List (ℕ × Ends) → List (ℕ × AtomRecord)
@@ -153,7 +154,7 @@ module _ (f : Ends → List AtomRecord) where
         (λ g. rw g at)))),
   )
 
--- ---- the candidates of an index that keeps one part of all queries
+-- ---- the candidates of an index that keeps one side of all queries
 
 one_longer : (b : Bool) (e : ℕ × AtomRecord) (xs : List (ℕ × AtomRecord)) (ys : List AtomRecord) → length xs ≡ length ys → length (cond b (e ∷ xs) xs) ≡ length (cond b (e.1 ∷ ys) ys)
 one_longer true e xs ys h = ap suc h
@@ -163,20 +164,14 @@ same_length : (test : AtomRecord → Bool) (es : List (ℕ × AtomRecord)) → l
 same_length test [] = refl
 same_length test (e ∷ es) = one_longer (test e.1) e (filter (λ x. test x.1) es) (filter test (map (λ x. x.1) es)) (same_length test es)
 
-key_is : (k : ℕ) → k ≡ k / MAX_ATOMS * MAX_ATOMS + k % MAX_ATOMS
-key_is k = omega arith
-
-rest_low : (k : ℕ) → k % MAX_ATOMS < MAX_ATOMS
-rest_low k = omega arith
-
 candidates_kept : (f : Ends → List AtomRecord) (m : LinkMap) (index : AtomMap) (given : AtomRecord) → ((p i : ℕ) → i < MAX_ATOMS → get index (p * MAX_ATOMS + i) ≡ slice_get (option_map_or f (get m p) []) i)
     → ((p : ℕ) (e : Ends) → get m p ≡ Some e → length (f e) ≤ MAX_ATOMS) → length (candidates_of index given) ≡ candidate_count (flat_map (λ e. f e.1) (entries m)) given
 candidates_kept f m index given there few =
     let sorted = entries_sorted m in
     let short = few_entries f (entries m) sorted (λ p e at. few p e (get-entries m p ∙ at)) in
     candidates-count index given (keyed f (entries m)) (distinct_keyed f (entries m) sorted short)
-    (λ k. ap (get index) (key_is k) ∙ there (k / MAX_ATOMS) (k % MAX_ATOMS) (rest_low k) ∙ ap (λ o. slice_get (option_map_or f o []) (k % MAX_ATOMS)) (get-entries m (k / MAX_ATOMS))
-    ∙ sym (lookup_keyed f (entries m) (k / MAX_ATOMS) (k % MAX_ATOMS) (rest_low k) sorted short) ∙ ap (λ q. lookup (nat_eq q) (keyed f (entries m))) (sym (key_is k)))
+    (λ k. ap (get index) (sym (key_is k)) ∙ there (k / MAX_ATOMS) (k % MAX_ATOMS) (rest_low k) ∙ ap (λ o. slice_get (option_map_or f o []) (k % MAX_ATOMS)) (get-entries m (k / MAX_ATOMS))
+    ∙ sym (lookup_keyed f (entries m) (k / MAX_ATOMS) (k % MAX_ATOMS) (rest_low k) sorted short) ∙ ap (λ q. lookup (nat_eq q) (keyed f (entries m))) (key_is k))
     ∙ same_length (is_candidate given) (keyed f (entries m)) ∙ length-filter (is_candidate given) (map (λ e. e.1) (keyed f (entries m))) ∙ ap (count_by (is_candidate given)) (values_keyed f (entries m))
 
 -- the tests of a new query's atoms, by the indexes

@@ -10,6 +10,7 @@ use Rattle.cq_atom.specs.declared.limits.TheConstants.{MAX_ATOMS}
 use Rattle.cq_atom.specs.Atom.{AtomRecord}
 use Rattle.cq_index.specs.Index.{AtomMap}
 use Rattle.cq_links.specs.Links.{Ends, LinkMap, heads_at, posts_at}
+use Rattle.cq_links.specs.declared.block.TheConstants.{PLACES}
 use Rattle.cq_links.specs.Steps.Blocks.{is_in_block, PutsBlock, TakesBlock}
 use Rattle.cq_links.specs.Steps.Kept.{atoms_from, ends_in, links_of, HasKeys, IsKept}
 use Rattle.cq_links.proofs.Tests.{by_bool, same_number, other_number, nat_tie, inserted, removed}
@@ -187,3 +188,21 @@ has_keys place ends low headed few_heads few_posts = record { headed = headed; f
 pub undone_heads : (place : ℕ) (atoms : List AtomRecord) (old now new : AtomMap) → length atoms ≤ MAX_ATOMS → ((i : ℕ) → i < MAX_ATOMS → get old (place * MAX_ATOMS + i) ≡ None)
     → PutsBlock (place * MAX_ATOMS) atoms old now → TakesBlock (place * MAX_ATOMS) (length atoms) now new → new ≡ old
 undone_heads place atoms old now new few free puts takes = undone old now new (place * MAX_ATOMS) (length atoms) atoms (omega arith) (λ j low. free j (omega arith)) puts takes
+
+-- a query stands where its first head does
+module _ (m : LinkMap) (heads posts : AtomMap) (kept : IsKept m heads posts) (place : ℕ) where
+  headed : (o : Option Ends) → get m place ≡ o → is_some (slice_get (option_map_or (λ e. e.heads) o []) 0) ≡ is_some o
+  headed None none = refl
+  headed (Some e) some = some_first e.heads (kept.keys place e some).headed
+
+  low : (o : Option Ends) → get m place ≡ o → is_some o ≡ true → place * MAX_ATOMS + MAX_ATOMS < 18446744073709551616
+  low None none h = absurd cc
+  low (Some e) some h = (kept.keys place e some).low
+
+  pub first_there : is_some (get heads (place * MAX_ATOMS)) ≡ is_some (get m place)
+  first_there =
+      let start : place * MAX_ATOMS ≡ place * MAX_ATOMS + 0 = omega arith in
+      ap (λ k. is_some (get heads k)) start ∙ ap is_some (kept.heads_there place 0 (omega arith)) ∙ headed (get m place) refl
+
+  pub too_great : PLACES ≤ place → is_some (get m place) ≡ false
+  too_great great = by_bool (is_some (get m place)) (is_some (get m place) ≡ false) (λ t. absurd (let small = low (get m place) refl t in omega arith)) (λ f. f)

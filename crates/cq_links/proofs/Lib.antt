@@ -1,4 +1,5 @@
 pub mod Tests
+pub mod Keys
 pub mod Blocks
 pub mod Once
 pub mod Adding

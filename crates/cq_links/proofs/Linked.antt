@@ -10,11 +10,12 @@ use Rattle.cq_atom.specs.Atom.{AtomRecord}
 use Rattle.cq_atom.specs.Unify.{Unify}
 use Rattle.cq_match.specs.declared.edge.Edge.{Edge}
 use Rattle.cq_index.specs.Index.{AtomMap}
-use Rattle.cq_links.specs.declared.asking.Part.TheVariants.{Heads, Posts}
+use Rattle.cq_links.specs.declared.asking.Side.TheVariants.{Heads, Posts}
 use Rattle.cq_links.specs.Links.{Ends, LinkMap, heads_at, posts_at, IsLink, Touches}
 use Rattle.cq_links.specs.Steps.Kept.{IsKept}
 use Rattle.cq_links.specs.Steps.Asking.{edge_of, Adds, IsAnswerTo, AnswersBoth}
 use Rattle.cq_links.proofs.Tests.{by_bool, same_number, other_number, inserted}
+use Rattle.cq_links.proofs.Keys.{key_is, rest_low, place_of_key, number_of_key}
 use Rattle.cq_links.proofs.Once.{once_apart}
 use Rattle.cq_links.proofs.Adding.{adds_both}
 use Rattle.cq_links.proofs.Kept.{few_heads_at, few_posts_at}
@@ -22,18 +23,6 @@ use Rattle.cq_links.proofs.Kept.{few_heads_at, few_posts_at}
 -- it does not matter which of two atoms is named first
 turned : (a b : AtomRecord) → Unify a b → Unify b a
 turned a b u = record { left = u.right; right = u.left; left_values = u.right_values; right_values = u.left_values; row = u.row; from_left = u.from_right; from_right = u.from_left }
-
-key_is : (k : ℕ) → k / MAX_ATOMS * MAX_ATOMS + k % MAX_ATOMS ≡ k
-key_is k = omega arith
-
-rest_low : (k : ℕ) → k % MAX_ATOMS < MAX_ATOMS
-rest_low k = omega arith
-
-place_of_key : (p i : ℕ) → i < MAX_ATOMS → (p * MAX_ATOMS + i) / MAX_ATOMS ≡ p
-place_of_key p i low = omega arith
-
-number_of_key : (p i : ℕ) → i < MAX_ATOMS → (p * MAX_ATOMS + i) % MAX_ATOMS ≡ i
-number_of_key p i low = omega arith
 
 same_supply : (e : Edge) {place : ℕ} (key : ℕ) → e.waiter ≡ place → key / MAX_ATOMS ≡ e.provider → key % MAX_ATOMS ≡ e.head → e ≡ edge_of Posts place e.post key
 same_supply e key here from number = λ i. record { provider = sym from i; head = sym number i; waiter = here i; post = e.post }

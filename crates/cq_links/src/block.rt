@@ -1,4 +1,4 @@
-//! Blocks of keys: the atoms of one part of a query stand at keys that follow one another.
+//! Blocks of keys: the atoms of one side of a query stand at keys that follow one another.
 
 ghost use Rattle.std.specs.Prelude.{◌≡◌, ℕ, ◌+◌, ◌*◌, ◌<◌, ◌≤◌, ◌^◌, length, slice_get, OnOk, OnErr, None};
 ghost use Rattle.std.specs.FinMap as map;
@@ -11,7 +11,7 @@ use std::alloc::{AllocError, Allocator};
 /// The atoms of each place below this one have keys.
 pub const PLACES: usize = usize::MAX / MAX_ATOMS;
 
-/// Takes the atoms of one part of the query at the place out. Takes no memory.
+/// Takes the atoms of one side of the query at the place out. Takes no memory.
 pub fn take_all<A: Allocator + Copy>(index: &mut AtomIndex<A>, place: usize, atoms: &[Atom<A>])
     requires fits { place * MAX_ATOMS + MAX_ATOMS < 2 ^ 64 }
     requires few { length atoms.now ≤ MAX_ATOMS }
@@ -24,7 +24,7 @@ pub fn take_all<A: Allocator + Copy>(index: &mut AtomIndex<A>, place: usize, ato
     }
 }
 
-/// Puts the atoms of one part of a query in at the place, or changes nothing.
+/// Puts the atoms of one side of a query in at the place, or changes nothing.
 pub fn put_all<A: Allocator + Copy>(
     index: &mut AtomIndex<A>,
     place: usize,

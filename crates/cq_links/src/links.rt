@@ -9,7 +9,7 @@ ghost use Rattle.cq_links.specs.Links.{ends_of, IsLink, Touches, candidate_pairs
 ghost use Rattle.cq_links.specs.Steps.Blocks.{PutsBlock};
 ghost use Rattle.cq_links.specs.Steps.Asking.{AnswersBoth};
 
-use crate::asking::{Part, ask_all};
+use crate::asking::{Side, ask_all};
 use crate::block::{PLACES, put_all, take_all};
 use cq_atom::{MAX_ATOMS, Meter, Query};
 use cq_index::AtomIndex;
@@ -56,8 +56,8 @@ fn edges_of<A: Allocator + Copy>(
     ensures ticks { OnOk result (tests.new ≡ min (tests.old + (sum_by (λ post. length (candidates_of heads.now post)) query.now.posts + sum_by (λ head. length (candidates_of posts.now head)) query.now.heads)) u64.MAX) }
 {
     let mut edges = Vec::new(alloc);
-    ask_all(&mut edges, heads, Part::Posts, place, query.posts(), tests)?;
-    ask_all(&mut edges, posts, Part::Heads, place, query.heads(), tests)?;
+    ask_all(&mut edges, heads, Side::Posts, place, query.posts(), tests)?;
+    ask_all(&mut edges, posts, Side::Heads, place, query.heads(), tests)?;
     Ok(edges)
 }
 
@@ -95,8 +95,17 @@ impl<A: Allocator + Copy> Links<A> {
         }
     }
 
+    /// Whether a query stands at the place. Constant expected time.
+    pub fn has(&self, place: usize) -> bool
+        ensures { result ≡ map.contains_key self.now place }
+    {
+        let heads = &self.heads;
+        place < PLACES && heads.has(place * MAX_ATOMS)
+    }
+
     /// Puts the query at the place, where none stands, and gives the edges that this makes, in no order
-    /// that anyone is told. The meter counts one test for each pair of atoms that is tested.
+    /// that anyone is told. The meter counts one test for each pair of atoms that is tested. Constant
+    /// expected time for each atom of the query beside the tests, up to sorting what is tested.
     ///
     /// # Errors
     /// `AllocError` where a growth was refused, and where the place is so great that its atoms have no
@@ -132,7 +141,7 @@ impl<A: Allocator + Copy> Links<A> {
         linked
     }
 
-    /// Takes the query away that stands at the place. Takes no memory.
+    /// Takes the query away that stands at the place. Takes no memory, and constant expected time for each of its atoms.
     pub fn remove(&mut self, place: usize, query: &Query<A>)
         requires { map.get self.old place ≡ Some (ends_of query.now) }
         ensures { self.new ≡ map.remove self.old place }
@@ -141,7 +150,7 @@ impl<A: Allocator + Copy> Links<A> {
         take_all(&mut self.posts, place, query.posts());
     }
 
-    /// Links with the same queries at the same places, on the same allocator.
+    /// Links with the same queries at the same places, on the same allocator. Constant expected time for each atom.
     ///
     /// # Errors
     /// `AllocError` where a growth was refused.

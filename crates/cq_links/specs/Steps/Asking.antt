@@ -1,15 +1,15 @@
--- Edges that are found by asking one part of all queries for the partners of atoms of the other part.
+-- Edges that are found by asking one side of all queries for the partners of atoms of the other side.
 use Rattle.std.specs.Prelude.{◌≡◌, ◌↔◌, ⊤, ℕ, ◌/◌, ◌%◌, List, [], ◌∷◌, ◌++◌, Some, slice_get}
 use Rattle.std.specs.List.{Contains}
 use Rattle.cq_atom.specs.declared.limits.TheConstants.{MAX_ATOMS}
 use Rattle.cq_atom.specs.Atom.{AtomRecord}
 use Rattle.cq_match.specs.declared.edge.Edge.{Edge}
 use Rattle.cq_index.specs.Index.{AtomMap, IsPartnerAt}
-use Rattle.cq_links.specs.declared.asking.Part.{Part}
-use Rattle.cq_links.specs.declared.asking.Part.TheVariants.{Heads, Posts}
+use Rattle.cq_links.specs.declared.asking.Side.{Side}
+use Rattle.cq_links.specs.declared.asking.Side.TheVariants.{Heads, Posts}
 
--- The edge between the atom of that number in the part of the query at the place, and the atom of the other part at the key.
-abbrev pub edge_of : Part → ℕ → ℕ → ℕ → Edge
+-- The edge between the atom of that number on the side of the query at the place, and the atom of the other side at the key.
+abbrev pub edge_of : Side → ℕ → ℕ → ℕ → Edge
 edge_of Heads place number key = record { provider = place; head = number; waiter = key / MAX_ATOMS; post = key % MAX_ATOMS }
 edge_of Posts place number key = record { provider = key / MAX_ATOMS; head = key % MAX_ATOMS; waiter = place; post = number }
 

@@ -7,6 +7,6 @@ use Rattle.cq_links.proofs.asking.ask_all.Given as goal
 
 abbrev pub invariant-loop-number : goal.invariant-loop-number
 invariant-loop-number g l = record {
-  grown : Adds (IsAnswerBefore (edge_of l.part l.place) l.index l.atoms l.number) l.fn.edges.items l.edges.items;
+  grown : Adds (IsAnswerBefore (edge_of l.side l.place) l.index l.atoms l.number) l.fn.edges.items l.edges.items;
   counted : l.tests ≡ min (l.fn.tests + sum_by (λ atom. length (candidates_of l.index atom)) (take l.number l.atoms)) 18446744073709551615;
 }
