@@ -16,9 +16,10 @@ use Rattle.cq_atom.specs.declared.limits.TheConstants.{MAX_ATOMS}
 use Rattle.cq_atom.specs.Atom.{AtomRecord}
 use Rattle.cq_index.specs.Index.{AtomMap, is_candidate, candidates_of}
 use Rattle.cq_index.proofs.CallerLemmas.{candidates-count}
-use Rattle.cq_links.specs.Links.{Ends, LinkMap, all_heads, all_posts, candidate_count, candidate_pairs}
+use Rattle.cq_links.specs.Links.{Ends, LinkMap, candidate_count, candidate_pairs}
 use Rattle.cq_links.specs.Steps.Blocks.{is_in_block}
 use Rattle.cq_links.specs.Steps.Kept.{IsKept}
+use Rattle.cq_links.specs.Steps.Asking.{pairs_tested}
 use Rattle.cq_links.proofs.Tests.{by_bool, same_number, other_number, nat_tie}
 use Rattle.cq_links.proofs.Keys.{key_is, rest_low}
 use Rattle.cq_links.proofs.Blocks.{no_block, in_block, from_block, shorter_block, own_put, apart}
@@ -173,10 +174,6 @@ candidates_kept f m index given there few =
     (λ k. ap (get index) (sym (key_is k)) ∙ there (k / MAX_ATOMS) (k % MAX_ATOMS) (rest_low k) ∙ ap (λ o. slice_get (option_map_or f o []) (k % MAX_ATOMS)) (get-entries m (k / MAX_ATOMS))
     ∙ sym (lookup_keyed f (entries m) (k / MAX_ATOMS) (k % MAX_ATOMS) (rest_low k) sorted short) ∙ ap (λ q. lookup (nat_eq q) (keyed f (entries m))) (key_is k))
     ∙ same_length (is_candidate given) (keyed f (entries m)) ∙ length-filter (is_candidate given) (map (λ e. e.1) (keyed f (entries m))) ∙ ap (count_by (is_candidate given)) (values_keyed f (entries m))
-
--- the tests of a new query's atoms, by the indexes
-abbrev pub pairs_tested : List AtomRecord → List AtomRecord → AtomMap → AtomMap → ℕ
-pairs_tested posts heads all_heads all_posts = sum_by (λ post. length (candidates_of all_heads post)) posts + sum_by (λ head. length (candidates_of all_posts head)) heads
 
 pub pairs_counted : (m : LinkMap) (place : ℕ) (new : Ends) (heads posts new_heads new_posts : AtomMap) → IsKept m heads posts → IsKept (insert m place new) new_heads new_posts
     → pairs_tested new.posts new.heads new_heads posts ≡ candidate_pairs m place new

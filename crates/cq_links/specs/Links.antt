@@ -21,6 +21,7 @@ pub record Ends : Type 0 where
 abbrev pub LinkMap : Type 0
 LinkMap = FinMap nat_cmp Ends
 
+-- The ends of a query.
 abbrev pub ends_of : QueryRecord → Ends
 ends_of query = record { heads = query.heads; posts = query.posts }
 
@@ -44,10 +45,11 @@ pub record IsLink (links : LinkMap) (edge : Edge) : Type 0 where
 abbrev pub Touches : ℕ → Edge → Type 0
 Touches place edge = (edge.provider ≡ place) ⊎ (edge.waiter ≡ place)
 
--- All heads, and all postconditions.
+-- The heads of all queries.
 abbrev pub all_heads : LinkMap → List AtomRecord
 all_heads links = flat_map (λ entry. entry.1.heads) (entries links)
 
+-- The postconditions of all queries.
 abbrev pub all_posts : LinkMap → List AtomRecord
 all_posts links = flat_map (λ entry. entry.1.posts) (entries links)
 

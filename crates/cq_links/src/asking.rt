@@ -21,18 +21,18 @@ pub enum Side {
 fn edge_of(side: Side, place: usize, number: u8, key: usize) -> Edge
     ensures { result ≡ edge_of side place number key }
 {
-    let other = key / MAX_ATOMS;
-    let place_there = (key % MAX_ATOMS) as u8;
+    let other_place = key / MAX_ATOMS;
+    let other_number = (key % MAX_ATOMS) as u8;
     match side {
         Side::Heads => Edge {
             provider: place,
             head: number,
-            waiter: other,
-            post: place_there,
+            waiter: other_place,
+            post: other_number,
         },
         Side::Posts => Edge {
-            provider: other,
-            head: place_there,
+            provider: other_place,
+            head: other_number,
             waiter: place,
             post: number,
         },

@@ -1,13 +1,12 @@
 //! The links: heads and postconditions of queries at places.
 
-ghost use Rattle.std.specs.Prelude.{◌≡◌, ◌↔◌, ℕ, ◌+◌, ◌*◌, ◌<◌, ◌≤◌, ◌^◌, ◌≢◌, min, length, sum_by, Some, None, IfOk, OnOk, OnErr};
+ghost use Rattle.std.specs.Prelude.{◌≡◌, ◌↔◌, ℕ, ◌+◌, ◌*◌, ◌<◌, ◌≤◌, ◌^◌, ◌≢◌, min, length, Some, None, IfOk, OnOk, OnErr};
 ghost use Rattle.std.specs.FinMap as map;
 ghost use Rattle.std.specs.List.{Contains, AllPairs};
 ghost use Rattle.cq_match.specs.declared.edge.Edge.{Edge};
-ghost use Rattle.cq_index.specs.Index.{candidates_of};
 ghost use Rattle.cq_links.specs.Links.{ends_of, IsLink, Touches, candidate_pairs};
 ghost use Rattle.cq_links.specs.Steps.Blocks.{PutsBlock};
-ghost use Rattle.cq_links.specs.Steps.Asking.{AnswersBoth};
+ghost use Rattle.cq_links.specs.Steps.Asking.{AnswersBoth, pairs_tested};
 
 use crate::asking::{Side, ask_all};
 use crate::block::{PLACES, put_all, take_all};
@@ -53,7 +52,7 @@ fn edges_of<A: Allocator + Copy>(
     tests: &mut Meter,
 ) -> Result<Vec<Edge, A>, AllocError>
     ensures edges { IfOk result (λ edges. AnswersBoth place query.now.posts query.now.heads heads.now posts.now edges.items) }
-    ensures ticks { OnOk result (tests.new ≡ min (tests.old + (sum_by (λ post. length (candidates_of heads.now post)) query.now.posts + sum_by (λ head. length (candidates_of posts.now head)) query.now.heads)) u64.MAX) }
+    ensures ticks { OnOk result (tests.new ≡ min (tests.old + pairs_tested query.now.posts query.now.heads heads.now posts.now) u64.MAX) }
 {
     let mut edges = Vec::new(alloc);
     ask_all(&mut edges, heads, Side::Posts, place, query.posts(), tests)?;
@@ -73,7 +72,7 @@ fn link<A: Allocator + Copy>(
     requires fits { place * MAX_ATOMS + MAX_ATOMS < 2 ^ 64 }
     requires free { (i : ℕ) → i < MAX_ATOMS → map.get posts.old (place * MAX_ATOMS + i) ≡ None }
     ensures edges { IfOk result (λ edges. AnswersBoth place query.now.posts query.now.heads heads.now posts.old edges.items) }
-    ensures ticks { OnOk result (tests.new ≡ min (tests.old + (sum_by (λ post. length (candidates_of heads.now post)) query.now.posts + sum_by (λ head. length (candidates_of posts.old head)) query.now.heads)) u64.MAX) }
+    ensures ticks { OnOk result (tests.new ≡ min (tests.old + pairs_tested query.now.posts query.now.heads heads.now posts.old) u64.MAX) }
     ensures ok { OnOk result (PutsBlock (place * MAX_ATOMS) query.now.posts posts.old posts.new) }
     ensures few { OnOk result (length query.now.posts ≤ MAX_ATOMS) }
     ensures err { OnErr result (posts.new ≡ posts.old) }

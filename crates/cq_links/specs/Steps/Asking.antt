@@ -1,10 +1,10 @@
 -- Edges that are found by asking one side of all queries for the partners of atoms of the other side.
-use Rattle.std.specs.Prelude.{◌≡◌, ◌↔◌, ⊤, ℕ, ◌/◌, ◌%◌, List, [], ◌∷◌, ◌++◌, Some, slice_get}
+use Rattle.std.specs.Prelude.{◌≡◌, ◌↔◌, ⊤, ℕ, ◌+◌, ◌/◌, ◌%◌, List, [], ◌∷◌, ◌++◌, Some, slice_get, sum_by, length}
 use Rattle.std.specs.List.{Contains}
 use Rattle.cq_atom.specs.declared.limits.TheConstants.{MAX_ATOMS}
 use Rattle.cq_atom.specs.Atom.{AtomRecord}
 use Rattle.cq_match.specs.declared.edge.Edge.{Edge}
-use Rattle.cq_index.specs.Index.{AtomMap, IsPartnerAt}
+use Rattle.cq_index.specs.Index.{AtomMap, candidates_of, IsPartnerAt}
 use Rattle.cq_links.specs.declared.asking.Side.{Side}
 use Rattle.cq_links.specs.declared.asking.Side.TheVariants.{Heads, Posts}
 
@@ -33,7 +33,7 @@ IsAnswer make index given edge = (key : ℕ) × (edge ≡ make key) × IsPartner
 abbrev pub Answers : (ℕ → Edge) → AtomMap → AtomRecord → List Edge → List Edge → Type 0
 Answers make index given old new = Adds (IsAnswer make index given) old new
 
--- The edge is between one of the atoms, from that number on, and one of the index that unifies with it.
+-- The edge is between one of the atoms, by its number, and one of the index that unifies with it.
 abbrev pub IsAnswerTo : (ℕ → ℕ → Edge) → AtomMap → List AtomRecord → Edge → Type 0
 IsAnswerTo make index atoms edge = (number : ℕ) × (given : AtomRecord) × (slice_get atoms number ≡ Some given) × IsAnswer (make number) index given edge
 
@@ -46,3 +46,7 @@ pub record AnswersBoth (place : ℕ) (posts heads : List AtomRecord) (all_heads 
   pub halfway : List Edge
   pub supplied : AnswersAll (edge_of Posts place) all_heads posts [] halfway
   pub supplying : AnswersAll (edge_of Heads place) all_posts heads halfway edges
+
+-- How many tests that asking takes.
+abbrev pub pairs_tested : List AtomRecord → List AtomRecord → AtomMap → AtomMap → ℕ
+pairs_tested posts heads all_heads all_posts = sum_by (λ post. length (candidates_of all_heads post)) posts + sum_by (λ head. length (candidates_of all_posts head)) heads

@@ -3,11 +3,12 @@ use Rattle.std.specs.FinMap.{insert}
 use Rattle.cq_atom.specs.declared.limits.TheConstants.{MAX_ATOMS}
 use Rattle.cq_links.specs.Links.{LinkMap, ends_of, IsLink, Touches, candidate_pairs}
 use Rattle.cq_links.specs.Steps.Blocks.{PutsBlock, TakesBlock}
+use Rattle.cq_links.specs.Steps.Asking.{pairs_tested}
 use Rattle.cq_links.specs.Steps.Kept.{links_of, IsKept}
 use Rattle.cq_links.proofs.Outcomes.{if_ok, on_ok, on_err, from_ok, from_err}
 use Rattle.cq_links.proofs.Kept.{kept_of, seen, kept_seen, kept_added, free_heads, free_posts, has_keys, undone_heads}
 use Rattle.cq_links.proofs.Linked.{exact, once}
-use Rattle.cq_links.proofs.Counted.{pairs_tested, pairs_counted}
+use Rattle.cq_links.proofs.Counted.{pairs_counted}
 use Rattle.cq_links.proofs.links.Links.add.Goals as goal
 
 pub put_all-requires-clause-free : goal.put_all-requires-clause-free
