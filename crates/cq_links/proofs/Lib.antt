@@ -1,0 +1,9 @@
+pub mod Tests
+pub mod Keys
+pub mod Blocks
+pub mod Once
+pub mod Adding
+pub mod Kept
+pub mod Linked
+pub mod Outcomes
+pub mod Counted
