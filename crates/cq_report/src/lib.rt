@@ -18,6 +18,7 @@ mod output;
 mod page;
 mod reply;
 mod reporting;
+mod roster;
 mod running;
 mod setup;
 mod stage;
