@@ -15,9 +15,9 @@ ghost use Rattle.cq_report.specs.Steps.Put.{Put};
 ghost use Rattle.cq_report.specs.Steps.Left.{query_at, edges_to_query, edges_at};
 
 use crate::fault::RunFault;
+use crate::listing::Listing;
 use crate::output::Output;
 use crate::page::Page;
-use crate::roster::Roster;
 use cq_atom::{Name, Query, Value};
 use cq_board::Board;
 use cq_ground::Groundings;
@@ -94,10 +94,10 @@ fn text_line<A: Allocator + Copy>(alloc: A, query: &Query<A>) -> Result<String<A
 }
 
 /// The name of the query of that number, or nothing where there is none.
-fn name_or_none<'a, A: Allocator>(roster: &Roster<'a, A>, place: usize) -> &'a str
-    ensures { result.now ≡ name_or_none (name_at roster.now.board.now.pending place) }
+fn name_or_none<'a, A: Allocator>(listing: &Listing<'a, A>, place: usize) -> &'a str
+    ensures { result.now ≡ name_or_none (name_at listing.now.board.now.pending place) }
 {
-    match roster.names.get(place) {
+    match listing.names.get(place) {
         Some(name) => name.as_str(),
         None => "",
     }
@@ -105,12 +105,12 @@ fn name_or_none<'a, A: Allocator>(roster: &Roster<'a, A>, place: usize) -> &'a s
 
 fn provider_line<A: Allocator>(
     alloc: A,
-    roster: &Roster<'_, A>,
+    listing: &Listing<'_, A>,
     edge: &Edge,
 ) -> Result<String<A>, AllocError>
-    ensures { IfOk result (λ text. string_bytes text ≡ provider_line roster.now.board.now.pending edge.now) }
+    ensures { IfOk result (λ text. string_bytes text ≡ provider_line listing.now.board.now.pending edge.now) }
 {
-    let name = name_or_none(roster, edge.provider);
+    let name = name_or_none(listing, edge.provider);
     let head = edge.head;
     format!(in alloc; "    {name} head {head}\n")
 }
@@ -192,16 +192,16 @@ fn put_relations<P: Page, A: Allocator + Copy>(
 /// Puts the providers of a postcondition.
 fn put_providers<P: Page, A: Allocator + Copy>(
     alloc: A,
-    roster: &Roster<'_, A>,
+    listing: &Listing<'_, A>,
     providers: &[Edge],
     page: &mut P,
 ) -> Result<(), RunFault>
     requires { P.is_ready page.old }
-    ensures put { P.puts page.old page.new (flat_map (provider_line roster.now.board.now.pending) providers.now) result }
+    ensures put { P.puts page.old page.new (flat_map (provider_line listing.now.board.now.pending) providers.now) result }
     ensures ready { OnOk result (P.is_ready page.new) }
 {
     for edge in providers {
-        put_made(page, provider_line(alloc, roster, edge))?;
+        put_made(page, provider_line(alloc, listing, edge))?;
     }
     Ok(())
 }
@@ -209,38 +209,38 @@ fn put_providers<P: Page, A: Allocator + Copy>(
 /// Puts how many providers a postcondition has, and each of them.
 fn put_post<P: Page, A: Allocator + Copy>(
     alloc: A,
-    roster: &Roster<'_, A>,
+    listing: &Listing<'_, A>,
     post: usize,
     providers: &[Edge],
     page: &mut P,
 ) -> Result<(), RunFault>
     requires { P.is_ready page.old }
-    ensures put { P.puts page.old page.new (count_line post (length providers.now) ++ flat_map (provider_line roster.now.board.now.pending) providers.now) result }
+    ensures put { P.puts page.old page.new (count_line post (length providers.now) ++ flat_map (provider_line listing.now.board.now.pending) providers.now) result }
     ensures ready { OnOk result (P.is_ready page.new) }
 {
     put_made(page, count_line(alloc, post, providers.len()))?;
-    put_providers(alloc, roster, providers, page)
+    put_providers(alloc, listing, providers, page)
 }
 
 /// Puts what is told of each postcondition of the query of that number, to which the edges lead.
 fn put_posts<P: Page, A: Allocator + Copy>(
     alloc: A,
-    roster: &Roster<'_, A>,
+    listing: &Listing<'_, A>,
     waiter: usize,
     query: &Query<A>,
     edges: &[Edge],
     page: &mut P,
 ) -> Result<(), RunFault>
     requires ready { P.is_ready page.old }
-    requires query { query_at roster.now.board.now.pending waiter ≡ Some query.now }
-    requires edges { edges.now ≡ edges_to_query roster.now.board.now.pending waiter query.now }
-    ensures put { P.puts page.old page.new (flat_map (λ post. post_lines roster.now.board.now.pending waiter post.0) (enumerate_from 0 query.now.posts)) result }
+    requires query { query_at listing.now.board.now.pending waiter ≡ Some query.now }
+    requires edges { edges.now ≡ edges_to_query listing.now.board.now.pending waiter query.now }
+    ensures put { P.puts page.old page.new (flat_map (λ post. post_lines listing.now.board.now.pending waiter post.0) (enumerate_from 0 query.now.posts)) result }
     ensures ready { OnOk result (P.is_ready page.new) }
 {
     let mut left = edges;
     for post in 0..query.posts().len() {
         let (providers, others) = left.split_at(count_to_post(left, post));
-        put_post(alloc, roster, post, providers, page)?;
+        put_post(alloc, listing, post, providers, page)?;
         left = others;
     }
     Ok(())
@@ -296,19 +296,19 @@ fn put_heading<P: Page, A: Allocator + Copy>(
 /// Puts what is told of the query of that number and name, to which the edges lead.
 fn put_query<P: Page, A: Allocator + Copy>(
     alloc: A,
-    roster: &Roster<'_, A>,
+    listing: &Listing<'_, A>,
     waiter: usize,
     name: &Name<A>,
     edges: &[Edge],
     page: &mut P,
 ) -> Result<(), RunFault>
     requires ready { P.is_ready page.old }
-    requires name { name_at roster.now.board.now.pending waiter ≡ Some name.now }
-    requires edges { (posted : PendingQuery) → slice_get roster.now.board.now.pending waiter ≡ Some posted → edges.now ≡ edges_at roster.now.board.now.pending (waiter, posted) }
-    ensures put { (posted : PendingQuery) → slice_get roster.now.board.now.pending waiter ≡ Some posted → P.puts page.old page.new (query_lines roster.now.board.now (waiter, posted)) result }
+    requires name { name_at listing.now.board.now.pending waiter ≡ Some name.now }
+    requires edges { (posted : PendingQuery) → slice_get listing.now.board.now.pending waiter ≡ Some posted → edges.now ≡ edges_at listing.now.board.now.pending (waiter, posted) }
+    ensures put { (posted : PendingQuery) → slice_get listing.now.board.now.pending waiter ≡ Some posted → P.puts page.old page.new (query_lines listing.now.board.now (waiter, posted)) result }
     ensures ready { OnOk result (P.is_ready page.new) }
 {
-    let board = roster.board;
+    let board = listing.board;
     let _good = board.len();
     let Some(query) = board.query(name) else {
         unreachable!()
@@ -318,26 +318,26 @@ fn put_query<P: Page, A: Allocator + Copy>(
     };
     let matched = board.is_matched(name).unwrap_or(false);
     put_heading(alloc, name, matched, query, page)?;
-    put_posts(alloc, roster, waiter, query, edges, page)?;
+    put_posts(alloc, listing, waiter, query, edges, page)?;
     put_groundings(alloc, query, groundings, page)
 }
 
 /// Puts what is told of each pending query. The edges are all edges.
 fn put_each<P: Page, A: Allocator + Copy>(
     alloc: A,
-    roster: &Roster<'_, A>,
+    listing: &Listing<'_, A>,
     edges: &[Edge],
     page: &mut P,
 ) -> Result<(), RunFault>
     requires ready { P.is_ready page.old }
-    requires edges { edges.now ≡ edges_of roster.now.board.now.pending }
-    ensures put { P.puts page.old page.new (flat_map (query_lines roster.now.board.now) (enumerate_from 0 roster.now.board.now.pending)) result }
+    requires edges { edges.now ≡ edges_of listing.now.board.now.pending }
+    ensures put { P.puts page.old page.new (flat_map (query_lines listing.now.board.now) (enumerate_from 0 listing.now.board.now.pending)) result }
     ensures ready { OnOk result (P.is_ready page.new) }
 {
     let mut left = edges;
-    for (waiter, name) in roster.names.iter().enumerate() {
+    for (waiter, name) in listing.names.iter().enumerate() {
         let (edges, others) = left.split_at(count_to_waiter(left, waiter));
-        put_query(alloc, roster, waiter, name, edges, page)?;
+        put_query(alloc, listing, waiter, name, edges, page)?;
         left = others;
     }
     Ok(())
@@ -355,11 +355,11 @@ fn put_queries<P: Page, A: Allocator + Copy>(
 {
     let names = board.names()?;
     let edges = board.edges_by_place()?;
-    let roster = Roster {
+    let listing = Listing {
         board,
         names: &names,
     };
-    put_each(alloc, &roster, &edges, page)
+    put_each(alloc, &listing, &edges, page)
 }
 
 /// Puts the report.

@@ -6,8 +6,8 @@ use Rattle.cq_report.proofs.reporting.name_or_none.Goals as goal
 pub returns-in-Some : goal.returns-in-Some
 returns-in-Some g c =
     c.as_str.ensures.bytes
-    ∙ sym (ap name_or_none (name_read (λ name. name.now) c.args.roster.now.names.now c.args.roster.now.board.now.pending c.args.roster.now.named c.args.place c.in-Some.name.now c.in-Some.ensures.lookup.3.0 c.in-Some.ensures.lookup.1))
+    ∙ sym (ap name_or_none (name_read (λ name. name.now) c.args.listing.now.names.now c.args.listing.now.board.now.pending c.args.listing.now.named c.args.place c.in-Some.name.now c.in-Some.ensures.lookup.3.0 c.in-Some.ensures.lookup.1))
 
 pub returns-in-None : goal.returns-in-None
 returns-in-None g c =
-    sym (ap name_or_none (name_past (λ name. name.now) c.args.roster.now.names.now c.args.roster.now.board.now.pending c.args.roster.now.named c.args.place c.in-None.ensures.lookup.3))
+    sym (ap name_or_none (name_past (λ name. name.now) c.args.listing.now.names.now c.args.listing.now.board.now.pending c.args.listing.now.named c.args.place c.in-None.ensures.lookup.3))

@@ -1,5 +1,5 @@
-use Rattle.std.proofs.Common.{◌≡◌, ◌+◌, ◌≤◌, ◌<◌, ◌==◌, ℕ, List, length, drop, sym, ap, subst, arith, Some}
-use Rattle.std.specs.List.{flat_map, enumerate_from, slice_get}
+use Rattle.std.proofs.Common.{◌+◌, ◌≤◌, ◌<◌, ◌==◌, ℕ, List, length, drop, sym, ap, subst, arith}
+use Rattle.std.specs.List.{flat_map, enumerate_from}
 use Rattle.std.proofs.lemmas.List.Sums.{prefix_len-le-length}
 use Rattle.std.proofs.lemmas.Result.{err_from_is_err_and}
 use Rattle.cq_board.specs.Pool.{PendingQuery}
@@ -15,18 +15,18 @@ split_at-requires g c = subst (λ (n : ℕ). n ≤ length c.loop-waiter.left.now
 
 pub put_query-requires-clause-name : goal.put_query-requires-clause-name
 put_query-requires-clause-name g c =
-    name_read (λ name. name.now) c.args.roster.now.names.now c.args.roster.now.board.now.pending c.args.roster.now.named c.loop-waiter.waiter c.name-item.result c.loop-waiter-test.true c.name-item.is
+    name_read (λ name. name.now) c.args.listing.now.names.now c.args.listing.now.board.now.pending c.args.listing.now.named c.loop-waiter.waiter c.name-item.result c.loop-waiter-test.true c.name-item.is
 
 pub put_query-requires-clause-edges : goal.put_query-requires-clause-edges
 put_query-requires-clause-edges g c = λ posted here.
-    (waiter_front c.args.roster.now.board.now.pending c.loop-waiter.waiter _ posted c.loop-waiter.left.now _ _ here c.loop-waiter.invariant.left c.count_to_waiter.ensures c.split_at.ensures.front c.split_at.ensures.back).0
+    (waiter_front c.args.listing.now.board.now.pending c.loop-waiter.waiter _ posted c.loop-waiter.left.now _ _ here c.loop-waiter.invariant.left c.count_to_waiter.ensures c.split_at.ensures.front c.split_at.ensures.back).0
 
 pub returns-in_err-put_query-clause-put : goal.returns-in_err-put_query-clause-put
 returns-in_err-put_query-clause-put g c =
     let i = c.loop-waiter.waiter in
-    let pool = c.args.roster.now.board.now in
+    let pool = c.args.listing.now.board.now in
     let f = query_lines pool in
-    let many = as_many (λ name. name.now) c.args.roster.now.names.now pool.pending c.args.roster.now.named in
+    let many = as_many (λ name. name.now) c.args.listing.now.names.now pool.pending c.args.listing.now.named in
     let low : i < length pool.pending = omega (arith, many) in
     let waiter = item_at pool.pending i low in
     let p = err_from_is_err_and c.from_residual.result c.from_residual.ensures.1 in
@@ -36,9 +36,9 @@ returns-in_err-put_query-clause-put g c =
 pub loop-waiter-preserved : goal.loop-waiter-preserved
 loop-waiter-preserved g c =
     let i = c.loop-waiter.waiter in
-    let pool = c.args.roster.now.board.now in
+    let pool = c.args.listing.now.board.now in
     let f = query_lines pool in
-    let many = as_many (λ name. name.now) c.args.roster.now.names.now pool.pending c.args.roster.now.named in
+    let many = as_many (λ name. name.now) c.args.listing.now.names.now pool.pending c.args.listing.now.named in
     let low : i < length pool.pending = omega (arith, many) in
     let waiter = item_at pool.pending i low in
     let front = waiter_front pool.pending i _ waiter.item c.loop-waiter.left.now _ _ waiter.got c.loop-waiter.invariant.left c.count_to_waiter.ensures c.split_at.ensures.front c.split_at.ensures.back in
@@ -51,6 +51,6 @@ loop-waiter-preserved g c =
 
 pub returns-clause-put : goal.returns-clause-put
 returns-clause-put g c =
-    let pool = c.args.roster.now.board.now in
-    let many = as_many (λ name. name.now) c.args.roster.now.names.now pool.pending c.args.roster.now.named in
+    let pool = c.args.listing.now.board.now in
+    let many = as_many (λ name. name.now) c.args.listing.now.names.now pool.pending c.args.listing.now.named in
     onward-end g.P.Page.puts g.met.P.Page.nothing _ _ _ _ (ap (λ (ps : List PendingQuery). flat_map (query_lines pool) (enumerate_from c.loop-waiter.waiter ps)) (nothing_left pool.pending c.loop-waiter.waiter (omega (arith, many)))) c.loop-waiter.invariant.onward

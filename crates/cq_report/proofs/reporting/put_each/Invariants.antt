@@ -7,9 +7,9 @@ use Rattle.cq_report.proofs.reporting.put_each.Given as goal
 
 abbrev pub invariant-loop-waiter : goal.invariant-loop-waiter
 invariant-loop-waiter g l = record {
-  left : l.left ≡ flat_map (edges_at l.roster.board.now.pending) (enumerate_from l.waiter (drop l.waiter l.roster.board.now.pending));
+  left : l.left ≡ flat_map (edges_at l.listing.board.now.pending) (enumerate_from l.waiter (drop l.waiter l.listing.board.now.pending));
   onward : Onward g.P.Page.puts l.initial.page l.page
-      (flat_map (query_lines l.roster.board.now) (enumerate_from 0 l.roster.board.now.pending))
-      (flat_map (query_lines l.roster.board.now) (enumerate_from l.waiter (drop l.waiter l.roster.board.now.pending)));
+      (flat_map (query_lines l.listing.board.now) (enumerate_from 0 l.listing.board.now.pending))
+      (flat_map (query_lines l.listing.board.now) (enumerate_from l.waiter (drop l.waiter l.listing.board.now.pending)));
   ready : g.P.Page.is_ready l.page;
 }

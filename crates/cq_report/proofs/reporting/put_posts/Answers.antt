@@ -16,7 +16,7 @@ split_at-requires g c = subst (λ (n : ℕ). n ≤ length c.loop-post.left.now) 
 pub returns-in_err-put_post-clause-put : goal.returns-in_err-put_post-clause-put
 returns-in_err-put_post-clause-put g c =
     let k = c.loop-post.post in
-    let pending = c.args.roster.now.board.now.pending in
+    let pending = c.args.listing.now.board.now.pending in
     let posts = c.args.query.now.posts in
     let has : length c.posts-post-end.result.now ≡ length posts = ap length c.posts-post-end.ensures.value in
     let low : k < length posts = omega arith in
@@ -30,7 +30,7 @@ returns-in_err-put_post-clause-put g c =
 pub loop-post-preserved : goal.loop-post-preserved
 loop-post-preserved g c =
     let k = c.loop-post.post in
-    let pending = c.args.roster.now.board.now.pending in
+    let pending = c.args.listing.now.board.now.pending in
     let posts = c.args.query.now.posts in
     let has : length c.posts-post-end.result.now ≡ length posts = ap length c.posts-post-end.ensures.value in
     let low : k < length posts = omega arith in
@@ -48,5 +48,5 @@ pub returns-clause-put : goal.returns-clause-put
 returns-clause-put g c =
     let posts = c.args.query.now.posts in
     let has : length c.posts-post-end.result.now ≡ length posts = ap length c.posts-post-end.ensures.value in
-    let f = λ (post : ℕ × AtomRecord). post_lines c.args.roster.now.board.now.pending c.args.waiter post.0 in
+    let f = λ (post : ℕ × AtomRecord). post_lines c.args.listing.now.board.now.pending c.args.waiter post.0 in
     onward-end g.P.Page.puts g.met.P.Page.nothing _ _ _ _ (ap (λ (ys : List AtomRecord). flat_map f (enumerate_from c.loop-post.post ys)) (nothing_left posts c.loop-post.post (omega arith))) c.loop-post.invariant.onward

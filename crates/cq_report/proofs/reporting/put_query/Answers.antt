@@ -10,14 +10,14 @@ use Rattle.cq_report.proofs.Left.{posted_at}
 use Rattle.cq_report.proofs.reporting.put_query.Goals as goal
 
 pub unreachable-requires : goal.unreachable-requires
-unreachable-requires g c = query_never c.args.roster.now.board.now c.len-good.ensures.valid c.args.waiter c.args.name.now c.requires.name c.in_default.ensures
+unreachable-requires g c = query_never c.args.listing.now.board.now c.len-good.ensures.valid c.args.waiter c.args.name.now c.requires.name c.in_default.ensures
 
 pub unreachable-requires-in_default-groundings : goal.unreachable-requires-in_default-groundings
-unreachable-requires-in_default-groundings g c = groundings_never c.args.roster.now.board.now c.len-good.ensures.valid c.args.waiter c.args.name.now c.requires.name c.in_default-groundings.ensures
+unreachable-requires-in_default-groundings g c = groundings_never c.args.listing.now.board.now c.len-good.ensures.valid c.args.waiter c.args.name.now c.requires.name c.in_default-groundings.ensures
 
 pub returns-in_err-put_heading-clause-put : goal.returns-in_err-put_heading-clause-put
 returns-in_err-put_heading-clause-put g c =
-    let pool = c.args.roster.now.board.now in
+    let pool = c.args.listing.now.board.now in
     let query = c.in-Some.query.now in
     let lists = c.in-Some-groundings.groundings.now in
     let matched = c.unwrap_or-matched.result in
@@ -32,17 +32,17 @@ returns-in_err-put_heading-clause-put g c =
     (g.met.P.Page.more _ _ (heading ++ posts) found _ (g.met.P.Page.more _ _ heading posts _ c.in_err-put_heading.ensures.put)))
 
 pub put_posts-requires-clause-query : goal.put_posts-requires-clause-query
-put_posts-requires-clause-query g c = query_shown c.args.roster.now.board.now c.len-good.ensures.valid c.args.waiter c.args.name.now c.requires.name c.in-Some.query.now c.in-Some.ensures
+put_posts-requires-clause-query g c = query_shown c.args.listing.now.board.now c.len-good.ensures.valid c.args.waiter c.args.name.now c.requires.name c.in-Some.query.now c.in-Some.ensures
 
 pub put_posts-requires-clause-edges : goal.put_posts-requires-clause-edges
 put_posts-requires-clause-edges g c =
-    let pool = c.args.roster.now.board.now in
+    let pool = c.args.listing.now.board.now in
     let at = posted_at pool.pending c.args.waiter c.in-Some.query.now (query_shown pool c.len-good.ensures.valid c.args.waiter c.args.name.now c.requires.name c.in-Some.query.now c.in-Some.ensures) in
     c.requires.edges at.0 at.1 ∙ ap (edges_to_query pool.pending c.args.waiter) at.2
 
 pub returns-in_err-put_posts-clause-put : goal.returns-in_err-put_posts-clause-put
 returns-in_err-put_posts-clause-put g c =
-    let pool = c.args.roster.now.board.now in
+    let pool = c.args.listing.now.board.now in
     let query = c.in-Some.query.now in
     let lists = c.in-Some-groundings.groundings.now in
     let matched = c.unwrap_or-matched.result in
@@ -58,7 +58,7 @@ returns-in_err-put_posts-clause-put g c =
 
 pub returns-clause-put : goal.returns-clause-put
 returns-clause-put g c =
-    let pool = c.args.roster.now.board.now in
+    let pool = c.args.listing.now.board.now in
     let query = c.in-Some.query.now in
     let lists = c.in-Some-groundings.groundings.now in
     let matched = c.unwrap_or-matched.result in

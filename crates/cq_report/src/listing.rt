@@ -9,7 +9,7 @@ use std::alloc::Allocator;
 
 /// A board, and the names of its pending queries in posting order.
 #[derive(Drop)]
-pub(crate) struct Roster<'a, A: Allocator> {
+pub(crate) struct Listing<'a, A: Allocator> {
     pub(crate) board: &'a Board<A>,
     pub(crate) names: &'a [&'a Name<A>],
     ghost named: { map (λ name. name.now) names.now ≡ map name_of board.now.pending },
