@@ -310,6 +310,7 @@ fn put_query<P: Page, A: Allocator + Copy>(
 {
     let board = listing.board;
     let _good = board.len();
+    // A query is pending under each name that is listed.
     let Some(query) = board.query(name) else {
         unreachable!()
     };
