@@ -1,3 +1,4 @@
+pub mod CallerLemmas
 pub mod Members
 pub mod Searches
 pub mod Examples

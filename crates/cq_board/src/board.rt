@@ -292,7 +292,7 @@ impl<A: Allocator> Board<A> {
     }
 
     /// The pending queries in posting order.
-    pub fn pending(&self) -> &[Posted<A>]
+    pub(crate) fn pending(&self) -> &[Posted<A>]
         ensures { result.now ≡ self.now.pending }
     {
         self.pending.as_slice()
@@ -309,30 +309,29 @@ impl<A: Allocator> Board<A> {
         }
     }
 
-    /// The edges by the places of the queries in posting order: by the waiter, the postcondition,
-    /// the provider, the head.
-    pub fn edges_by_place(&self) -> &[Edge]
+    /// The edges that are kept.
+    pub(crate) fn kept_edges(&self) -> &[Edge]
         ensures { result.now ≡ edges_of self.now.pending }
     {
         self.parts.edges.as_slice()
     }
 
     /// The places of the matched queries, in posting order.
-    pub fn matched_by_place(&self) -> &[usize]
+    pub(crate) fn matched_by_place(&self) -> &[usize]
         ensures { result.now ≡ matched_of self.now.pending }
     {
         self.parts.matched.as_slice()
     }
 
     /// Whether the query at that place is matched; false where there is none.
-    pub fn is_matched_at(&self, place: usize) -> bool
+    pub(crate) fn is_matched_at(&self, place: usize) -> bool
         ensures { result ≡ is_matched_at self.now.pending place }
     {
         self.parts.matched.contains(&place)
     }
 
     /// The groundings of the query at that place, where there is one.
-    pub fn groundings_at(&self, place: usize) -> Option<&Groundings<A>>
+    pub(crate) fn groundings_at(&self, place: usize) -> Option<&Groundings<A>>
         ensures { option_copied result ≡ slice_get (all_groundings self.now) place }
     {
         self.parts.groundings.get(place)

@@ -29,7 +29,7 @@ mod supply;
 mod views;
 mod work;
 
-pub use board::{Board, Posted};
+pub use board::Board;
 pub use choice::Choice;
 pub use edit::{Edit, EditKind, Why};
 pub use laws::{pools_stay_good, unifies_is_unify};

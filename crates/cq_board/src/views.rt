@@ -3,6 +3,8 @@
 ghost use Rattle.std.specs.Prelude.{◌≡◌, ◌<◌, ◌++◌, length, map, IfOk, OnOk};
 ghost use Rattle.std.specs.Option.{option_copied};
 ghost use Rattle.cq_match.specs.Graph.{leads_to};
+ghost use Rattle.cq_board.specs.Pool.{name_of};
+ghost use Rattle.cq_board.specs.Edges.{edges_of};
 ghost use Rattle.cq_board.specs.Board.{place_of, name_at, name_or_none, links_of, crowded_of, link_of};
 ghost use Rattle.cq_board.specs.Named.{query_named, matched_named, groundings_named, matched_names, link_read, crowd_read};
 ghost use Rattle.cq_board.specs.Steps.Runs.{run_length, crowd_at};
@@ -91,6 +93,32 @@ impl<A: Allocator> Board<A> {
 }
 
 impl<A: Allocator + Copy> Board<A> {
+    /// The names of the pending queries, in posting order. A name that was withdrawn and posted again
+    /// goes last.
+    ///
+    /// # Errors
+    /// `AllocError` where a growth was refused.
+    pub fn names(&self) -> Result<Vec<&Name<A>, A>, AllocError>
+        ensures { IfOk result (λ names. map (λ name. name.now) names.items ≡ map name_of self.now.pending) }
+    {
+        let mut names = Vec::with_capacity(self.allocator(), self.len())?;
+        for posted in self.pending() {
+            names.push(&posted.name)?;
+        }
+        Ok(names)
+    }
+
+    /// All edges by the numbers of the queries in posting order: by the waiter, the postcondition, the
+    /// provider, the head. The list is made when it is asked for.
+    ///
+    /// # Errors
+    /// `AllocError` where a growth was refused.
+    pub fn edges_by_place(&self) -> Result<Vec<Edge, A>, AllocError>
+        ensures { IfOk result (λ edges. edges.items ≡ edges_of self.now.pending) }
+    {
+        self.kept_edges().to_vec(self.allocator())
+    }
+
     /// All edges by names: by the waiter's posting, the postcondition, the provider's posting, the
     /// head.
     ///
@@ -100,7 +128,7 @@ impl<A: Allocator + Copy> Board<A> {
         ensures { IfOk result (λ links. map (link_read (λ name. name.now)) links.items ≡ links_of self.now.pending) }
     {
         let mut links = Vec::new(self.allocator());
-        for edge in self.edges_by_place() {
+        for edge in self.kept_edges() {
             links.push(self.link(edge))?;
         }
         Ok(links)
@@ -135,7 +163,7 @@ impl<A: Allocator + Copy> Board<A> {
         ensures { IfOk result (λ crowded. map (crowd_read (λ name. name.now)) crowded.items ≡ crowded_of self.now.pending) }
     {
         let mut crowded = Vec::new(self.allocator());
-        let mut rest = self.edges_by_place();
+        let mut rest = self.kept_edges();
         while let Some(first) = rest.first() {
             let providers = run_length(first, rest);
             self.add_crowd(&mut crowded, first, providers)?;

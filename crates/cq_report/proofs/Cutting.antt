@@ -1,7 +1,12 @@
 -- Lines cut at LF, and the front of a line that is kept.
-use Rattle.std.proofs.Common.{◌≡◌, ◌==◌, ℕ, ◌<◌, ◌≤◌, List, [], ◌∷◌, ◌++◌, length, take, refl, sym, ap, ◌∙◌, ◌⊎◌, inl, inr, false, append_assoc, arith, length-append, lit<}
-use Rattle.std.proofs.lemmas.List.{take-append-le, take_all, length-take, length-take-le}
-use Rattle.std.proofs.lemmas.Bool.{cases_lt}
+use Rattle.std.proofs.Common.{◌≡◌, ◌==◌, ℕ, zero, suc, ◌+◌, ◌-◌, ◌<◌, ◌≤◌, List, [], ◌∷◌, ◌++◌, length, take, drop, get_or, refl, sym, ap, subst, ◌∙◌, ◌⊎◌, inl, inr, false, cond, Some, None, append_assoc, take-append-drop, drop-cons, arith, lit<}
+use Rattle.std.specs.Prelude.{min, nat_lt, position}
+use Rattle.std.specs.List.{position_or_len}
+use Rattle.std.proofs.Math.Seq.{take-append-add}
+use Rattle.std.proofs.lemmas.List.{take-append-le, take_all, take_min, length-take, length-take-le}
+use Rattle.std.proofs.lemmas.List.Quantifiers.{position-Some}
+use Rattle.std.proofs.lemmas.List.Sums.{fails_before_first}
+use Rattle.std.proofs.lemmas.Bool.{cases_lt, eqb-true}
 use Rattle.cq_report.specs.Lines.{lines_of, whole_lines, before_first, before_whole}
 use Rattle.cq_report.specs.declared.line.TheConstants.{KEPT}
 use Rattle.cq_report.specs.Steps.Kept.{kept}
@@ -9,35 +14,30 @@ use Rattle.cq_report.specs.Steps.Serving.{HasNoEnd, HaveNoEnd, ended}
 
 -- ---- what is kept
 
-take_more : (k : ℕ) (l : List ℕ) (b : ℕ) → length l < k → l ++ b ∷ [] ≡ take k (l ++ b ∷ [])
-take_more k l b h = sym (take_all k (l ++ b ∷ []) (omega (arith, length-append l (b ∷ []), h)))
+take_room : (k n : ℕ) (l more : List ℕ) → length l ≤ k → n ≡ min (k - length l) (length more) → l ++ take n more ≡ take k (l ++ more)
+take_room k n l more h e =
+    let room : length l + (k - length l) ≡ k = omega arith in
+    ap (λ (i : ℕ). l ++ take i more) e ∙ ap (λ (m : List ℕ). l ++ m) (take_min (k - length l) more)
+    ∙ sym (take-append-add l more (k - length l)) ∙ ap (λ (i : ℕ). take i (l ++ more)) room
 
-take_full : (k : ℕ) (l : List ℕ) (b : ℕ) → length l ≤ k → k ≤ length l → l ≡ take k (l ++ b ∷ [])
-take_full k l b h h' = sym (take-append-le k l (b ∷ []) h' ∙ take_all k l h)
-
-take_again_by : (k : ℕ) (l : List ℕ) (b : ℕ) → (length l < k) ⊎ (k ≤ length l) → take k (take k l ++ b ∷ []) ≡ take k (l ++ b ∷ [])
-take_again_by k l b (inr h) =
+take_again_by : (k : ℕ) (l more : List ℕ) → (length l < k) ⊎ (k ≤ length l) → take k (take k l ++ more) ≡ take k (l ++ more)
+take_again_by k l more (inr h) =
     let e = length-take-le k l h in
-    take-append-le k (take k l) (b ∷ []) (omega (arith, e)) ∙ take_all k (take k l) (omega (arith, e)) ∙ sym (take-append-le k l (b ∷ []) h)
-take_again_by k l b (inl h) = ap (λ (m : List ℕ). take k (m ++ b ∷ [])) (take_all k l (omega (arith, h)))
+    take-append-le k (take k l) more (omega (arith, e)) ∙ take_all k (take k l) (omega (arith, e)) ∙ sym (take-append-le k l more h)
+take_again_by k l more (inl h) = ap (λ (m : List ℕ). take k (m ++ more)) (take_all k l (omega (arith, h)))
 
 take_none : (k : ℕ) (l : List ℕ) → 0 < k → length (take k l) ≡ 0 → length l ≡ 0
 take_none k l h e = omega (arith, length-take k l, e, h)
 
--- a byte more is kept
-pub kept_more : (l : List ℕ) (b : ℕ) → length l < KEPT → l ++ b ∷ [] ≡ kept (l ++ b ∷ [])
+-- as much more is kept as there is room for
+pub kept_more : (n : ℕ) (l more : List ℕ) → length l ≤ KEPT → n ≡ min (KEPT - length l) (length more) → l ++ take n more ≡ kept (l ++ more)
 unfolding kept
-kept_more l b h = take_more KEPT l b h
+kept_more n l more h e = take_room KEPT n l more h e
 
--- no more is kept
-pub kept_full : (l : List ℕ) (b : ℕ) → length l ≤ KEPT → KEPT ≤ length l → l ≡ kept (l ++ b ∷ [])
+-- bytes behind what is kept, and bytes behind all
+pub kept_again : (l more : List ℕ) → kept (kept l ++ more) ≡ kept (l ++ more)
 unfolding kept
-kept_full l b h h' = take_full KEPT l b h h'
-
--- a byte behind what is kept, and a byte behind all
-pub kept_again : (l : List ℕ) (b : ℕ) → kept (kept l ++ b ∷ []) ≡ kept (l ++ b ∷ [])
-unfolding kept
-kept_again l b = take_again_by KEPT l b (cases_lt (length l) KEPT)
+kept_again l more = take_again_by KEPT l more (cases_lt (length l) KEPT)
 
 -- something is kept of a line that is not empty
 pub kept_none : (l : List ℕ) → length (kept l) ≡ 0 → length l ≡ 0
@@ -83,11 +83,42 @@ whole_lines_all_ended [] rest h o = whole_lines_open rest o
 whole_lines_all_ended (line ∷ lines) rest h o =
     ap whole_lines (append_assoc line (10 ∷ ended lines) rest) ∙ whole_lines_ended line (ended lines ++ rest) h.0 ∙ ap (λ (ls : List (List ℕ)). line ∷ ls) (whole_lines_all_ended lines rest h.1 o)
 
--- ---- one more byte, one more line
+-- ---- the first LF
 
-pub HasNoEnd-more : (line : List ℕ) (b : ℕ) → HasNoEnd line → (b == 10) ≡ false → HasNoEnd (line ++ b ∷ [])
-HasNoEnd-more [] b h e = (e, tt)
-HasNoEnd-more (c ∷ line) b h e = (h.0, HasNoEnd-more line b h.1 e)
+HasNoEnd-take : (n : ℕ) (bytes : List ℕ) → n ≤ length bytes → ((k : ℕ) → k < n → (get_or bytes k 0 == 10) ≡ false) → HasNoEnd (take n bytes)
+HasNoEnd-take zero bytes low h = tt
+HasNoEnd-take (suc n) [] low h = tt
+HasNoEnd-take (suc n) (b ∷ bytes) low h = (h 0 (omega arith), HasNoEnd-take n bytes (omega arith) (λ k l. h (suc k) (omega arith)))
+
+-- no LF stands before the first one
+pub HasNoEnd-before : (bytes : List ℕ) (n : ℕ) → position (λ b. b == 10) bytes ≡ Some n → HasNoEnd (take n bytes)
+HasNoEnd-before bytes n found =
+    let first = position-Some (λ b. b == 10) bytes n 0 found in
+    let low : n < length bytes = first.0 in
+    HasNoEnd-take n bytes (omega arith) first.2
+
+-- the bytes before the first LF, the LF, and the bytes behind it
+pub cut_first : (bytes : List ℕ) (n : ℕ) → position (λ b. b == 10) bytes ≡ Some n → bytes ≡ take n bytes ++ (10 ∷ drop 1 (drop n bytes))
+cut_first bytes n found =
+    let first = position-Some (λ b. b == 10) bytes n 0 found in
+    let is : get_or bytes n 0 ≡ 10 = eqb-true (get_or bytes n 0) 10 first.1 in
+    let ahead : drop n bytes ≡ get_or bytes n 0 ∷ drop (suc n) bytes = drop-cons bytes n 0 first.0 in
+    sym (take-append-drop n bytes) ∙ ap (λ (l : List ℕ). take n bytes ++ l) (rw ahead (ap (λ (b : ℕ). b ∷ drop (suc n) bytes) is))
+
+-- no LF stands in bytes in which none is found
+pub HasNoEnd-none : (bytes : List ℕ) → position (λ b. b == 10) bytes ≡ None → HasNoEnd bytes
+HasNoEnd-none bytes none =
+    let all = past_all (position_or_len (λ b. b == 10) bytes) (length bytes) none in
+    subst HasNoEnd (take_all (length bytes) bytes (omega arith)) (HasNoEnd-take (length bytes) bytes (omega arith) (λ k h. fails_before_first (λ b. b == 10) bytes k 0 (omega (arith, all))))
+  where
+    past_all : (p n : ℕ) → cond (nat_lt p n) (Some p) None ≡ None → n ≤ p
+    past_all p n h = grind arith
+
+-- ---- more bytes, one more line
+
+pub HasNoEnd-append : (line more : List ℕ) → HasNoEnd line → HasNoEnd more → HasNoEnd (line ++ more)
+HasNoEnd-append [] more h k = k
+HasNoEnd-append (b ∷ line) more h k = (h.0, HasNoEnd-append line more h.1 k)
 
 pub HaveNoEnd-more : (lines : List (List ℕ)) (line : List ℕ) → HaveNoEnd lines → HasNoEnd line → HaveNoEnd (lines ++ line ∷ [])
 HaveNoEnd-more [] line h o = (o, tt)

@@ -1,14 +1,16 @@
 -- The edges of pending queries, taken from the front of their list.
-use Rattle.std.proofs.Common.{◌≡◌, ℕ, ◌+◌, ◌<◌, ◌==◌, Bool, true, false, ◌&&◌, List, refl, sym, ◌∙◌, Some, zero-add, length, take, drop, ap}
+use Rattle.std.proofs.Common.{◌≡◌, ℕ, zero, suc, [], ◌∷◌, subst, ◌+◌, ◌<◌, ◌==◌, Bool, true, false, ◌&&◌, List, refl, sym, ◌∙◌, Some, zero-add, length, take, drop, ap}
 use Rattle.std.specs.List.{flat_map, enumerate_from, slice_get, list_all, prefix_len}
 use Rattle.std.proofs.lemmas.Bool.{eq-eqb}
+use Rattle.std.proofs.lemmas.Option.{same_Some}
 use Rattle.cq_atom.specs.Atom.{AtomRecord}
+use Rattle.cq_atom.specs.Query.{QueryRecord}
 use Rattle.cq_match.specs.declared.edge.Edge.{Edge}
 use Rattle.cq_match.specs.Graph.{leads_to, edges_to}
 use Rattle.cq_board.specs.Supply.{unifies}
 use Rattle.cq_board.specs.Pool.{PendingQuery}
 use Rattle.cq_board.specs.Edges.{edge_if, edges_into, edges_of}
-use Rattle.cq_report.specs.Steps.Left.{edges_at}
+use Rattle.cq_report.specs.Steps.Left.{query_at, edges_at}
 use Rattle.cq_report.proofs.Pieces.{by_bool, all_weaker, all_pieces, filter_all, one_place, Cut, cut_piece, numbered_at, item_at}
 
 and_first : (a b : Bool) → (a && b) ≡ true → a ≡ true
@@ -18,6 +20,12 @@ and_first false b h = h
 and_second : (a b : Bool) → (a && b) ≡ true → b ≡ true
 and_second true b h = h
 and_second false b h = cc
+
+-- a query that stands at a place is pending there
+pub posted_at : (pending : List PendingQuery) (i : ℕ) (query : QueryRecord) → query_at pending i ≡ Some query → (posted : PendingQuery) × (slice_get pending i ≡ Some posted) × (posted.query ≡ query)
+posted_at [] i query h = cc
+posted_at (p ∷ pending) zero query h = (p, refl, same_Some p.query query h)
+posted_at (p ∷ pending) (suc i) query h = posted_at pending i query h
 
 module _ (pending : List PendingQuery) where
   edge_leads : (provider : ℕ) (head : ℕ × AtomRecord) (waiter : ℕ) (post : ℕ × AtomRecord) → list_all (leads_to waiter post.0) (edge_if provider head waiter post) ≡ true
@@ -67,13 +75,15 @@ module _ (pending : List PendingQuery) where
       cut_piece (edges_into pending i) (λ e. e.post) (into_post i) k wanted (drop (k + 1) posts) left (is ∙ numbered_at (edges_into pending i) posts k k wanted there)
 
   -- the edges in front of those that are left are those to the postcondition
-  pub post_front : (i k n : ℕ) (waiter : PendingQuery) (left front back : List Edge) → slice_get pending i ≡ Some waiter → k < length waiter.query.posts
-      → left ≡ flat_map (edges_into pending i) (enumerate_from k (drop k waiter.query.posts)) → n ≡ prefix_len (λ e. e.post == k) left → front ≡ take n left → back ≡ drop n left
-      → (front ≡ edges_to i k (edges_of pending)) × (back ≡ flat_map (edges_into pending i) (enumerate_from (k + 1) (drop (k + 1) waiter.query.posts)))
-  post_front i k n waiter left front back here low is count taken dropped =
-      let wanted = item_at waiter.query.posts k low in
-      let cut = cut_post i k waiter.query.posts wanted.item left wanted.got is in
-      (taken ∙ ap (λ m. take m left) count ∙ cut.front_is ∙ sym (edges_to_post i k waiter wanted.item here wanted.got), dropped ∙ ap (λ m. drop m left) count ∙ cut.rest_is)
+  pub post_front : (i k n : ℕ) (query : QueryRecord) (left front back : List Edge) → query_at pending i ≡ Some query → k < length query.posts
+      → left ≡ flat_map (edges_into pending i) (enumerate_from k (drop k query.posts)) → n ≡ prefix_len (λ e. e.post == k) left → front ≡ take n left → back ≡ drop n left
+      → (front ≡ edges_to i k (edges_of pending)) × (back ≡ flat_map (edges_into pending i) (enumerate_from (k + 1) (drop (k + 1) query.posts)))
+  post_front i k n query left front back here low is count taken dropped =
+      let waiter = posted_at pending i query here in
+      let wanted = item_at query.posts k low in
+      let there = subst (λ (q : QueryRecord). slice_get q.posts k ≡ Some wanted.item) (sym waiter.2) wanted.got in
+      let cut = cut_post i k query.posts wanted.item left wanted.got is in
+      (taken ∙ ap (λ m. take m left) count ∙ cut.front_is ∙ sym (edges_to_post i k waiter.0 wanted.item waiter.1 there), dropped ∙ ap (λ m. drop m left) count ∙ cut.rest_is)
 
   -- and those to a query
   pub waiter_front : (i n : ℕ) (waiter : PendingQuery) (left front back : List Edge) → slice_get pending i ≡ Some waiter

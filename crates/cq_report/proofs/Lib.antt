@@ -1,6 +1,7 @@
 mod Examples
 pub mod Pieces
 pub mod Left
+pub mod Named
 pub mod Onward
 pub mod Putting
 pub mod Refused

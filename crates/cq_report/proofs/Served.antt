@@ -1,5 +1,5 @@
 -- Lines answered one after another.
-use Rattle.std.proofs.Common.{◌≡◌, ◌==◌, ℕ, ◌<◌, ◌+◌, List, [], ◌∷◌, ◌++◌, length, Option, refl, sym, ap, subst, ◌∙◌, false, append_assoc, append-nil, arith}
+use Rattle.std.proofs.Common.{◌≡◌, ℕ, ◌<◌, ◌+◌, List, [], ◌∷◌, ◌++◌, length, Option, refl, sym, ap, subst, ◌∙◌, append_assoc, append-nil, arith}
 use Rattle.std.proofs.lemmas.List.{nil_from_length}
 use Rattle.cq_report.specs.declared.output.Output.{Output}
 use Rattle.cq_report.specs.declared.fault.RunFault.{RunFault}
@@ -11,8 +11,8 @@ use Rattle.cq_report.specs.Output.{AreReadings, state_after, output_from}
 use Rattle.cq_report.specs.Run.{IsOfRead, failures_of}
 use Rattle.cq_report.specs.Steps.Written.{Puts, Breaks, Fails}
 use Rattle.cq_report.specs.Steps.Kept.{kept}
-use Rattle.cq_report.specs.Steps.Serving.{HaveNoEnd, ended, Answered, Served, Finished, Stopped, ServesOn, StopsOn, IsSound}
-use Rattle.cq_report.proofs.Cutting.{kept_nil, kept_again, kept_none, kept_some, lines_of_all_ended, lines_of_ended, lines_of_open, HasNoEnd-more, HaveNoEnd-more, ended-more}
+use Rattle.cq_report.specs.Steps.Serving.{HasNoEnd, HaveNoEnd, ended, Answered, Served, Finished, Stopped, ServesOn, StopsOn, IsSound}
+use Rattle.cq_report.proofs.Cutting.{kept_nil, kept_again, kept_none, kept_some, lines_of_all_ended, lines_of_ended, lines_of_open, HasNoEnd-append, HaveNoEnd-more, ended-more}
 use Rattle.cq_report.proofs.Kept.{IsReading-kept, IsReading-whole}
 use Rattle.cq_report.specs.Steps.Writing.{Puts-nothing, Puts-then, Puts-breaks, Breaks-more, Puts-cut, Puts-starved}
 
@@ -120,15 +120,15 @@ module _ {W A : Type 0} (taken : W → Option (List ℕ)) (failures : W → ℕ)
     answered = answered_none;
   }
 
-  -- a byte that ends no line
-  pub Served-byte : (now : Output W A) (state : State) (line line' bytes : List ℕ) (b : ℕ) → Served taken failures first opening now state line bytes → (b == 10) ≡ false → line' ≡ kept (line ++ b ∷ []) → Served taken failures first opening now state line' (bytes ++ b ∷ [])
-  Served-byte now state line line' bytes b s e k = record {
+  -- bytes that end no line
+  pub Served-front : (now : Output W A) (state : State) (line line' bytes more : List ℕ) → Served taken failures first opening now state line bytes → HasNoEnd more → line' ≡ kept (line ++ more) → Served taken failures first opening now state line' (bytes ++ more)
+  Served-front now state line line' bytes more s none_ends k = record {
     lines = s.lines;
-    pending = s.pending ++ b ∷ [];
-    cut = ap (λ (l : List ℕ). l ++ b ∷ []) s.cut ∙ append_assoc (ended s.lines) s.pending (b ∷ []);
+    pending = s.pending ++ more;
+    cut = ap (λ (l : List ℕ). l ++ more) s.cut ∙ append_assoc (ended s.lines) s.pending more;
     no_end = s.no_end;
-    open_end = HasNoEnd-more s.pending b s.open_end e;
-    keeps = k ∙ ap (λ (l : List ℕ). kept (l ++ b ∷ [])) s.keeps ∙ kept_again s.pending b;
+    open_end = HasNoEnd-append s.pending more s.open_end none_ends;
+    keeps = k ∙ ap (λ (l : List ℕ). kept (l ++ more)) s.keeps ∙ kept_again s.pending more;
     readings = s.readings;
     are = s.are;
     answered = s.answered;
@@ -192,6 +192,40 @@ module _ {W A : Type 0} (taken : W → Option (List ℕ)) (failures : W → ℕ)
       (lines_of_behind s.lines s.pending bytes (10 ∷ rest) s.cut s.no_end ∙ ap (λ (ls : List (List ℕ)). s.lines ++ ls) (lines_of_ended s.pending rest s.open_end))
       (of_kept line s.pending (λ r. Breaks taken failures now now' (reply state r) fault) s.keeps breaks)
 
+  -- the last bytes of a line, behind which it is answered
+  pub Served-last : (now now' : Output W A) (state state' : State) (line line' bytes last : List ℕ) → Served taken failures first opening now state line bytes → HasNoEnd last → line' ≡ kept (line ++ last)
+      → (reading : Reading) × IsReading line' reading
+      → ((reading : Reading) → IsReading line' reading → (state' ≡ next state reading) × Puts taken failures now now' (reply state reading))
+      → Served taken failures first opening now' state' [] (bytes ++ (last ++ 10 ∷ []))
+  Served-last now now' state state' line line' bytes last s none_ends k read answer =
+      subst (λ (bs : List ℕ). Served taken failures first opening now' state' [] bs) (append_assoc bytes last (10 ∷ []))
+      (Served-line now now' state state' line' (bytes ++ last) (Served-front now state line line' bytes last s none_ends k) read answer)
+
+  pub Stopped-last_bytes : (now now' : Output W A) (state : State) (line line' bytes last rest : List ℕ) (fault : RunFault) → Served taken failures first opening now state line bytes → HasNoEnd last → line' ≡ kept (line ++ last)
+      → ((reading : Reading) → IsReading line' reading → Breaks taken failures now now' (reply state reading) fault)
+      → Stopped taken failures first opening now' (bytes ++ (last ++ (10 ∷ rest))) fault
+  Stopped-last_bytes now now' state line line' bytes last rest fault s none_ends k breaks =
+      subst (λ (bs : List ℕ). Stopped taken failures first opening now' bs fault) (append_assoc bytes last (10 ∷ rest))
+      (Stopped-line now now' state line' (bytes ++ last) rest fault (Served-front now state line line' bytes last s none_ends k) breaks)
+
+  -- the same where nothing was kept of the line, so that the bytes themselves are answered
+  pub Served-alone : (now now' : Output W A) (state state' : State) (line bytes whole : List ℕ) → Served taken failures first opening now state line bytes → HasNoEnd whole → length line ≡ 0
+      → (reading : Reading) × IsReading whole reading
+      → ((reading : Reading) → IsReading whole reading → (state' ≡ next state reading) × Puts taken failures now now' (reply state reading))
+      → Served taken failures first opening now' state' line (bytes ++ (whole ++ 10 ∷ []))
+  Served-alone now now' state state' line bytes whole s none_ends n (r, read) answer =
+      let none : [] ≡ line = sym (nil_from_length line n) in
+      subst (λ (l : List ℕ). Served taken failures first opening now' state' l (bytes ++ (whole ++ 10 ∷ []))) none
+      (Served-last now now' state state' line (kept whole) bytes whole s none_ends (ap (λ (l : List ℕ). kept (l ++ whole)) none) (r, IsReading-kept whole r read)
+      (λ r' i. answer r' (IsReading-whole whole r' i)))
+
+  pub Stopped-alone : (now now' : Output W A) (state : State) (line bytes whole rest : List ℕ) (fault : RunFault) → Served taken failures first opening now state line bytes → HasNoEnd whole → length line ≡ 0
+      → ((reading : Reading) → IsReading whole reading → Breaks taken failures now now' (reply state reading) fault)
+      → Stopped taken failures first opening now' (bytes ++ (whole ++ (10 ∷ rest))) fault
+  Stopped-alone now now' state line bytes whole rest fault s none_ends n breaks =
+      Stopped-last_bytes now now' state line (kept whole) bytes whole rest fault s none_ends (ap (λ (l : List ℕ). kept (l ++ whole)) (sym (nil_from_length line n)))
+      (λ r i. breaks r (IsReading-whole whole r i))
+
   -- a fault that has nothing to do with a line
   stopped_between : (now now' : Output W A) (state : State) (line bytes rest : List ℕ) (fault : RunFault) → Served taken failures first opening now state line bytes
       → ((x y : List ℕ) → Put now x → Breaks taken failures first now' (x ++ y) fault)
@@ -202,7 +236,7 @@ module _ {W A : Type 0} (taken : W → Option (List ℕ)) (failures : W → ℕ)
       let others = output_from (state_after opening p.front) p.rest in
       subst (λ (l : List ℕ). Breaks taken failures first now' l fault) (output_from-split opening rs p.front p.rest p.whole) (breaks (output_from opening p.front) others (s.answered p.front p.are).1)
 
-  -- no memory for a byte
+  -- no memory for what is kept
   pub Stopped-starved : (now : Output W A) (state : State) (line bytes rest : List ℕ) → Served taken failures first opening now state line bytes → Stopped taken failures first opening now (bytes ++ rest) faults.NoMemory
   Stopped-starved now state line bytes rest s = stopped_between now now state line bytes rest faults.NoMemory s (λ x y p. Puts-starved taken failures first now x y p)
 
@@ -220,7 +254,7 @@ module _ {W A : Type 0} (taken : W → Option (List ℕ)) (failures : W → ℕ)
 
   -- ---- the end
 
-  -- no line is left open
+  -- no line is left none_ends
   lines_all : (now : Output W A) (state : State) (line bytes : List ℕ) (s : Served taken failures first opening now state line bytes) → length line ≡ 0 → lines_of bytes ≡ s.lines
   lines_all now state line bytes s n =
       let none : length s.pending ≡ 0 = kept_none s.pending (ap length (sym s.keeps) ∙ n) in
@@ -283,6 +317,13 @@ module _ {W A : Type 0} (taken : W → Option (List ℕ)) (failures : W → ℕ)
   pub StopsOn-then : (a b c : Output W A) (r s : State) (k l x y : List ℕ) (fault : RunFault) → ServesOn taken failures a b r s k l x → StopsOn taken failures b c s l y fault → StopsOn taken failures a c r k (x ++ y) fault
   StopsOn-then a b c r s k l x y fault p q first opening bytes h =
       subst (λ (bs : List ℕ). Stopped taken failures first opening c bs fault) (append_assoc bytes x y) (q first opening (bytes ++ x) (p first opening bytes h))
+
+  -- bytes that end no line, and no memory for them
+  pub ServesOn-front : (now : Output W A) (state : State) (line line' more : List ℕ) → HasNoEnd more → line' ≡ kept (line ++ more) → ServesOn taken failures now now state state line line' more
+  ServesOn-front now state line line' more none_ends k first opening bytes s = Served-front taken failures first opening now state line line' bytes more s none_ends k
+
+  pub StopsOn-starved : (now : Output W A) (state : State) (line more : List ℕ) → StopsOn taken failures now now state line more faults.NoMemory
+  StopsOn-starved now state line more first opening bytes s = Stopped-starved taken failures first opening now state line bytes more s
 
   pub IsSound-nothing : (old : Output W A) → IsSound failures old old
   IsSound-nothing old = record { writer = refl; failed = refl }

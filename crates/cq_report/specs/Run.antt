@@ -1,5 +1,5 @@
 -- What a run leaves behind (this project's profile).
-use Rattle.std.specs.Prelude.{◌≡◌, ℕ, List, Option}
+use Rattle.std.specs.Prelude.{ℕ, List, Option}
 use Rattle.std.specs.Io.KnownBytes.{Consumes, Appends}
 use Rattle.cq_report.specs.declared.fault.RunFault.{RunFault}
 use Rattle.cq_report.specs.declared.fault.RunFault.TheVariants as faults

@@ -13,6 +13,7 @@ mod fault;
 mod happening;
 mod limits;
 mod line;
+mod listing;
 mod machine;
 mod output;
 mod page;

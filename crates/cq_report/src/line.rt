@@ -1,6 +1,6 @@
 //! The line that is being read.
 
-ghost use Rattle.std.specs.Prelude.{◌≡◌, ◌==◌, ◌∷◌, ◌++◌, [], length, OnOk, OnErr};
+ghost use Rattle.std.specs.Prelude.{◌≡◌, ◌==◌, ◌++◌, [], length, OnOk, OnErr};
 ghost use Rattle.cq_report.specs.Steps.Kept.{kept};
 
 use cq_text::MAX_LINE;
@@ -52,15 +52,14 @@ impl<A: Allocator> Line<A> {
         self.bytes.is_empty()
     }
 
-    /// One more byte of the line.
-    pub(crate) fn push(&mut self, byte: u8) -> Result<(), AllocError>
-        ensures ok { OnOk result (self.new ≡ kept (self.old ++ byte ∷ [])) }
+    /// More bytes of the line.
+    pub(crate) fn extend(&mut self, bytes: &[u8]) -> Result<(), AllocError>
+        ensures ok { OnOk result (self.new ≡ kept (self.old ++ bytes.now)) }
         ensures err { OnErr result (self.new ≡ self.old) }
     {
-        if self.bytes.len() < KEPT {
-            self.bytes.push(byte)?;
-        }
-        Ok(())
+        let room = KEPT - self.bytes.len();
+        let (front, _) = bytes.split_at(room.min(bytes.len()));
+        self.bytes.extend_from_slice(front)
     }
 
     /// The next line begins.

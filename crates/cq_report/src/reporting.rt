@@ -7,16 +7,19 @@ ghost use Rattle.std.specs.Prelude.{◌≡◌, ◌<◌, ◌==◌, ◌++◌, ◌^
 ghost use Rattle.std.specs.List.{flat_map, enumerate_from, slice_get, prefix_len};
 ghost use Rattle.cq_atom.specs.Query.{variables_of};
 ghost use Rattle.cq_rel.specs.Tables.{declaration, rows_in};
-ghost use Rattle.cq_board.specs.Board.{is_matched_at, name_at, name_or_none};
+ghost use Rattle.cq_board.specs.Pool.{PendingQuery};
+ghost use Rattle.cq_board.specs.Edges.{edges_of};
+ghost use Rattle.cq_board.specs.Board.{name_at, name_or_none};
 ghost use Rattle.cq_report.specs.Report.{relation_line, state_word, name_line, text_line, provider_line, crowd_word, count_line, post_lines, groundings_line, values_line, query_lines, report};
 ghost use Rattle.cq_report.specs.Steps.Put.{Put};
-ghost use Rattle.cq_report.specs.Steps.Left.{edges_at};
+ghost use Rattle.cq_report.specs.Steps.Left.{query_at, edges_to_query, edges_at};
 
 use crate::fault::RunFault;
+use crate::listing::Listing;
 use crate::output::Output;
 use crate::page::Page;
-use cq_atom::{Query, Value};
-use cq_board::{Board, Posted};
+use cq_atom::{Name, Query, Value};
+use cq_board::Board;
 use cq_ground::Groundings;
 use cq_match::{Edge, is_crowd};
 use cq_rel::Tables;
@@ -90,11 +93,11 @@ fn text_line<A: Allocator + Copy>(alloc: A, query: &Query<A>) -> Result<String<A
     format!(in alloc; "  text {printed}\n")
 }
 
-/// The name of the query at that place, or nothing where there is none.
-fn name_or_none<A: Allocator>(board: &Board<A>, place: usize) -> &str
-    ensures { result.now ≡ name_or_none (name_at board.now.pending place) }
+/// The name of the query of that number, or nothing where there is none.
+fn name_or_none<'a, A: Allocator>(listing: &Listing<'a, A>, place: usize) -> &'a str
+    ensures { result.now ≡ name_or_none (name_at listing.now.board.now.pending place) }
 {
-    match board.name_at(place) {
+    match listing.names.get(place) {
         Some(name) => name.as_str(),
         None => "",
     }
@@ -102,12 +105,12 @@ fn name_or_none<A: Allocator>(board: &Board<A>, place: usize) -> &str
 
 fn provider_line<A: Allocator>(
     alloc: A,
-    board: &Board<A>,
+    listing: &Listing<'_, A>,
     edge: &Edge,
 ) -> Result<String<A>, AllocError>
-    ensures { IfOk result (λ text. string_bytes text ≡ provider_line board.now.pending edge.now) }
+    ensures { IfOk result (λ text. string_bytes text ≡ provider_line listing.now.board.now.pending edge.now) }
 {
-    let name = name_or_none(board, edge.provider);
+    let name = name_or_none(listing, edge.provider);
     let head = edge.head;
     format!(in alloc; "    {name} head {head}\n")
 }
@@ -189,16 +192,16 @@ fn put_relations<P: Page, A: Allocator + Copy>(
 /// Puts the providers of a postcondition.
 fn put_providers<P: Page, A: Allocator + Copy>(
     alloc: A,
-    board: &Board<A>,
+    listing: &Listing<'_, A>,
     providers: &[Edge],
     page: &mut P,
 ) -> Result<(), RunFault>
     requires { P.is_ready page.old }
-    ensures put { P.puts page.old page.new (flat_map (provider_line board.now.pending) providers.now) result }
+    ensures put { P.puts page.old page.new (flat_map (provider_line listing.now.board.now.pending) providers.now) result }
     ensures ready { OnOk result (P.is_ready page.new) }
 {
     for edge in providers {
-        put_made(page, provider_line(alloc, board, edge))?;
+        put_made(page, provider_line(alloc, listing, edge))?;
     }
     Ok(())
 }
@@ -206,38 +209,38 @@ fn put_providers<P: Page, A: Allocator + Copy>(
 /// Puts how many providers a postcondition has, and each of them.
 fn put_post<P: Page, A: Allocator + Copy>(
     alloc: A,
-    board: &Board<A>,
+    listing: &Listing<'_, A>,
     post: usize,
     providers: &[Edge],
     page: &mut P,
 ) -> Result<(), RunFault>
     requires { P.is_ready page.old }
-    ensures put { P.puts page.old page.new (count_line post (length providers.now) ++ flat_map (provider_line board.now.pending) providers.now) result }
+    ensures put { P.puts page.old page.new (count_line post (length providers.now) ++ flat_map (provider_line listing.now.board.now.pending) providers.now) result }
     ensures ready { OnOk result (P.is_ready page.new) }
 {
     put_made(page, count_line(alloc, post, providers.len()))?;
-    put_providers(alloc, board, providers, page)
+    put_providers(alloc, listing, providers, page)
 }
 
-/// Puts what is told of each postcondition of the query at that place, to which the edges lead.
+/// Puts what is told of each postcondition of the query of that number, to which the edges lead.
 fn put_posts<P: Page, A: Allocator + Copy>(
     alloc: A,
-    board: &Board<A>,
+    listing: &Listing<'_, A>,
     waiter: usize,
-    posted: &Posted<A>,
+    query: &Query<A>,
     edges: &[Edge],
     page: &mut P,
 ) -> Result<(), RunFault>
     requires ready { P.is_ready page.old }
-    requires posted { slice_get board.now.pending waiter ≡ Some posted.now }
-    requires edges { edges.now ≡ edges_at board.now.pending (waiter, posted.now) }
-    ensures put { P.puts page.old page.new (flat_map (λ post. post_lines board.now.pending waiter post.0) (enumerate_from 0 posted.now.query.posts)) result }
+    requires query { query_at listing.now.board.now.pending waiter ≡ Some query.now }
+    requires edges { edges.now ≡ edges_to_query listing.now.board.now.pending waiter query.now }
+    ensures put { P.puts page.old page.new (flat_map (λ post. post_lines listing.now.board.now.pending waiter post.0) (enumerate_from 0 query.now.posts)) result }
     ensures ready { OnOk result (P.is_ready page.new) }
 {
     let mut left = edges;
-    for post in 0..posted.query.posts().len() {
+    for post in 0..query.posts().len() {
         let (providers, others) = left.split_at(count_to_post(left, post));
-        put_post(alloc, board, post, providers, page)?;
+        put_post(alloc, listing, post, providers, page)?;
         left = others;
     }
     Ok(())
@@ -274,29 +277,71 @@ fn put_groundings<P: Page, A: Allocator + Copy>(
     put_values(alloc, groundings.list(), page)
 }
 
-/// Puts what is told of the query at that place, to which the edges lead.
+/// Puts the name of a query, whether it is matched, and its printed form.
+fn put_heading<P: Page, A: Allocator + Copy>(
+    alloc: A,
+    name: &Name<A>,
+    matched: bool,
+    query: &Query<A>,
+    page: &mut P,
+) -> Result<(), RunFault>
+    requires { P.is_ready page.old }
+    ensures put { P.puts page.old page.new (name_line name.now matched ++ text_line query.now) result }
+    ensures ready { OnOk result (P.is_ready page.new) }
+{
+    put_made(page, name_line(alloc, name.as_str(), matched))?;
+    put_made(page, text_line(alloc, query))
+}
+
+/// Puts what is told of the query of that number and name, to which the edges lead.
 fn put_query<P: Page, A: Allocator + Copy>(
     alloc: A,
-    board: &Board<A>,
+    listing: &Listing<'_, A>,
     waiter: usize,
-    posted: &Posted<A>,
+    name: &Name<A>,
     edges: &[Edge],
     page: &mut P,
 ) -> Result<(), RunFault>
     requires ready { P.is_ready page.old }
-    requires posted { slice_get board.now.pending waiter ≡ Some posted.now }
-    requires edges { edges.now ≡ edges_at board.now.pending (waiter, posted.now) }
-    ensures put { P.puts page.old page.new (query_lines board.now (waiter, posted.now)) result }
+    requires name { name_at listing.now.board.now.pending waiter ≡ Some name.now }
+    requires edges { (posted : PendingQuery) → slice_get listing.now.board.now.pending waiter ≡ Some posted → edges.now ≡ edges_at listing.now.board.now.pending (waiter, posted) }
+    ensures put { (posted : PendingQuery) → slice_get listing.now.board.now.pending waiter ≡ Some posted → P.puts page.old page.new (query_lines listing.now.board.now (waiter, posted)) result }
     ensures ready { OnOk result (P.is_ready page.new) }
 {
-    let matched = board.is_matched_at(waiter);
-    put_made(page, name_line(alloc, posted.name.as_str(), matched))?;
-    put_made(page, text_line(alloc, &posted.query))?;
-    put_posts(alloc, board, waiter, posted, edges, page)?;
-    match board.groundings_at(waiter) {
-        Some(groundings) => put_groundings(alloc, &posted.query, groundings, page),
-        None => Ok(()),
+    let board = listing.board;
+    let _good = board.len();
+    // A query is pending under each name that is listed.
+    let Some(query) = board.query(name) else {
+        unreachable!()
+    };
+    let Some(groundings) = board.groundings(name) else {
+        unreachable!()
+    };
+    let matched = board.is_matched(name).unwrap_or(false);
+    put_heading(alloc, name, matched, query, page)?;
+    put_posts(alloc, listing, waiter, query, edges, page)?;
+    put_groundings(alloc, query, groundings, page)
+}
+
+/// Puts what is told of each pending query. The edges are all edges.
+fn put_each<P: Page, A: Allocator + Copy>(
+    alloc: A,
+    listing: &Listing<'_, A>,
+    edges: &[Edge],
+    page: &mut P,
+) -> Result<(), RunFault>
+    requires ready { P.is_ready page.old }
+    requires edges { edges.now ≡ edges_of listing.now.board.now.pending }
+    ensures put { P.puts page.old page.new (flat_map (query_lines listing.now.board.now) (enumerate_from 0 listing.now.board.now.pending)) result }
+    ensures ready { OnOk result (P.is_ready page.new) }
+{
+    let mut left = edges;
+    for (waiter, name) in listing.names.iter().enumerate() {
+        let (edges, others) = left.split_at(count_to_waiter(left, waiter));
+        put_query(alloc, listing, waiter, name, edges, page)?;
+        left = others;
     }
+    Ok(())
 }
 
 /// Puts what is told of each pending query.
@@ -309,13 +354,13 @@ fn put_queries<P: Page, A: Allocator + Copy>(
     ensures put { P.puts page.old page.new (flat_map (query_lines board.now) (enumerate_from 0 board.now.pending)) result }
     ensures ready { OnOk result (P.is_ready page.new) }
 {
-    let mut left = board.edges_by_place();
-    for (waiter, posted) in board.pending().iter().enumerate() {
-        let (edges, others) = left.split_at(count_to_waiter(left, waiter));
-        put_query(alloc, board, waiter, posted, edges, page)?;
-        left = others;
-    }
-    Ok(())
+    let names = board.names()?;
+    let edges = board.edges_by_place()?;
+    let listing = Listing {
+        board,
+        names: &names,
+    };
+    put_each(alloc, &listing, &edges, page)
 }
 
 /// Puts the report.
@@ -331,7 +376,8 @@ fn put_all<P: Page, A: Allocator + Copy>(
     put_queries(alloc, board, page)
 }
 
-/// Puts the report on a board. Only lines are made in memory, one at a time.
+/// Puts the report on a board. What is made in memory is the list of the names, the list of the edges,
+/// and the lines, one at a time.
 pub(crate) fn put_report<W: Sink, A: Allocator + Copy>(
     alloc: A,
     board: &Board<A>,

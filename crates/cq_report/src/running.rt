@@ -1,6 +1,6 @@
 //! Runs a script.
 
-ghost use Rattle.std.specs.Prelude.{◌≡◌, ◌<◌, ◌≤◌, ◌+◌, ◌^◌, ℕ, List, length, ◌++◌, ◌∷◌, [], OnOk, OnErr, IfOk, IfErr, IfSome, MatchResult};
+ghost use Rattle.std.specs.Prelude.{◌≡◌, ◌==◌, ◌<◌, ◌≤◌, ◌+◌, ◌^◌, ℕ, List, length, position, ◌++◌, ◌∷◌, [], OnOk, OnErr, IfOk, IfErr, IfSome, IfNone, MatchResult};
 ghost use Rattle.std.specs.Io.KnownBytes.{Appends};
 ghost use Rattle.cq_report.specs.Lines.{lines_of};
 ghost use Rattle.cq_report.specs.Reading.{Reading};
@@ -10,7 +10,7 @@ ghost use Rattle.cq_text.specs.Device.{FailedAtTurn};
 ghost use Rattle.cq_report.specs.Run.{IfRead, IsOfRead, failures_of, WroteWholeLines, WroteFront};
 ghost use Rattle.cq_report.specs.Steps.Written.{Fails};
 ghost use Rattle.cq_report.specs.Steps.Replay.{Replayed, BrokeOff, Ended};
-ghost use Rattle.cq_report.specs.Steps.Serving.{ServesOn, StopsOn, Finishes, IsSound};
+ghost use Rattle.cq_report.specs.Steps.Serving.{HasNoEnd, ServesOn, StopsOn, Finishes, IsSound};
 
 use crate::fault::RunFault;
 use crate::line::Line;
@@ -19,23 +19,44 @@ use crate::output::{Output, ROOM};
 use cq_text::{MAX_PIECE, MAX_READS, Sink, Source};
 use std::alloc::Allocator;
 
-/// Serves one byte: LF has the line answered, and any other byte is kept.
-fn serve_byte<W: Sink, A: Allocator + Copy>(
+/// The place of the first LF.
+fn first_end(bytes: &[u8]) -> Option<usize>
+    ensures { result ≡ position (λ byte. byte == 10) bytes.now }
+{
+    bytes.iter().position(|byte| *byte == b'\n')
+}
+
+/// The first line of the bytes without its LF, and what stands behind that, where there is an LF.
+fn first_line(bytes: &[u8]) -> Option<(&[u8], &[u8])>
+    ensures cut { IfSome result (λ parts. bytes.now ≡ parts.0.now ++ (10 ∷ parts.1.now)) }
+    ensures line { IfSome result (λ parts. HasNoEnd parts.0.now) }
+    ensures none { IfNone result (HasNoEnd bytes.now) }
+{
+    let end = first_end(bytes)?;
+    let (line, behind) = bytes.split_at(end);
+    let (_, rest) = behind.split_at(1);
+    Some((line, rest))
+}
+
+/// Answers the line of which these are the last bytes: as they lie there, where they are all of it.
+fn serve_line<W: Sink, A: Allocator + Copy>(
     machine: &mut Machine<A>,
     line: &mut Line<A>,
     output: &mut Output<'_, W, A>,
-    byte: u8,
+    last: &[u8],
 ) -> Result<(), RunFault>
-    requires { W.write_failures output.old.sink.now < 2 ^ 62 }
-    ensures ok { OnOk result (ServesOn W.taken W.write_failures output.old output.new machine.old machine.new line.old line.new (byte ∷ [])) }
+    requires failures { W.write_failures output.old.sink.now < 2 ^ 62 }
+    requires last { HasNoEnd last.now }
+    ensures ok { OnOk result (ServesOn W.taken W.write_failures output.old output.new machine.old machine.new line.old line.new (last.now ++ 10 ∷ [])) }
     ensures sound { OnOk result (IsSound W.write_failures output.old output.new) }
-    ensures err { IfErr result (λ fault. (rest : List ℕ) → StopsOn W.taken W.write_failures output.old output.new machine.old line.old (byte ∷ rest) fault) }
+    ensures err { IfErr result (λ fault. (rest : List ℕ) → StopsOn W.taken W.write_failures output.old output.new machine.old line.old (last.now ++ (10 ∷ rest)) fault) }
     ensures fails { IfErr result (λ fault. Fails W.write_failures output.old output.new fault) }
 {
-    if byte != b'\n' {
-        line.push(byte)?;
+    if line.is_empty() {
+        machine.answer(last, output)?;
         return Ok(());
     }
+    line.extend(last)?;
     machine.answer(line.as_bytes(), output)?;
     line.clear();
     Ok(())
@@ -54,9 +75,12 @@ fn feed<W: Sink, A: Allocator + Copy>(
     ensures err { IfErr result (λ fault. StopsOn W.taken W.write_failures output.old output.new machine.old line.old piece.now fault) }
     ensures fails { IfErr result (λ fault. Fails W.write_failures output.old output.new fault) }
 {
-    for byte in piece {
-        serve_byte(machine, line, output, *byte)?;
+    let mut rest = piece;
+    while let Some((last, behind)) = first_line(rest) {
+        serve_line(machine, line, output, last)?;
+        rest = behind;
     }
+    line.extend(rest)?;
     Ok(())
 }
 

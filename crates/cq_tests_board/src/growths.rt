@@ -36,11 +36,22 @@ const SMALL: Shape = Shape {
     groundings: 1,
 };
 
+/// Done, where the board shows that; there is no telling where the look was refused a growth.
+fn done<A: Allocator + Copy>(board: &Board<A>, after: Shape) -> Outcome {
+    match shape_of(board) {
+        Ok(shape) => Outcome::done_if(shape == after),
+        Err(_) => Outcome::Unready,
+    }
+}
+
 fn admitted<A: Allocator + Copy>(board: &mut Board<A>, edit: &Edit<A>, after: Shape) -> Outcome {
     match board.admit(edit) {
-        Ok(told) => Outcome::done_if(told.is_none() && shape_of(board) == after),
+        Ok(None) => done(board, after),
+        Ok(Some(_)) => Outcome::Wrong,
         Err(_) => Outcome::refused_if(
-            shape_of(board) == SMALL && board.admit(edit) == Ok(None) && shape_of(board) == after,
+            shape_of(board) == Ok(SMALL)
+                && board.admit(edit) == Ok(None)
+                && shape_of(board) == Ok(after),
         ),
     }
 }
@@ -141,8 +152,8 @@ struct Copying;
 
 fn copied<A: Allocator + Copy>(board: &Board<A>) -> Outcome {
     match board.copy() {
-        Ok(copy) => Outcome::done_if(shape_of(&copy) == SMALL),
-        Err(_) => Outcome::refused_if(shape_of(board) == SMALL && board.copy().is_ok()),
+        Ok(copy) => done(&copy, SMALL),
+        Err(_) => Outcome::refused_if(shape_of(board) == Ok(SMALL) && board.copy().is_ok()),
     }
 }
 

@@ -115,22 +115,36 @@ pub struct Shape {
     pub groundings: usize,
 }
 
-/// How many groundings the query at that place has; none where there is no query.
-pub fn grounded<A: Allocator>(board: &Board<A>, place: usize) -> usize {
-    match board.groundings_at(place) {
+/// How many groundings the first query has; none where there is no query.
+fn first_grounded<A: Allocator>(board: &Board<A>) -> usize {
+    let Some(name) = board.name_at(0) else {
+        return 0;
+    };
+    match board.groundings(name) {
         Some(found) => found.count(),
         None => 0,
     }
 }
 
-pub fn shape_of<A: Allocator>(board: &Board<A>) -> Shape {
-    Shape {
-        pending: board.pending().len(),
-        edges: board.edges_by_place().len(),
-        matched: board.matched_by_place().len(),
+fn edge_count<A: Allocator + Copy>(board: &Board<A>) -> Result<usize, AllocError> {
+    let edges = board.edges_by_place()?;
+    Ok(edges.len())
+}
+
+fn matched_count<A: Allocator + Copy>(board: &Board<A>) -> Result<usize, AllocError> {
+    let names = board.matched()?;
+    Ok(names.len())
+}
+
+/// The counts of what the board shows.
+pub fn shape_of<A: Allocator + Copy>(board: &Board<A>) -> Result<Shape, AllocError> {
+    Ok(Shape {
+        pending: board.len(),
+        edges: edge_count(board)?,
+        matched: matched_count(board)?,
         rows: board.tables().count("Flights").unwrap_or(0),
-        groundings: grounded(board, 0),
-    }
+        groundings: first_grounded(board),
+    })
 }
 
 /// The shape of the worked travel board.

@@ -44,7 +44,7 @@ fn postings(alloc: Global, lines: &[&str]) -> Result<Vec<(Name, Query)>, AllocEr
 fn is_worked(alloc: Global, catalog: Catalog, rows: &[Row]) -> Result<bool, ScratchFault> {
     let queries = postings(alloc, [KRAMER, JERRY].as_slice())?;
     let board = Board::scratch(alloc, catalog, LIMITS, &queries, rows)?;
-    Ok(shape_of(&board) == WORKED)
+    Ok(shape_of(&board)? == WORKED)
 }
 
 #[test]

@@ -7,9 +7,9 @@ use Rattle.cq_report.proofs.reporting.put_posts.Given as goal
 
 abbrev pub invariant-loop-post : goal.invariant-loop-post
 invariant-loop-post g l = record {
-  left : l.left ≡ flat_map (edges_into l.board.pending l.waiter) (enumerate_from l.post (drop l.post l.posted.query.posts));
+  left : l.left ≡ flat_map (edges_into l.listing.board.now.pending l.waiter) (enumerate_from l.post (drop l.post l.query.posts));
   onward : Onward g.P.Page.puts l.initial.page l.page
-      (flat_map (λ post. post_lines l.board.pending l.waiter post.0) (enumerate_from 0 l.posted.query.posts))
-      (flat_map (λ post. post_lines l.board.pending l.waiter post.0) (enumerate_from l.post (drop l.post l.posted.query.posts)));
+      (flat_map (λ post. post_lines l.listing.board.now.pending l.waiter post.0) (enumerate_from 0 l.query.posts))
+      (flat_map (λ post. post_lines l.listing.board.now.pending l.waiter post.0) (enumerate_from l.post (drop l.post l.query.posts)));
   ready : g.P.Page.is_ready l.page;
 }

@@ -1,17 +1,62 @@
-use Rattle.std.proofs.Common.{◌≡◌, ◌∷◌, ◌++◌, ◌∙◌, ◌+◌, ◌<◌, ap, ℕ, List, length, take, drop, get_or, sym, subst, take-append-drop, drop-cons, add-one}
+use Rattle.std.proofs.Common.{◌≡◌, ◌∷◌, ◌++◌, ◌∙◌, [], ℕ, List, length, refl, sym, ap, subst, append_assoc, length-append, arith}
 use Rattle.std.proofs.lemmas.Result.{err_from_is_err_and}
-use Rattle.cq_report.specs.Steps.Serving.{StopsOn}
-use Rattle.cq_report.proofs.Served.{StopsOn-then}
+use Rattle.cq_report.specs.declared.fault.RunFault.TheVariants.{NoMemory}
+use Rattle.cq_report.specs.Steps.Serving.{ServesOn, StopsOn}
+use Rattle.cq_report.proofs.Served.{ServesOn-nothing, ServesOn-then, ServesOn-front, StopsOn-then, StopsOn-starved, IsSound-nothing, IsSound-then}
 use Rattle.cq_report.proofs.running.feed.Goals as goal
 
-whole_at : (i : ℕ) (l : List ℕ) → i < length l → take i l ++ (get_or l i 0 ∷ drop (i + 1) l) ≡ l
-whole_at i l h = rw (add-one i) (ap (λ (k : List ℕ). take i l ++ k) (sym (drop-cons l i 0 h)) ∙ take-append-drop i l)
+-- the lines that were served, one more, and what is left
+cut_on : (done rest line behind piece : List ℕ) → done ++ rest ≡ piece → rest ≡ line ++ (10 ∷ behind) → done ++ (line ++ (10 ∷ behind)) ≡ piece
+cut_on done rest line behind piece e f = ap (λ (l : List ℕ). done ++ l) (sym f) ∙ e
 
-pub returns-in_err-serve_byte-clause-err : goal.returns-in_err-serve_byte-clause-err
-returns-in_err-serve_byte-clause-err g c =
+cut_past : (done rest line behind piece : List ℕ) → done ++ rest ≡ piece → rest ≡ line ++ (10 ∷ behind) → (done ++ (line ++ 10 ∷ [])) ++ behind ≡ piece
+cut_past done rest line behind piece e f =
+    append_assoc done (line ++ 10 ∷ []) behind ∙ ap (λ (l : List ℕ). done ++ l) (append_assoc line (10 ∷ []) behind) ∙ cut_on done rest line behind piece e f
+
+pub loop-last-init : goal.loop-last-init
+loop-last-init g c = record {
+  done = [];
+  cut = refl;
+  on = ServesOn-nothing _ _ _ _ _;
+  sound = IsSound-nothing g.W.Sink.taken _ _;
+}
+
+pub returns-in_err-serve_line-clause-err : goal.returns-in_err-serve_line-clause-err
+returns-in_err-serve_line-clause-err g c =
     let p = err_from_is_err_and c.from_residual.result c.from_residual.ensures.1 in
-    let i = c.loop-byte.byte-index in
-    let l = c.args.piece.now in
-    let e = c.in_err-serve_byte.ensures.err (drop (i + 1) l) in
-    rw (p.1, p.2) (subst (λ (k : List ℕ). StopsOn g.W.Sink.taken g.W.Sink.write_failures c.args.output.now c.serve_byte.new.output c.args.machine.now c.args.line.now k c.in_err-serve_byte.field-0.0) (whole_at i l c.loop-byte-test.true)
-    (StopsOn-then _ _ _ _ _ _ _ _ _ (take i l) _ _ c.loop-byte.invariant.on e))
+    let i = c.loop-last.invariant in
+    let behind = c.in-Some.behind.now in
+    rw (p.1, p.2)
+    (subst (λ (k : List ℕ). StopsOn g.W.Sink.taken g.W.Sink.write_failures c.args.output.now c.serve_line.new.output c.args.machine.now c.args.line.now k c.in_err-serve_line.field-0.0)
+    (cut_on i.done c.loop-last.rest.now c.in-Some.last.now behind c.args.piece.now i.cut c.in-Some.ensures.cut)
+    (StopsOn-then _ _ _ _ _ _ _ _ _ i.done _ _ i.on (c.in_err-serve_line.ensures.err behind)))
+
+pub loop-last-smaller : goal.loop-last-smaller
+loop-last-smaller g c =
+    let parts = ap length c.in-Some.ensures.cut in
+    let both = length-append c.in-Some.last.now (10 ∷ c.in-Some.behind.now) in
+    omega (arith, parts, both)
+
+pub loop-last-preserved : goal.loop-last-preserved
+loop-last-preserved g c =
+    let i = c.loop-last.invariant in
+    record {
+      done = i.done ++ (c.in-Some.last.now ++ 10 ∷ []);
+      cut = cut_past i.done c.loop-last.rest.now c.in-Some.last.now c.in-Some.behind.now c.args.piece.now i.cut c.in-Some.ensures.cut;
+      on = ServesOn-then _ _ _ _ _ _ _ _ _ _ _ i.done (c.in-Some.last.now ++ 10 ∷ []) i.on c.in_ok-serve_line.ensures.ok;
+      sound = IsSound-then g.W.Sink.taken _ _ _ _ i.sound c.in_ok-serve_line.ensures.sound;
+    }
+
+pub returns-in_err-extend-clause-err : goal.returns-in_err-extend-clause-err
+returns-in_err-extend-clause-err g c =
+    let p = err_from_is_err_and c.from_residual-in_err-extend.result c.from_residual-in_err-extend.ensures.1 in
+    let i = c.loop-last.invariant in
+    rw (p.1, p.2)
+    (subst (λ (k : List ℕ). StopsOn g.W.Sink.taken g.W.Sink.write_failures c.args.output.now c.loop-last.output c.args.machine.now c.args.line.now k NoMemory) i.cut
+    (StopsOn-then _ _ _ _ _ _ _ _ _ i.done c.loop-last.rest.now _ i.on (StopsOn-starved _ _ _ _ _ c.loop-last.rest.now)))
+
+pub returns-clause-ok : goal.returns-clause-ok
+returns-clause-ok g c =
+    let i = c.loop-last.invariant in
+    subst (λ (k : List ℕ). ServesOn g.W.Sink.taken g.W.Sink.write_failures c.args.output.now c.loop-last.output c.args.machine.now c.loop-last.machine c.args.line.now c.extend.new.self k) i.cut
+    (ServesOn-then _ _ _ _ _ _ _ _ _ _ _ i.done c.loop-last.rest.now i.on (ServesOn-front _ _ _ _ _ _ c.loop-last.rest.now c.in_default.ensures.none c.in_ok-extend.ensures.ok))

@@ -1,9 +1,15 @@
-use Rattle.std.proofs.Common.{take}
+use Rattle.std.proofs.Common.{◌≡◌, ◌++◌, ℕ, List, length}
 use Rattle.cq_report.specs.Steps.Serving.{ServesOn, IsSound}
 use Rattle.cq_report.proofs.running.feed.Given as goal
 
-abbrev pub invariant-loop-byte : goal.invariant-loop-byte
-invariant-loop-byte g l = record {
-  on : ServesOn g.W.Sink.taken g.W.Sink.write_failures l.fn.output l.output l.fn.machine l.machine l.fn.line l.line (take l.byte-index l.piece);
+-- what was served so far, and what is left of the piece
+abbrev pub invariant-loop-last : goal.invariant-loop-last
+invariant-loop-last g l = record {
+  done : List ℕ;
+  cut : done ++ l.rest ≡ l.piece;
+  on : ServesOn g.W.Sink.taken g.W.Sink.write_failures l.fn.output l.output l.fn.machine l.machine l.fn.line l.line done;
   sound : IsSound g.W.Sink.write_failures l.fn.output l.output;
 }
+
+abbrev pub decreases-loop-last : goal.decreases-loop-last
+decreases-loop-last g l = length l.rest

@@ -7,8 +7,8 @@ use Rattle.cq_board.proofs.board.Board.crowded.Goals as goal
 
 pub loop-first-init : goal.loop-first-init
 loop-first-init g c =
-    subst (IsCounting c.args.self.now.pending c.edges_by_place-rest.result.now) (sym (ap (map (crowd_read (λ name. name.now))) c.new-crowded.ensures.items))
-    (counting-starts c.args.self.now.pending c.edges_by_place-rest.result.now c.edges_by_place-rest.ensures)
+    subst (IsCounting c.args.self.now.pending c.kept_edges-rest.result.now) (sym (ap (map (crowd_read (λ name. name.now))) c.new-crowded.ensures.items))
+    (counting-starts c.args.self.now.pending c.kept_edges-rest.result.now c.kept_edges-rest.ensures)
 
 pub add_crowd-requires : goal.add_crowd-requires
 add_crowd-requires g c =

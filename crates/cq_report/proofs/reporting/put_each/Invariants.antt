@@ -3,13 +3,13 @@ use Rattle.std.specs.List.{flat_map, enumerate_from}
 use Rattle.cq_report.specs.Report.{query_lines}
 use Rattle.cq_report.specs.Steps.Left.{edges_at}
 use Rattle.cq_report.proofs.Onward.{Onward}
-use Rattle.cq_report.proofs.reporting.put_queries.Given as goal
+use Rattle.cq_report.proofs.reporting.put_each.Given as goal
 
 abbrev pub invariant-loop-waiter : goal.invariant-loop-waiter
 invariant-loop-waiter g l = record {
-  left : l.left ≡ flat_map (edges_at l.board.pending) (enumerate_from l.waiter (drop l.waiter l.board.pending));
+  left : l.left ≡ flat_map (edges_at l.listing.board.now.pending) (enumerate_from l.waiter (drop l.waiter l.listing.board.now.pending));
   onward : Onward g.P.Page.puts l.initial.page l.page
-      (flat_map (query_lines l.board) (enumerate_from 0 l.board.pending))
-      (flat_map (query_lines l.board) (enumerate_from l.waiter (drop l.waiter l.board.pending)));
+      (flat_map (query_lines l.listing.board.now) (enumerate_from 0 l.listing.board.now.pending))
+      (flat_map (query_lines l.listing.board.now) (enumerate_from l.waiter (drop l.waiter l.listing.board.now.pending)));
   ready : g.P.Page.is_ready l.page;
 }
