@@ -1,6 +1,6 @@
 //! The index: atoms by their places, and the places in buckets.
 
-ghost use Rattle.std.specs.Prelude.{◌≡◌, ◌↔◌, ◌+◌, ℕ, nat_eq, Some, None, IsSome, IsTrue, IfOk, OnOk, OnErr, length, min};
+ghost use Rattle.std.specs.Prelude.{◌≡◌, ◌↔◌, ◌+◌, ◌≤◌, ℕ, nat_eq, Some, None, IsSome, IsTrue, IfOk, OnOk, OnErr, length, min};
 ghost use Rattle.std.specs.FinMap as map;
 ghost use Rattle.std.specs.List.{Contains, list_any, IsDistinct};
 ghost use Rattle.std.specs.List.Sorted.{IsStrictlyIncreasing};
@@ -154,11 +154,13 @@ impl<A: Allocator + Copy> AtomIndex<A> {
     /// each candidate, whether it unifies or not.
     ///
     /// # Errors
-    /// `AllocError` where a growth was refused; the meter may have counted some tests then.
+    /// `AllocError` where a growth was refused; the meter has counted the tests that were made before then.
     pub fn partners(&self, atom: &Atom<A>, meter: &mut Meter) -> Result<Vec<usize, A>, AllocError>
         ensures exact { IfOk result (λ places. (p : ℕ) → Contains places.items p ↔ IsPartnerAt self.now atom.now p) }
         ensures rising { IfOk result (λ places. IsStrictlyIncreasing places.items) }
         ensures ticks { OnOk result (meter.new ≡ min (meter.old + length (candidates_of self.now atom.now)) u64.MAX) }
+        ensures rises { meter.old ≤ meter.new }
+        ensures at_most { meter.new ≤ min (meter.old + length (candidates_of self.now atom.now)) u64.MAX }
     {
         let _counted = meter.count();
         let candidates = self.candidates(atom)?;
