@@ -156,7 +156,7 @@ impl<A: Allocator + Copy> Matcher<A> {
 impl<A: Allocator + Copy> Matcher<A> {
     /// Puts a node that is not there, with edges that leave it or lead to it. An edge that is given twice counts twice.
     ///
-    /// Work is in proportion to the edges; and where the node is able and has an edge to each postcondition, also to the
+    /// Taken over many calls, work is in proportion to the edges; and where the node is able and has an edge to each postcondition, also to the
     /// able and unmatched nodes that its edges reach, with their edges. A number beyond all that were there before takes memory and work for each place up to it, once.
     ///
     /// # Errors
