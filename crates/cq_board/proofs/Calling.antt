@@ -22,7 +22,7 @@ use Rattle.cq_board.proofs.Graphs.{graph_matched_at, graph_counted}
 use Rattle.cq_board.proofs.Placed.{slice_get-some, residents_withdrawn, map-map}
 use Rattle.std.specs.Set.{is_member}
 use Rattle.std.proofs.lemmas.Bool.Decides.{Decides-eqb}
-use Rattle.cq_match.proofs.Renaming.{matched-known}
+use Rattle.cq_match.proofs.CallerLemmas.{matched-known}
 use Rattle.cq_board.specs.Edges.{edges_of}
 use Rattle.cq_board.proofs.Among.{In-Contains}
 use Rattle.cq_board.proofs.Upkeep.{places_withdrawn, graph_has}

@@ -9,7 +9,7 @@ use Rattle.std.proofs.lemmas.Map.Keys.{apart_from_distinct}
 use Rattle.cq_match.specs.declared.edge.Edge.{Edge}
 use Rattle.cq_match.specs.Graph.{leads_to, provider_count}
 use Rattle.cq_match.specs.Matched.{numbers, is_matched}
-use Rattle.cq_match.proofs.Renaming.{renumbered, IsWithin, matched-reordered, matched-renamed}
+use Rattle.cq_match.proofs.CallerLemmas.{renumbered, IsWithin, matched-reordered, matched-renamed}
 use Rattle.cq_board.specs.Pool.{PendingQuery}
 use Rattle.cq_board.specs.Edges.{edges_of}
 use Rattle.cq_board.specs.Board.{is_matched_at}

@@ -1,4 +1,4 @@
--- What a caller of a matcher cites: facts that hold of each of its nodes, kept while nodes come and go, and what such a fact says of a node that is there.
+-- What a caller of a matcher cites: that who is matched depends neither on the order nor on the numbers of the nodes; and facts that hold of each of its nodes, kept while nodes come and go, and what such a fact says of a node that is there.
 use Rattle.std.proofs.Common.{◌≡◌, ℕ, ◌<◌, Bool, true, false, eqb, nat_eq, List, [], ◌∷◌, length, suc, refl, sym, ap, ◌∙◌, subst, arith}
 use Rattle.std.specs.List.{All, Any, Contains}
 use Rattle.std.specs.Set.{is_member}
@@ -8,6 +8,7 @@ use Rattle.cq_match.specs.Matcher.{without, with_number}
 use Rattle.cq_match.proofs.Tests.{by_bool}
 use Rattle.cq_match.proofs.Union.{member-contained}
 use Rattle.cq_match.proofs.Bridge.{here-Contains, later-Contains, number-listed}
+pub use Rattle.cq_match.proofs.Renaming.{renumbered, renamed, IsWithin, matched-reordered, matched-renamed, matched-known}
 
 abbrev Nodes : Type 0
 Nodes = List (ℕ × ℕ × Bool)
