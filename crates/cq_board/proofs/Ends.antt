@@ -9,8 +9,7 @@ use Rattle.cq_match.specs.declared.edge.Edge.{Edge}
 use Rattle.cq_board.specs.Supply.{unifies}
 use Rattle.cq_board.specs.Pool.{PendingQuery}
 use Rattle.cq_board.specs.Edges.{edge_if, edges_into, edges_of}
-use Rattle.cq_board.specs.Board.{is_matched_at, matched_of, name_at, name_or_none}
-use Rattle.cq_board.proofs.Members.{by_bool, In, In-flat_map_gives, In-map_gives}
+use Rattle.cq_board.proofs.Members.{by_bool, In, In-flat_map_gives}
 
 module _ {X : Type 0} where
   pub In-get_or : (xs : List X) (k : ℕ) (d : X) → k < length xs → In (get_or xs k d) xs
@@ -71,27 +70,9 @@ In-edges_of pending e h =
 pub HasEnds-at : (pending : List PendingQuery) (edges : List Edge) → edges ≡ edges_of pending → (k : ℕ) (d : Edge) → k < length edges → HasEnds pending (get_or edges k d)
 HasEnds-at pending edges e k d h = In-edges_of pending (get_or edges k d) (subst (λ (es : List Edge). In (get_or edges k d) es) e (In-get_or edges k d h))
 
--- matched places are places of pending queries
-pub matched_of-within : (pending : List PendingQuery) (matched : List ℕ) → matched ≡ matched_of pending → (k d : ℕ) → k < length matched → get_or matched k d < length pending
-matched_of-within pending matched e k d h =
-    let place = get_or matched k d in
-    let places = map (λ p. p.0) (enumerate_from 0 pending) in
-    let among = In-filter_among (is_matched_at pending) places place (subst (λ (ms : List ℕ). In place ms) e (In-get_or matched k d h)) in
-    let from = In-map_gives (λ p. p.0) (enumerate_from 0 pending) place among in
-    subst (λ (n : ℕ). n < length pending) (sym from.2) (slice_get_within pending from.0.0 from.0.1 (In-enumerate pending from.0 from.1))
-
 -- one more element on both sides of an equation of maps
 pub map_more : {X Y Z : Type 0} (f : X → Z) (g : Y → Z) (xs : List X) (x : X) (ys : List Y) (i : ℕ) (d : Y) → i < length ys
     → map f xs ≡ map g (take i ys) → f x ≡ g (get_or ys i d) → map f (xs ++ (x ∷ [])) ≡ map g (take (i + 1) ys)
 map_more f g xs x ys i d h so_far same =
     map-append f xs (x ∷ []) ∙ ap (λ zs. zs ++ (f x ∷ [])) so_far ∙ ap (λ z. map g (take i ys) ++ (z ∷ [])) same
     ∙ sym (map-append g (take i ys) (get_or ys i d ∷ [])) ∙ ap (map g) (sym (take_more ys i d h))
-
--- a place that there is has its query's name
-pub name_there : (shown pending : List PendingQuery) (i : ℕ) (d : PendingQuery) → shown ≡ pending → i < length pending → (get_or shown i d).name ≡ name_or_none (name_at pending i)
-name_there shown pending i d e h = ap (λ (ps : List PendingQuery). (get_or ps i d).name) e ∙ there pending i h
-  where
-    there : (ps : List PendingQuery) (k : ℕ) → k < length ps → (get_or ps k d).name ≡ name_or_none (name_at ps k)
-    there [] k low = absurd (omega arith)
-    there (p ∷ ps) zero low = refl
-    there (p ∷ ps) (suc k) low = there ps k (omega arith)

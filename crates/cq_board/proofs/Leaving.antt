@@ -1,14 +1,12 @@
 -- The edges of a graph of residents, gathered place by place from those that leave each.
-use Rattle.std.proofs.Common.{◌≡◌, ℕ, ◌+◌, ◌<◌, ◌≤◌, inl, inr, Bool, true, false, not, List, [], ◌∷◌, ◌++◌, length, map, take, get_or, refl, sym, ap, subst, ◌∙◌, append-nil}
+use Rattle.std.proofs.Common.{◌≡◌, ℕ, inl, inr, Bool, true, false, not, List, [], ◌∷◌, ◌++◌, map, refl, sym, ap, subst, ◌∙◌}
 use Rattle.std.specs.Prelude.{filter, nat_eq}
 use Rattle.std.specs.List.{All, Contains, IsDistinct, flat_map, list_any}
 use Rattle.std.specs.List.Sorted.{IsPermutation}
 use Rattle.std.specs.Set.{is_member}
 use Rattle.std.proofs.lemmas.Bool.{eqb-true, eq-eqb, not-true}
 use Rattle.std.proofs.lemmas.Bool.Decides.{Decides-eqb}
-use Rattle.std.proofs.lemmas.Grind.{flat_map-append}
-use Rattle.std.proofs.lemmas.List.{take_all}
-use Rattle.std.proofs.lemmas.List.Sorted.{IsPermutation-refl, IsPermutation-trans, IsPermutation-map, IsPermutation-filter_both, IsPermutation-append_left, IsPermutation-append_right}
+use Rattle.std.proofs.lemmas.List.Sorted.{IsPermutation-refl, IsPermutation-trans, IsPermutation-map, IsPermutation-filter_both, IsPermutation-append_right}
 use Rattle.cq_match.specs.declared.edge.Edge.{Edge}
 use Rattle.cq_match.specs.Matcher.{leaves}
 use Rattle.cq_board.specs.Steps.Residents.{Resident, places_of, edges_among, IsGraphOf}
@@ -20,7 +18,6 @@ use Rattle.cq_board.proofs.Pairwise.{Pairwise, Differ, distinct-differ}
 use Rattle.cq_board.proofs.Placed.{flat_map-same}
 use Rattle.cq_board.proofs.Positions.{map-flat_map}
 use Rattle.cq_board.proofs.Touching.{between_gives}
-use Rattle.cq_board.proofs.Walks.{taken}
 
 -- ---- place by place
 
@@ -78,18 +75,6 @@ module _ {Y : Type 0} (g : Edge → Y) (places : List ℕ) (distinct : IsDistinc
 
 -- ---- a loop that gathers lists in any order
 
-module _ {X Y : Type 0} (f : X → List Y) where
-  pub gathered-more : (xs : List X) (i : ℕ) (x : X) (now next : List Y) → i < length xs → x ≡ get_or xs i x → IsPermutation (flat_map f (take i xs)) now → IsPermutation (now ++ f x) next
-      → IsPermutation (flat_map f (take (i + 1) xs)) next
-  gathered-more xs i x now next low is so_far made =
-      let more : flat_map f (take i xs) ++ f x ≡ flat_map f (take (i + 1) xs) =
-      ap (λ ys. flat_map f (take i xs) ++ ys) (sym (append-nil (f x))) ∙ sym (flat_map-append f (take i xs) (x ∷ [])) ∙ ap (flat_map f) (sym (taken xs i x low is)) in
-      subst (λ (ys : List Y). IsPermutation ys next) more
-      (IsPermutation-trans (flat_map f (take i xs) ++ f x) (now ++ f x) next (IsPermutation-append_left (f x) (flat_map f (take i xs)) now so_far) made)
-
-  pub gathered-end : (xs : List X) (i : ℕ) (now : List Y) → length xs ≤ i → IsPermutation (flat_map f (take i xs)) now → IsPermutation (flat_map f xs) now
-  gathered-end xs i now past so_far = subst (λ (ys : List X). IsPermutation (flat_map f ys) now) (take_all i xs past) so_far
-
 -- ---- the ends of edges
 
 module _ (able : Resident → Bool) (residents : List Resident) (nodes : List (ℕ × ℕ × Bool)) (edges : List Edge) (graph : IsGraphOf able residents nodes edges) where
@@ -118,10 +103,3 @@ module _ (able : Resident → Bool) (residents : List Resident) (nodes : List (�
       (λ e m. member-In e.provider (each-edge (λ x. is_member nat_eq (places_of residents) x.provider)
       (λ x h. let found = between_gives residents residents x h in
       member-has x.provider (subst (λ (n : ℕ). In n (places_of residents)) (sym found.4.comes_from) (In-map (λ (r : Resident). r.0) residents found.0 found.2))) e m))
-
-  pub graph_waiter_known : All (λ (e : Edge). Contains (places_of residents) e.waiter) edges
-  graph_waiter_known =
-      All-In (λ (e : Edge). Contains (places_of residents) e.waiter) edges
-      (λ e m. member-In e.waiter (each-edge (λ x. is_member nat_eq (places_of residents) x.waiter)
-      (λ x h. let found = between_gives residents residents x h in
-      member-has x.waiter (subst (λ (n : ℕ). In n (places_of residents)) (sym found.4.leads_to) (In-map (λ (r : Resident). r.0) residents found.1 found.3))) e m))

@@ -11,9 +11,8 @@ pub mod Coordination
 pub mod Law
 pub mod Scratched
 pub mod Walks
-pub mod Rising
-pub mod Nodes
-pub mod Kept
+pub mod GoodPools
+pub mod KeptIn
 pub mod Refusals
 pub mod Residents
 pub mod Pairwise
@@ -21,10 +20,19 @@ pub mod Positions
 pub mod Graphs
 pub mod Sorted
 pub mod Upkeep
+mod ViewSeats
 pub mod Placed
 pub mod Linked
 pub mod Calling
 pub mod Leaving
+pub mod Shows
 pub mod Rows
+pub mod RowChanges
+pub mod RowsIn
+pub mod Opened
 pub mod Shown
 pub mod Touching
+pub mod Stored
+pub mod WorkCounts
+pub mod WorkStores
+pub mod WorkLost

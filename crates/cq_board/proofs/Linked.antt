@@ -123,11 +123,6 @@ module _ {E : Type 0} (g : PendingQuery → E) (m : FinMap nat_cmp E) (residents
       there (x ∷ rs) (inr m) e =
           by_bool (nat_eq p x.0) ⊥ (λ t. let some : Some (g x.1) ≡ None = rw t at e in cc) (λ f. there rs m (rw f at e))
 
--- what a map of such parts has at a place, or nothing
-pub part_at : {E : Type 0} (g : PendingQuery → E) (part : E → List AtomRecord) (o : Option PendingQuery) → option_map_or part (option_map g o) [] ≡ option_map_or (λ q. part (g q)) o []
-part_at g part None = refl
-part_at g part (Some q) = refl
-
 -- ---- what is found by atoms
 
 module _ (residents : List Resident) (r : Resident) (distinct : IsDistinct nat_eq (places_of residents)) (none : is_member nat_eq (places_of residents) r.0 ≡ false)

@@ -28,10 +28,6 @@ Pairwise-flat_map S R f (x ∷ xs) h each apart =
     Pairwise-append R (f x) (flat_map f xs) (each x) (Pairwise-flat_map S R f xs h.1 each apart)
     (λ y w m k. let from = In-flat_map_gives f xs w k in apart x from.0 (h.0 from.0 from.1) y w m from.2)
 
-pub Pairwise-weaker : {X : Type 0} (R S : X → X → Type 0) → ((x y : X) → R x y → S x y) → (xs : List X) → Pairwise R xs → Pairwise S xs
-Pairwise-weaker R S f [] h = tt
-Pairwise-weaker R S f (x ∷ xs) h = (λ y m. f x y (h.0 y m), Pairwise-weaker R S f xs h.1)
-
 pub Pairwise-filter : {X : Type 0} (R : X → X → Type 0) (p : X → Bool) (xs : List X) → Pairwise R xs → Pairwise R (filter p xs)
 Pairwise-filter R p [] h = tt
 Pairwise-filter R p (x ∷ xs) h =

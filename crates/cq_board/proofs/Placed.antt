@@ -2,13 +2,10 @@
 use Rattle.std.proofs.Common.{◌≡◌, ℕ, zero, suc, ◌<◌, inl, inr, Bool, true, false, not, List, [], ◌∷◌, ◌++◌, length, map, refl, sym, ap, subst, ◌∙◌, arith, Option, Some, if◌then◌else◌}
 use Rattle.std.specs.Prelude.{filter, nat_eq, option_map}
 use Rattle.std.specs.List.{IsDistinct, flat_map, enumerate_from, slice_get}
-use Rattle.std.specs.Map.{lookup}
 use Rattle.std.specs.Str.{bytes_eq}
 use Rattle.std.proofs.Math.ListN.{length-map}
-use Rattle.std.proofs.lemmas.Cmp.{nat_eq_equiv}
 use Rattle.std.proofs.lemmas.List.Folds.{flat_map-map}
-use Rattle.std.proofs.lemmas.Map.Entries.{lookup_from_place}
-use Rattle.std.proofs.lemmas.Option.{slice_get_within, slice_get-map, get_or_from_slice_get}
+use Rattle.std.proofs.lemmas.Option.{slice_get_within}
 use Rattle.std.proofs.lemmas.Slice.Eq.{bytes_eq-Decides}
 use Rattle.std.proofs.lemmas.Bool.Decides.{Decides-eqb}
 use Rattle.cq_match.specs.declared.edge.Edge.{Edge}
@@ -17,15 +14,13 @@ use Rattle.cq_match.specs.Matched.{is_matched}
 use Rattle.cq_board.specs.declared.link.Crowd.{Crowd}
 use Rattle.cq_board.specs.Pool.{PendingQuery, name_of}
 use Rattle.cq_board.specs.Edits.{is_named}
-use Rattle.cq_board.specs.Edges.{edges_of}
-use Rattle.cq_board.specs.Board.{name_at, name_or_none, link_of, links_of, crowd_if, crowded_of, is_matched_at}
+use Rattle.cq_board.specs.Board.{name_at, name_or_none, crowd_if, crowded_of, is_matched_at}
 use Rattle.cq_board.specs.Named.{matched_names}
-use Rattle.cq_board.specs.Steps.Residents.{Resident, places_of, queries_of, place_at, all_but, edges_among, renamed, crowd_at_place, crowds_among, name_in, link_in, IsGraphOf}
+use Rattle.cq_board.specs.Steps.Residents.{Resident, places_of, queries_of, place_at, all_but, crowd_at_place, crowds_among, IsGraphOf}
 use Rattle.cq_board.proofs.Members.{by_bool, In}
-use Rattle.cq_board.proofs.Ends.{In-enumerate, HasEnds, HasEnds-at}
-use Rattle.cq_board.proofs.Among.{Contains-In}
+use Rattle.cq_board.proofs.Ends.{In-enumerate}
 use Rattle.cq_board.proofs.Pairwise.{Pairwise, Differ, distinct-differ, same-key}
-use Rattle.cq_board.proofs.Positions.{residents_moved, edges_placed}
+use Rattle.cq_board.proofs.Positions.{residents_moved}
 use Rattle.cq_board.proofs.Graphs.{graph_matched_at, graph_providers}
 use Rattle.cq_board.proofs.Upkeep.{filter-by_map}
 
@@ -96,36 +91,6 @@ slice_get-some (x ∷ xs) zero low = (x, refl)
 slice_get-some (x ∷ xs) (suc i) low = slice_get-some xs i (omega arith)
 
 module _ (residents : List Resident) (distinct : IsDistinct nat_eq (places_of residents)) where
-  -- What stands in a place is the query at its position.
-  pub lookup_placed : (i : ℕ) → i < length residents → lookup (nat_eq (place_at residents i)) residents ≡ slice_get (queries_of residents) i
-  lookup_placed i low =
-      let found = slice_get-some residents i low in
-      let r = found.0 in
-      let place : place_at residents i ≡ r.0 = get_or_from_slice_get (places_of residents) i r.0 0 (slice_get-map (λ (x : Resident). x.0) residents i ∙ ap (option_map (λ (x : Resident). x.0)) found.1) in
-      ap (λ (n : ℕ). lookup (nat_eq n) residents) place ∙ lookup_from_place nat_eq_equiv residents i r.0 r.1 distinct found.1
-      ∙ sym (slice_get-map (λ (x : Resident). x.1) residents i ∙ ap (option_map (λ (x : Resident). x.1)) found.1)
-
-  name_placed : (i : ℕ) → i < length residents → name_in residents (place_at residents i) ≡ name_or_none (name_at (queries_of residents) i)
-  name_placed i low = ap (λ (o : Option PendingQuery). name_or_none (option_map (λ q. q.name) o)) (lookup_placed i low)
-
-  -- The edges by names.
-  pub links_placed : links_of (queries_of residents) ≡ map (link_in residents) (edges_among residents)
-  links_placed =
-      let pending = queries_of residents in
-      let f = place_at residents in
-      map-same (link_of pending) (λ e. link_in residents (renamed f e)) (edges_of pending)
-      (λ e m.
-      let found = Contains-In (edges_of pending) e m in
-      let ends = subst (HasEnds pending) found.2 (HasEnds-at pending (edges_of pending) refl found.0 e found.1) in
-      let len = length-map residents (λ (r : Resident). r.1) in
-      let low = ends.provider in
-      let also = ends.waiter in
-      let provider = sym (name_placed e.provider (omega arith)) in
-      let waiter = sym (name_placed e.waiter (omega arith)) in
-      λ i. record { provider = provider i; head = e.head; waiter = waiter i; post = e.post })
-      ∙ sym (map-map (link_in residents) (renamed f) (edges_of pending))
-      ∙ ap (map (link_in residents)) (edges_placed residents)
-
   module _ (r : Resident) (there : In r residents) (named : IsDistinct bytes_eq (map name_of (queries_of residents))) where
     -- one resident has the place, and the same one has the name
     pub place-name : (x : Resident) → In x residents → nat_eq x.0 r.0 ≡ is_named r.1.name x.1

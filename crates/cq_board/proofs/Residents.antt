@@ -10,14 +10,9 @@ use Rattle.cq_atom.specs.Atom.{AtomRecord}
 use Rattle.cq_match.specs.declared.edge.Edge.{Edge}
 use Rattle.cq_match.specs.Matcher.{is_apart}
 use Rattle.cq_board.specs.Supply.{unifies}
-use Rattle.cq_board.specs.Pool.{PendingQuery}
-use Rattle.cq_board.specs.Edges.{edge_if, edges_of}
+use Rattle.cq_board.specs.Edges.{edge_if}
 use Rattle.cq_board.specs.Steps.Residents.{Resident, all_but, edges_from, edges_between, edges_among, edges_touching}
 use Rattle.cq_board.proofs.Members.{by_bool}
-
--- The positions of pending queries are places.
-pub edges_of-among : (pending : List PendingQuery) → edges_of pending ≡ edges_among (enumerate_from 0 pending)
-edges_of-among pending = refl
 
 -- ---- a resident goes
 

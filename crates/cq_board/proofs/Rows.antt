@@ -18,7 +18,7 @@ use Rattle.cq_board.specs.declared.edit.Why.TheVariants.{RowPresent}
 use Rattle.cq_board.specs.Pool.{PoolRecord, IsPool}
 use Rattle.cq_board.specs.Edits.{Edit, is_named, arity_why, why, edited, unless_refused, pool_after}
 use Rattle.cq_board.proofs.Members.{by_bool}
-use Rattle.cq_board.proofs.Kept.{tables_good, filtered_good, posted_good, first_none, arity_fits}
+use Rattle.cq_board.proofs.GoodPools.{tables_good, filtered_good, posted_good, first_none, arity_fits}
 
 -- ---- a list with one element more, in its order
 

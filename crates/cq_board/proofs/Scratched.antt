@@ -3,29 +3,12 @@ use Rattle.std.proofs.Common.{◌≡◌, ℕ, ◌+◌, ◌<◌, ◌≤◌, List,
 use Rattle.std.proofs.lemmas.List.{drop_all}
 use Rattle.cq_board.specs.declared.edit.Why.{Why}
 use Rattle.cq_board.specs.Pool.{PoolRecord}
-use Rattle.cq_board.specs.Edits.{Edit, why, edited, unless_refused, pool_after}
-use Rattle.cq_board.specs.Views.{Admits}
+use Rattle.cq_board.specs.Edits.{Edit, why, edited}
 use Rattle.cq_board.specs.declared.scratch.ScratchFault.{ScratchFault}
 use Rattle.cq_board.specs.declared.scratch.ScratchFault.TheVariants.{Refused, NoMemory}
 use Rattle.cq_board.specs.Scratch.{or_refused, scratch_of, Makes}
 use Rattle.cq_board.specs.Steps.Scratch.{Continues}
 use Rattle.cq_board.proofs.Places.{drop-at}
-
--- an edit that is answered without a reason is done
-done_with : (o : Option Why) (old made now : PoolRecord) → Admits o (Ok None) → now ≡ unless_refused o old made → or_refused o (Ok made) ≡ Ok now
-done_with None old made now a e = ap Ok (sym e)
-done_with (Some reason) old made now a e = cc
-
-pub edit_done : (pool now : PoolRecord) (edit : Edit) → Admits (why pool edit) (Ok None) → now ≡ pool_after pool edit → scratch_of pool (edit ∷ []) ≡ Ok now
-edit_done pool now edit a e = done_with (why pool edit) pool (edited pool edit) now a e
-
--- and the reason that is answered is the one that there is
-refused_with : (o : Option Why) (reason : Why) (made : Result PoolRecord Why) → Admits o (Ok (Some reason)) → or_refused o made ≡ Err reason
-refused_with None reason made a = cc
-refused_with (Some other) reason made a = let same : other ≡ reason = cc in ap Err same
-
-pub edit_refused : (pool : PoolRecord) (edit : Edit) (reason : Why) → Admits (why pool edit) (Ok (Some reason)) → scratch_of pool (edit ∷ []) ≡ Err reason
-edit_refused pool edit reason a = refused_with (why pool edit) reason (Ok (edited pool edit)) a
 
 -- after an edit that is done the others follow
 then_others : (o : Option Why) (made now : PoolRecord) (more : List Edit) → or_refused o (Ok made) ≡ Ok now → or_refused o (scratch_of made more) ≡ scratch_of now more

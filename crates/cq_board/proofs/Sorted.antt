@@ -133,11 +133,6 @@ sorted-among residents rising edges same sorted =
 pub sorted-edges : (pending : List PendingQuery) (edges : List Edge) → ((test : Edge → Bool) → count_by test edges ≡ count_by test (edges_of pending)) → IsSorted edge_cmp edges → edges ≡ edges_of pending
 sorted-edges pending edges same sorted = sorted-among (enumerate_from 0 pending) (enumerate-rises 0 pending) edges same sorted
 
--- A sorted permutation of the edges is their list.
-pub permuted-edges : (pending : List PendingQuery) (edges : List Edge) → IsPermutation (edges_of pending) edges → IsSorted edge_cmp edges → edges ≡ edges_of pending
-permuted-edges pending edges moved sorted =
-    sorted-edges pending edges (λ test. sum_by-IsPermutation (λ e. one_if (test e)) (edges_of pending) edges moved) sorted
-
 -- Edges by places, with positions in the place of places, are those of the queries: as many of each kind, and in order where they are sorted.
 module _ (g : ℕ → ℕ) (residents : List Resident) (same : (k : ℕ) → k < length residents → g (place_at residents k) ≡ k)
     (edges : List Edge) (all : (test : Edge → Bool) → count_by test edges ≡ count_by test (edges_among residents)) where

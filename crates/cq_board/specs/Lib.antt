@@ -3,9 +3,9 @@ pub mod Pool
 pub mod Edges
 pub mod Edits
 pub mod Board
-pub mod Kept
 pub mod Views
 pub mod Named
 pub mod Choice
 pub mod Scratch
+pub mod Work
 pub mod Steps

@@ -1,6 +1,6 @@
 -- What the private steps of the code are stated with; no part of what a reader must believe.
 pub mod Runs
 pub mod Choices
-pub mod Parts
 pub mod Residents
+pub mod Stores
 pub mod Scratch

@@ -1,52 +1,45 @@
 //! Boards: one pool, and its parts from scratch.
 
-ghost use Rattle.std.specs.Prelude.{◌≡◌, ◌++◌, ◌∷◌, [], length, filter, not, OnOk, OnErr, IfOk, None};
-ghost use Rattle.std.specs.List.{slice_get};
+ghost use Rattle.std.specs.Prelude.{◌≡◌, ◌≤◌, ◌+◌, length, OnOk, OnErr, IfOk, None};
 ghost use Rattle.std.specs.Option.{option_copied};
 ghost use Rattle.cq_board.specs.declared.edit.EditKind.TheVariants.{Post, Withdraw, Insert, Delete};
-ghost use Rattle.cq_board.specs.Pool.{IsPool, PendingQuery, opening_pool};
-ghost use Rattle.cq_board.specs.Edges.{edges_of};
-ghost use Rattle.cq_board.specs.Edits.{is_named, why, edited, pool_after};
-ghost use Rattle.cq_board.specs.Board.{is_matched_at, matched_of, all_groundings, name_at};
-ghost use Rattle.cq_board.specs.Steps.Parts.{with_pending, with_tables};
+ghost use Rattle.cq_board.specs.Pool.{IsPool, opening_pool};
+ghost use Rattle.cq_board.specs.Edits.{why, edited, pool_after};
+ghost use Rattle.cq_board.specs.Board.{name_at};
+ghost use Rattle.cq_board.specs.Work.{AreChanged, candidates, lost, named, raised, tests_after, tests_done, visits_after, visits_done};
+ghost use Rattle.cq_board.specs.Steps.Stores.{pending_of, AreStores};
 ghost use Rattle.cq_board.specs.Views.{Admits};
 
 use crate::edit::{Edit, EditKind, Why};
 use crate::limits::Limits;
-use crate::parts::{Parts, groundings_of};
-use crate::pending::Pending;
-use crate::refusal::{insert_why, is_named, post_why, refusal};
+use crate::refusal::{insert_why, post_why, refusal};
+use crate::row_change;
+use crate::stores::{self, Stores};
 use crate::work::Work;
 use cq_atom::{Name, Query, Row};
-use cq_ground::Groundings;
-use cq_match::Edge;
 use cq_rel::{Catalog, Tables};
 use std::alloc::{AllocError, Allocator, Global};
 use std::marker::Model;
 
-/// A query under its name in a pool.
-pub type Posted<A = Global> = Pending<Name<A>, Query<A>>;
-
-/// A pool and its board. Contracts see the pool: that the parts that are kept are the board of the
-/// pool stands in this type.
+/// A pool and its board. Contracts see the pool: that the stores that are kept are those of the pool,
+/// and with them the board of the pool, stands in this type.
 #[derive(Drop)]
 pub struct Board<A: Allocator = Global> {
     alloc: A,
     limits: Limits,
     tables: Tables<A>,
-    pending: Vec<Posted<A>, A>,
-    parts: Parts<A>,
+    stores: Stores<A>,
 }
 
 impl<A: Allocator> Model for Board<A> {
     ghost use Rattle.cq_board.specs.Pool.{PoolRecord};
-    ghost use Rattle.cq_board.specs.Kept.{IsKept};
+    ghost use Rattle.cq_board.specs.Steps.Stores.{pending_of, IsKeptIn};
 
     ghost Value = { PoolRecord };
 
-    ghost view = { λ b. record { limits = b.limits; tables = b.tables; pending = b.pending.items } };
+    ghost view = { λ b. record { limits = b.limits; tables = b.tables; pending = pending_of b.stores.roster b.stores.findings } };
 
-    ghost invariant = { λ b. IsKept (record { limits = b.limits; tables = b.tables; pending = b.pending.items }) b.parts.edges.items b.parts.matched.items b.parts.groundings.items };
+    ghost invariant = { λ b. IsKeptIn (record { limits = b.limits; tables = b.tables; pending = pending_of b.stores.roster b.stores.findings }) b.stores.roster b.stores.findings b.stores.links b.stores.matcher };
 }
 
 impl<A: Allocator + Copy> Board<A> {
@@ -63,8 +56,7 @@ impl<A: Allocator + Copy> Board<A> {
             alloc,
             limits,
             tables,
-            pending: Vec::new(alloc),
-            parts: Parts::none(alloc),
+            stores: stores::begin(alloc),
         })
     }
 
@@ -81,7 +73,8 @@ impl<A: Allocator + Copy> Board<A> {
         self.admit_counted(edit, &mut Work::new())
     }
 
-    /// The same as `admit`. Of the work nothing is promised so far.
+    /// The same as `admit`, with the work that the edit took counted. What is counted where memory was
+    /// wanting is not told.
     ///
     /// # Errors
     /// As those of `admit`.
@@ -93,6 +86,9 @@ impl<A: Allocator + Copy> Board<A> {
         ensures answer { Admits (why self.old edit.now) result }
         ensures ok { OnOk result (self.new ≡ pool_after self.old edit.now) }
         ensures err { OnErr result (self.new ≡ self.old) }
+        ensures tests { OnOk result (work.new.tests ≡ tests_after self.old edit.now work.old.tests) }
+        ensures visits { OnOk result (work.new.visits ≡ visits_after self.old edit.now work.old.visits) }
+        ensures changes { OnOk result (AreChanged (why self.old edit.now) self.old edit.now work.old.changes work.new.changes) }
     {
         if let Some(why) = self.why(edit) {
             return Ok(Some(why));
@@ -106,12 +102,21 @@ impl<A: Allocator + Copy> Board<A> {
         requires { why self.old edit.now ≡ None }
         ensures ok { OnOk result (self.new ≡ edited self.old edit.now) }
         ensures err { OnErr result (self.new ≡ self.old) }
+        ensures tests { OnOk result (work.new.tests ≡ tests_done self.old.pending edit.now work.old.tests) }
+        ensures visits { OnOk result (work.new.visits ≡ visits_done self.old.pending edit.now work.old.visits) }
+        ensures changes { OnOk result (AreChanged None self.old edit.now work.old.changes work.new.changes) }
     {
         match edit {
             EditKind::Post { name, query } => self.post(name, query, work),
-            EditKind::Withdraw { name } => self.withdraw(name, work),
+            EditKind::Withdraw { name } => {
+                self.withdraw(name, work);
+                Ok(())
+            }
             EditKind::Insert { row } => self.insert(row, work),
-            EditKind::Delete { row } => self.delete(row, work),
+            EditKind::Delete { row } => {
+                self.delete(row, work);
+                Ok(())
+            }
         }
     }
 
@@ -128,41 +133,13 @@ impl<A: Allocator + Copy> Board<A> {
         ensures { IfOk result (λ board. board ≡ self.now) }
     {
         let tables = self.tables.copy()?;
-        let pending = self.pending.clone()?;
-        let parts = self.parts.copy(self.alloc)?;
+        let stores = stores::copy(&self.stores)?;
         Ok(Board {
             alloc: self.alloc,
             limits: self.limits,
             tables,
-            pending,
-            parts,
+            stores,
         })
-    }
-
-    /// Takes other queries in the place of the pending ones. Nothing is given up before all that is
-    /// kept of the new board is made.
-    fn set_pending(&mut self, pending: Vec<Posted<A>, A>, work: &mut Work) -> Result<(), AllocError>
-        requires { IsPool (with_pending pending.items self.old) }
-        ensures ok { OnOk result (self.new ≡ with_pending pending.items self.old) }
-        ensures err { OnErr result (self.new ≡ self.old) }
-    {
-        let parts = Parts::of(self.alloc, &pending, &self.tables, work)?;
-        self.pending = pending;
-        self.parts = parts;
-        Ok(())
-    }
-
-    /// Takes other tables in the place of the present ones, in the same way. No edge looks at rows.
-    fn set_tables(&mut self, tables: Tables<A>, work: &mut Work) -> Result<(), AllocError>
-        requires { tables.catalog ≡ self.old.tables.catalog }
-        ensures ok { OnOk result (self.new ≡ with_tables tables self.old) }
-        ensures err { OnErr result (self.new ≡ self.old) }
-    {
-        let _good = tables.catalog();
-        let groundings = groundings_of(self.alloc, &self.pending, &tables, &mut work.visits)?;
-        self.tables = tables;
-        self.parts.groundings = groundings;
-        Ok(())
     }
 
     /// Makes a copy of the query pending, where nothing speaks against it.
@@ -175,19 +152,21 @@ impl<A: Allocator + Copy> Board<A> {
         requires { why self.old (Post name.now query.now) ≡ None }
         ensures ok { OnOk result (self.new ≡ edited self.old (Post name.now query.now)) }
         ensures err { OnErr result (self.new ≡ self.old) }
+        ensures tests { OnOk result (work.new.tests ≡ raised work.old.tests (candidates self.old.pending query.now)) }
+        ensures visits { OnOk result (work.new.visits ≡ raised work.old.visits 1) }
+        ensures changes { work.new.changes ≡ work.old.changes }
     {
-        let mut pending = self.pending.clone()?;
-        push_posted(&mut pending, name, query)?;
-        self.set_pending(pending, work)
+        stores::post(&mut self.stores, &self.tables, name, query, work)
     }
 
     /// Takes the query of that name out.
-    fn withdraw(&mut self, name: &Name<A>, work: &mut Work) -> Result<(), AllocError>
-        ensures ok { OnOk result (self.new ≡ edited self.old (Withdraw name.now)) }
-        ensures err { OnErr result (self.new ≡ self.old) }
+    fn withdraw(&mut self, name: &Name<A>, work: &mut Work)
+        ensures ok { self.new ≡ edited self.old (Withdraw name.now) }
+        ensures tests { work.new.tests ≡ work.old.tests }
+        ensures visits { work.new.visits ≡ work.old.visits }
+        ensures changes { work.new.changes ≤ work.old.changes + lost self.old.pending (edited self.old (Withdraw name.now)).pending }
     {
-        let pending = all_but(self.alloc, name, &self.pending)?;
-        self.set_pending(pending, work)
+        stores::withdraw(&mut self.stores, name, &mut work.changes);
     }
 
     /// Adds a copy of the row, where nothing speaks against it.
@@ -195,85 +174,48 @@ impl<A: Allocator + Copy> Board<A> {
         requires { why self.old (Insert row.now) ≡ None }
         ensures ok { OnOk result (self.new ≡ edited self.old (Insert row.now)) }
         ensures err { OnErr result (self.new ≡ self.old) }
+        ensures tests { work.new.tests ≡ work.old.tests }
+        ensures visits { OnOk result (work.new.visits ≡ raised work.old.visits (named self.old.pending row.now.relation)) }
+        ensures changes { work.new.changes ≡ work.old.changes }
     {
-        let mut tables = self.tables.copy()?;
-        // The row fits and is not there, so that only memory can be wanting.
-        if tables.insert(row.copy()?).is_err() {
-            return Err(AllocError);
-        }
-        self.set_tables(tables, work)
+        row_change::insert(
+            &mut self.tables,
+            &mut self.stores.findings,
+            row,
+            &mut work.visits,
+        )
     }
 
     /// Takes the row out, where nothing speaks against it.
-    fn delete(&mut self, row: &Row<A>, work: &mut Work) -> Result<(), AllocError>
+    fn delete(&mut self, row: &Row<A>, work: &mut Work)
         requires { why self.old (Delete row.now) ≡ None }
-        ensures ok { OnOk result (self.new ≡ edited self.old (Delete row.now)) }
-        ensures err { OnErr result (self.new ≡ self.old) }
+        ensures ok { self.new ≡ edited self.old (Delete row.now) }
+        ensures tests { work.new.tests ≡ work.old.tests }
+        ensures visits { work.new.visits ≡ raised work.old.visits (named self.old.pending row.now.relation) }
+        ensures changes { work.new.changes ≡ work.old.changes }
     {
-        let mut tables = self.tables.copy()?;
-        // The row is there, and to take it out needs no memory.
-        let _ = tables.delete(row);
-        self.set_tables(tables, work)
+        row_change::delete(
+            &mut self.tables,
+            &mut self.stores.findings,
+            row,
+            &mut work.visits,
+        );
     }
 }
 
-/// Adds a copy of the query under a copy of its name.
-fn push_posted<A: Allocator + Copy>(
-    pending: &mut Vec<Posted<A>, A>,
-    name: &Name<A>,
-    query: &Query<A>,
-) -> Result<(), AllocError>
-    ensures { let posted : PendingQuery = record { name = name.now; query = query.now } in
-        OnOk result (pending.new.items ≡ pending.old.items ++ posted ∷ []) }
-{
-    let name = name.copy()?;
-    let query = query.copy()?;
-    pending.push(Pending { name, query })?;
-    Ok(())
-}
-
-/// Adds copies of the queries that are not pending under the name.
-fn add_all_but<A: Allocator + Copy>(
-    others: &mut Vec<Posted<A>, A>,
-    name: &Name<A>,
-    pending: &[Posted<A>],
-) -> Result<(), AllocError>
-    ensures { OnOk result (others.new.items ≡ others.old.items ++ filter (λ other. not (is_named name.now other)) pending.now) }
-{
-    for posted in pending {
-        if !is_named(name, posted) {
-            push_posted(others, &posted.name, &posted.query)?;
-        }
-    }
-    Ok(())
-}
-
-/// Copies of the queries that are not pending under the name.
-fn all_but<A: Allocator + Copy>(
-    alloc: A,
-    name: &Name<A>,
-    pending: &[Posted<A>],
-) -> Result<Vec<Posted<A>, A>, AllocError>
-    ensures { IfOk result (λ others. others.items ≡ filter (λ other. not (is_named name.now other)) pending.now) }
-{
-    let mut others = Vec::with_capacity(alloc, pending.len())?;
-    add_all_but(&mut others, name, pending)?;
-    Ok(others)
-}
-
-impl<A: Allocator> Board<A> {
+impl<A: Allocator + Copy> Board<A> {
     /// Why the pool refuses the edit: the first test that holds.
     fn why(&self, edit: &Edit<A>) -> Option<Why>
         ensures { result ≡ why self.now edit.now }
     {
-        refusal(self.limits, &self.tables, &self.pending, edit)
+        refusal(self.limits, &self.tables, &self.stores, edit)
     }
 
     /// Why the pool refuses to post the query.
     pub(crate) fn post_why(&self, name: &Name<A>, query: &Query<A>) -> Option<Why>
         ensures { result ≡ why self.now (Post name.now query.now) }
     {
-        post_why(self.limits, &self.tables, &self.pending, name, query)
+        post_why(self.limits, &self.tables, &self.stores, name, query)
     }
 
     /// Why the pool refuses to insert the row.
@@ -288,53 +230,26 @@ impl<A: Allocator> Board<A> {
         ensures value { result ≡ length self.now.pending }
         ensures valid { IsPool self.now }
     {
-        self.pending.len()
-    }
-
-    /// The pending queries in posting order.
-    pub(crate) fn pending(&self) -> &[Posted<A>]
-        ensures { result.now ≡ self.now.pending }
-    {
-        self.pending.as_slice()
+        self.stores.roster.len()
     }
 
     /// The name of the query at that place in posting order, from 0. A name that was withdrawn and
-    /// posted again goes last.
+    /// posted again goes last. Time in proportion to the place; [`names`](Board::names) tells all.
     pub fn name_at(&self, place: usize) -> Option<&Name<A>>
         ensures { option_copied result ≡ name_at self.now.pending place }
     {
-        match self.pending.get(place) {
-            Some(posted) => Some(&posted.name),
+        match self.stores.roster.nth(place) {
+            Some(seat) => Some(&seat.name),
             None => None,
         }
     }
 
-    /// The edges that are kept.
-    pub(crate) fn kept_edges(&self) -> &[Edge]
-        ensures { result.now ≡ edges_of self.now.pending }
+    /// What is kept of the pending queries.
+    pub(crate) fn stores(&self) -> &Stores<A>
+        ensures pending { pending_of result.now.roster result.now.findings ≡ self.now.pending }
+        ensures kept { AreStores result.now.roster result.now.findings result.now.links result.now.matcher self.now.tables.rows }
     {
-        self.parts.edges.as_slice()
-    }
-
-    /// The places of the matched queries, in posting order.
-    pub(crate) fn matched_by_place(&self) -> &[usize]
-        ensures { result.now ≡ matched_of self.now.pending }
-    {
-        self.parts.matched.as_slice()
-    }
-
-    /// Whether the query at that place is matched; false where there is none.
-    pub(crate) fn is_matched_at(&self, place: usize) -> bool
-        ensures { result ≡ is_matched_at self.now.pending place }
-    {
-        self.parts.matched.contains(&place)
-    }
-
-    /// The groundings of the query at that place, where there is one.
-    pub(crate) fn groundings_at(&self, place: usize) -> Option<&Groundings<A>>
-        ensures { option_copied result ≡ slice_get (all_groundings self.now) place }
-    {
-        self.parts.groundings.get(place)
+        &self.stores
     }
 
     /// The rows and their catalog.

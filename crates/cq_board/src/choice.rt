@@ -175,7 +175,7 @@ fn has_name<A: Allocator>(choices: &[Choice<A>], name: &Name<A>) -> bool
     choices.iter().any(|choice| is_named(name, choice))
 }
 
-impl<A: Allocator> Board<A> {
+impl<A: Allocator + Copy> Board<A> {
     /// Whether the choice's query offers the postcondition.
     fn offers(&self, choice: &Choice<A>, waiting: &Member<'_, A>, post: &Atom<A>) -> bool
         ensures same { IsTrue result ↔ IsOfferedBy (query_named choice.now.name self.now.pending) choice.now.values (under (bound waiting.now.query.now waiting.now.values.now) post.now) }

@@ -16,15 +16,16 @@
 
 mod board;
 mod choice;
-mod edges;
 mod edit;
 mod laws;
 mod limits;
 mod link;
-mod parts;
 mod pending;
 mod refusal;
+mod row_change;
 mod scratch;
+mod showing;
+mod stores;
 mod supply;
 mod views;
 mod work;

@@ -4,27 +4,24 @@ ghost use Rattle.std.specs.Prelude.{◌≡◌, if◌then◌else◌, Some, None};
 ghost use Rattle.cq_board.specs.declared.edit.EditKind.TheVariants.{Post};
 ghost use Rattle.cq_board.specs.declared.edit.Why.TheVariants.{RowPresent, RowAbsent};
 ghost use Rattle.cq_board.specs.Pool.{PoolRecord};
-ghost use Rattle.cq_board.specs.Edits.{is_named, is_taken, answer_why, arity_why, body_why, query_why, row_why, why};
+ghost use Rattle.cq_board.specs.Edits.{is_taken, answer_why, arity_why, body_why, query_why, row_why, why};
+ghost use Rattle.cq_board.specs.Steps.Stores.{pending_of};
+ghost use Rattle.cq_findings.specs.Findings.{FindingMap};
 ghost use Rattle.cq_rel.specs.Tables.{arity_in, has_row};
 
-use crate::board::Posted;
 use crate::edit::{Edit, EditKind, Why};
 use crate::limits::Limits;
+use crate::stores::Stores;
 use cq_atom::{Atom, Name, Part, Query, Row};
 use cq_rel::{Catalog, Tables};
+use cq_roster::Roster;
 use std::alloc::Allocator;
 
-/// Whether the query is pending under the name.
-pub(crate) fn is_named<A: Allocator>(name: &Name<A>, posted: &Posted<A>) -> bool
-    ensures { result ≡ is_named name.now posted.now }
+/// Whether a query is pending under the name.
+fn is_taken<A: Allocator + Copy>(name: &Name<A>, roster: &Roster<A>) -> bool
+    ensures { (findings : FindingMap) → result ≡ is_taken name.now (pending_of roster.now findings) }
 {
-    name.as_str() == posted.name.as_str()
-}
-
-fn is_taken<A: Allocator>(name: &Name<A>, pending: &[Posted<A>]) -> bool
-    ensures { result ≡ is_taken name.now pending.now }
-{
-    pending.iter().any(|posted| is_named(name, posted))
+    roster.place_of(name).is_some()
 }
 
 fn answer_why<A: Allocator>(catalog: &Catalog<A>, part: Part, atoms: &[Atom<A>]) -> Option<Why>
@@ -101,36 +98,36 @@ fn delete_why<A: Allocator>(tables: &Tables<A>, row: &Row<A>) -> Option<Why>
 }
 
 /// Why the query is not posted.
-pub(crate) fn post_why<A: Allocator>(
+pub(crate) fn post_why<A: Allocator + Copy>(
     limits: Limits,
     tables: &Tables<A>,
-    pending: &[Posted<A>],
+    stores: &Stores<A>,
     name: &Name<A>,
     query: &Query<A>,
 ) -> Option<Why>
-    ensures { let pool : PoolRecord = record { limits = limits; tables = tables.now; pending = pending.now } in result ≡ why pool (Post name.now query.now) }
+    ensures { let pool : PoolRecord = record { limits = limits; tables = tables.now; pending = pending_of stores.now.roster stores.now.findings } in result ≡ why pool (Post name.now query.now) }
 {
-    if pending.len() >= limits.pool {
+    if stores.roster.len() >= limits.pool {
         return Some(Why::PoolFull);
     }
-    if is_taken(name, pending) {
+    if is_taken(name, &stores.roster) {
         return Some(Why::NameTaken);
     }
     query_why(tables.catalog(), query)
 }
 
 /// Why the pool of these parts refuses the edit: the first test that holds.
-pub(crate) fn refusal<A: Allocator>(
+pub(crate) fn refusal<A: Allocator + Copy>(
     limits: Limits,
     tables: &Tables<A>,
-    pending: &[Posted<A>],
+    stores: &Stores<A>,
     edit: &Edit<A>,
 ) -> Option<Why>
-    ensures { let pool : PoolRecord = record { limits = limits; tables = tables.now; pending = pending.now } in result ≡ why pool edit.now }
+    ensures { let pool : PoolRecord = record { limits = limits; tables = tables.now; pending = pending_of stores.now.roster stores.now.findings } in result ≡ why pool edit.now }
 {
     match edit {
-        EditKind::Post { name, query } => post_why(limits, tables, pending, name, query),
-        EditKind::Withdraw { name } if is_taken(name, pending) => None,
+        EditKind::Post { name, query } => post_why(limits, tables, stores, name, query),
+        EditKind::Withdraw { name } if is_taken(name, &stores.roster) => None,
         EditKind::Withdraw { .. } => Some(Why::NoSuchName),
         EditKind::Insert { row } => insert_why(tables, row),
         EditKind::Delete { row } => delete_why(tables, row),

@@ -1,20 +1,22 @@
 //! What a board shows by names.
 
-ghost use Rattle.std.specs.Prelude.{◌≡◌, ◌<◌, ◌++◌, length, map, IfOk, OnOk};
+ghost use Rattle.std.specs.Prelude.{◌≡◌, ◌<◌, ◌++◌, List, length, map, filter, IfOk, OnOk};
 ghost use Rattle.std.specs.Option.{option_copied};
 ghost use Rattle.cq_match.specs.Graph.{leads_to};
-ghost use Rattle.cq_board.specs.Pool.{name_of};
+ghost use Rattle.cq_match.specs.Matched.{is_matched};
+ghost use Rattle.cq_board.specs.Pool.{PendingQuery, name_of};
 ghost use Rattle.cq_board.specs.Edges.{edges_of};
-ghost use Rattle.cq_board.specs.Board.{place_of, name_at, name_or_none, links_of, crowded_of, link_of};
+ghost use Rattle.cq_board.specs.Board.{name_at, name_or_none, links_of, crowded_of, link_of};
 ghost use Rattle.cq_board.specs.Named.{query_named, matched_named, groundings_named, matched_names, link_read, crowd_read};
 ghost use Rattle.cq_board.specs.Steps.Runs.{run_length, crowd_at};
 
 use crate::board::Board;
 use crate::link::{Crowd, Link};
-use crate::refusal::is_named;
+use crate::showing::edges_by_place;
 use cq_atom::{Name, Query};
 use cq_ground::Groundings;
-use cq_match::{Edge, is_crowd};
+use cq_match::{Edge, Matcher, is_crowd};
+use cq_roster::Seat;
 use std::alloc::{AllocError, Allocator};
 
 fn leads_to(waiter: usize, post: u8, edge: &Edge) -> bool
@@ -33,23 +35,122 @@ fn run_length(first: &Edge, edges: &[Edge]) -> usize
         .count()
 }
 
-impl<A: Allocator> Board<A> {
-    /// The place of the pending query of that name, by looking at one name after another.
-    fn place_of(&self, name: &Name<A>) -> Option<usize>
-        ensures { result ≡ place_of name.now self.now.pending }
-    {
-        self.pending()
-            .iter()
-            .position(|posted| is_named(name, posted))
-    }
+/// The name at that number.
+fn name_of<'a, A: Allocator>(names: &[&'a Name<A>], number: usize) -> &'a Name<A>
+    requires { number < length names.now }
+    ensures { (pending : List PendingQuery) → map (λ name. name.now) names.now ≡ map name_of pending → result.now ≡ name_or_none (name_at pending number) }
+{
+    names[number]
+}
 
+/// The edge by the names of its ends.
+fn link<'a, A: Allocator>(names: &[&'a Name<A>], edge: &Edge) -> Link<&'a Name<A>>
+    requires provider { edge.now.provider < length names.now }
+    requires waiter { edge.now.waiter < length names.now }
+    ensures { (pending : List PendingQuery) → map (λ name. name.now) names.now ≡ map name_of pending → link_read (λ name. name.now) result ≡ link_of pending edge.now }
+{
+    Link {
+        provider: name_of(names, edge.provider),
+        head: edge.head,
+        waiter: name_of(names, edge.waiter),
+        post: edge.post,
+    }
+}
+
+/// Adds the postcondition to which the edge leads, where that many providers are a crowd.
+fn add_crowd<'a, A: Allocator>(
+    crowded: &mut Vec<Crowd<&'a Name<A>>, A>,
+    names: &[&'a Name<A>],
+    first: &Edge,
+    providers: usize,
+) -> Result<(), AllocError>
+    requires { first.now.waiter < length names.now }
+    ensures { (pending : List PendingQuery) → map (λ name. name.now) names.now ≡ map name_of pending → OnOk result (map (crowd_read (λ name. name.now)) crowded.new.items ≡ map (crowd_read (λ name. name.now)) crowded.old.items ++ crowd_at pending first.now providers) }
+{
+    if is_crowd(providers) {
+        crowded.push(Crowd {
+            waiter: name_of(names, first.waiter),
+            post: first.post,
+            providers,
+        })?;
+    }
+    Ok(())
+}
+
+/// The names of the seats, in their order.
+fn names_of<'a, A: Allocator>(
+    alloc: A,
+    seats: &[&'a Seat<Name<A>>],
+) -> Result<Vec<&'a Name<A>, A>, AllocError>
+    ensures { IfOk result (λ names. map (λ name. name.now) names.items ≡ map (λ s. s.now.name) seats.now) }
+{
+    let mut names = Vec::with_capacity(alloc, seats.len())?;
+    for seat in seats {
+        names.push(&seat.name)?;
+    }
+    Ok(names)
+}
+
+/// The names of the seats whose places are matched, in their order.
+fn matched_of<'a, A: Allocator + Copy>(
+    alloc: A,
+    seats: &[&'a Seat<Name<A>>],
+    matcher: &Matcher<A>,
+) -> Result<Vec<&'a Name<A>, A>, AllocError>
+    ensures { IfOk result (λ names. map (λ name. name.now) names.items ≡ map (λ s. s.now.name) (filter (λ s. is_matched matcher.now.nodes matcher.now.edges s.now.place) seats.now)) }
+{
+    let mut names = Vec::new(alloc);
+    for seat in seats {
+        if matcher.is_matched(seat.place) {
+            names.push(&seat.name)?;
+        }
+    }
+    Ok(names)
+}
+
+/// The edges by the names of their ends, in their order.
+fn links<'a, A: Allocator>(
+    alloc: A,
+    names: &[&'a Name<A>],
+    edges: &[Edge],
+) -> Result<Vec<Link<&'a Name<A>>, A>, AllocError>
+    requires { (pending : List PendingQuery) × (map (λ name. name.now) names.now ≡ map name_of pending) × (edges.now ≡ edges_of pending) }
+    ensures { (pending : List PendingQuery) → map (λ name. name.now) names.now ≡ map name_of pending → edges.now ≡ edges_of pending → IfOk result (λ links. map (link_read (λ name. name.now)) links.items ≡ links_of pending) }
+{
+    let mut links = Vec::with_capacity(alloc, edges.len())?;
+    for edge in edges {
+        links.push(link(names, edge))?;
+    }
+    Ok(links)
+}
+
+/// The postconditions to which a crowd of the edges leads, in the order of the edges.
+fn crowds<'a, A: Allocator>(
+    alloc: A,
+    names: &[&'a Name<A>],
+    edges: &[Edge],
+) -> Result<Vec<Crowd<&'a Name<A>>, A>, AllocError>
+    requires { (pending : List PendingQuery) × (map (λ name. name.now) names.now ≡ map name_of pending) × (edges.now ≡ edges_of pending) }
+    ensures { (pending : List PendingQuery) → map (λ name. name.now) names.now ≡ map name_of pending → edges.now ≡ edges_of pending → IfOk result (λ crowded. map (crowd_read (λ name. name.now)) crowded.items ≡ crowded_of pending) }
+{
+    let mut crowded = Vec::new(alloc);
+    let mut rest = edges;
+    while let Some(first) = rest.first() {
+        let providers = run_length(first, rest);
+        add_crowd(&mut crowded, names, first, providers)?;
+        let (_, behind) = rest.split_at(providers);
+        rest = behind;
+    }
+    Ok(crowded)
+}
+
+impl<A: Allocator + Copy> Board<A> {
     /// The pending query of that name.
     pub fn query(&self, name: &Name<A>) -> Option<&Query<A>>
         ensures { option_copied result ≡ query_named name.now self.now.pending }
     {
-        let place = self.place_of(name)?;
-        let posted = self.pending().get(place)?;
-        Some(&posted.query)
+        let stores = self.stores();
+        stores.findings.query(stores.roster.place_of(name)?)
     }
 
     /// Whether the pending query of that name is matched. `None` where no query of that name is
@@ -57,42 +158,18 @@ impl<A: Allocator> Board<A> {
     pub fn is_matched(&self, name: &Name<A>) -> Option<bool>
         ensures { result ≡ matched_named name.now self.now.pending }
     {
-        let place = self.place_of(name)?;
-        Some(self.is_matched_at(place))
+        let stores = self.stores();
+        Some(stores.matcher.is_matched(stores.roster.place_of(name)?))
     }
 
     /// The groundings of the pending query of that name.
     pub fn groundings(&self, name: &Name<A>) -> Option<&Groundings<A>>
         ensures { option_copied result ≡ groundings_named name.now self.now }
     {
-        let place = self.place_of(name)?;
-        self.groundings_at(place)
+        let stores = self.stores();
+        stores.findings.groundings(stores.roster.place_of(name)?)
     }
 
-    /// The name of the pending query at that place.
-    fn name_of(&self, place: usize) -> &Name<A>
-        requires { place < length self.now.pending }
-        ensures { result.now ≡ name_or_none (name_at self.now.pending place) }
-    {
-        &self.pending()[place].name
-    }
-
-    /// The edge by the names of its ends.
-    fn link(&self, edge: &Edge) -> Link<&Name<A>>
-        requires provider { edge.now.provider < length self.now.pending }
-        requires waiter { edge.now.waiter < length self.now.pending }
-        ensures { link_read (λ name. name.now) result ≡ link_of self.now.pending edge.now }
-    {
-        Link {
-            provider: self.name_of(edge.provider),
-            head: edge.head,
-            waiter: self.name_of(edge.waiter),
-            post: edge.post,
-        }
-    }
-}
-
-impl<A: Allocator + Copy> Board<A> {
     /// The names of the pending queries, in posting order. A name that was withdrawn and posted again
     /// goes last.
     ///
@@ -101,22 +178,19 @@ impl<A: Allocator + Copy> Board<A> {
     pub fn names(&self) -> Result<Vec<&Name<A>, A>, AllocError>
         ensures { IfOk result (λ names. map (λ name. name.now) names.items ≡ map name_of self.now.pending) }
     {
-        let mut names = Vec::with_capacity(self.allocator(), self.len())?;
-        for posted in self.pending() {
-            names.push(&posted.name)?;
-        }
-        Ok(names)
+        let seats = self.stores().roster.in_order()?;
+        names_of(self.allocator(), &seats)
     }
 
     /// All edges by the numbers of the queries in posting order: by the waiter, the postcondition, the
-    /// provider, the head. The list is made when it is asked for.
+    /// provider, the head. The list is made when it is asked for: its time is that of sorting it.
     ///
     /// # Errors
     /// `AllocError` where a growth was refused.
     pub fn edges_by_place(&self) -> Result<Vec<Edge, A>, AllocError>
         ensures { IfOk result (λ edges. edges.items ≡ edges_of self.now.pending) }
     {
-        self.kept_edges().to_vec(self.allocator())
+        edges_by_place(self.allocator(), self.stores())
     }
 
     /// All edges by names: by the waiter's posting, the postcondition, the provider's posting, the
@@ -127,31 +201,9 @@ impl<A: Allocator + Copy> Board<A> {
     pub fn edges(&self) -> Result<Vec<Link<&Name<A>>, A>, AllocError>
         ensures { IfOk result (λ links. map (link_read (λ name. name.now)) links.items ≡ links_of self.now.pending) }
     {
-        let mut links = Vec::new(self.allocator());
-        for edge in self.kept_edges() {
-            links.push(self.link(edge))?;
-        }
-        Ok(links)
-    }
-
-    /// Adds the postcondition to which the edge leads, where that many providers are a crowd.
-    fn add_crowd<'a>(
-        &'a self,
-        crowded: &mut Vec<Crowd<&'a Name<A>>, A>,
-        first: &Edge,
-        providers: usize,
-    ) -> Result<(), AllocError>
-        requires { first.now.waiter < length self.now.pending }
-        ensures { OnOk result (map (crowd_read (λ name. name.now)) crowded.new.items ≡ map (crowd_read (λ name. name.now)) crowded.old.items ++ crowd_at self.now.pending first.now providers) }
-    {
-        if is_crowd(providers) {
-            crowded.push(Crowd {
-                waiter: self.name_of(first.waiter),
-                post: first.post,
-                providers,
-            })?;
-        }
-        Ok(())
+        let names = self.names()?;
+        let edges = self.edges_by_place()?;
+        links(self.allocator(), &names, &edges)
     }
 
     /// The postconditions with two providers or more: by the waiter's posting, and then by the
@@ -162,15 +214,9 @@ impl<A: Allocator + Copy> Board<A> {
     pub fn crowded(&self) -> Result<Vec<Crowd<&Name<A>>, A>, AllocError>
         ensures { IfOk result (λ crowded. map (crowd_read (λ name. name.now)) crowded.items ≡ crowded_of self.now.pending) }
     {
-        let mut crowded = Vec::new(self.allocator());
-        let mut rest = self.kept_edges();
-        while let Some(first) = rest.first() {
-            let providers = run_length(first, rest);
-            self.add_crowd(&mut crowded, first, providers)?;
-            let (_, behind) = rest.split_at(providers);
-            rest = behind;
-        }
-        Ok(crowded)
+        let names = self.names()?;
+        let edges = self.edges_by_place()?;
+        crowds(self.allocator(), &names, &edges)
     }
 
     /// The names of the matched queries, in posting order.
@@ -180,10 +226,8 @@ impl<A: Allocator + Copy> Board<A> {
     pub fn matched(&self) -> Result<Vec<&Name<A>, A>, AllocError>
         ensures { IfOk result (λ names. map (λ name. name.now) names.items ≡ matched_names self.now.pending) }
     {
-        let mut names = Vec::new(self.allocator());
-        for place in self.matched_by_place() {
-            names.push(self.name_of(*place))?;
-        }
-        Ok(names)
+        let stores = self.stores();
+        let seats = stores.roster.in_order()?;
+        matched_of(self.allocator(), &seats, &stores.matcher)
     }
 }

@@ -4,8 +4,8 @@ ghost use Rattle.std.specs.Prelude.{◌≡◌};
 
 use cq_atom::Meter;
 
-/// Counts of the work that edits took. So far nothing is promised of them: the tests and the visits of
-/// each accepted edit are ticked, and the changes are not yet.
+/// Counts of the work that edits took. What each edit adds stands at
+/// [`Board::admit_counted`](crate::Board::admit_counted).
 #[derive(Drop)]
 pub struct Work {
     /// Tests of a head against a postcondition.

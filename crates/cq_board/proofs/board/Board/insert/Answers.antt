@@ -1,18 +1,30 @@
-use Rattle.std.proofs.Common.{◌≡◌, ap, subst, sym, ◌∙◌}
-use Rattle.std.specs.Prelude.{OnOk}
-use Rattle.cq_rel.specs.Tables.{TablesRecord}
-use Rattle.cq_board.specs.Steps.Parts.{with_tables}
-use Rattle.cq_board.proofs.Kept.{with_seen}
+use Rattle.std.proofs.Common.{◌≡◌}
+use Rattle.cq_findings.specs.Findings as findings
+use Rattle.cq_board.specs.Work.{named, raised}
+use Rattle.cq_board.proofs.Stored.{ok-map}
+use Rattle.cq_board.proofs.WorkStores.{visits-seen}
+use Rattle.cq_board.proofs.RowsIn.{findings-over, inserted_in, inserted_seen}
 use Rattle.cq_board.proofs.board.Board.insert.Goals as goal
 
-pub set_tables-requires : goal.set_tables-requires
-set_tables-requires g c =
-    ap (λ (t : TablesRecord). t.catalog)
-    (with_seen c.args.self.now c.self.inside.limits c.self.inside.tables c.self.inside.pending.items c.self.view_is c.in_ok-tables.tables c.insert.new.self c.args.row.now c.in_ok-copy.field-0 c.insert.result
-    c.in_ok-tables.ensures c.in_ok-copy.ensures (sym c.is_err.ensures.value ∙ c.if-is_err.false) c.insert.ensures.ok)
+pub insert-requires-clause-found : goal.insert-requires-clause-found
+insert-requires-clause-found g c =
+    let old = c.self.inside.stores in findings-over old.roster old.findings old.links old.matcher c.self.inside.tables.rows c.self.invariant.stores
+
+pub invariant_of-self : goal.invariant_of-self
+invariant_of-self g c =
+    let old = c.self.inside.stores in
+    inserted_in c.self.inside.limits c.self.inside.tables c.insert.new.tables old.roster old.findings c.insert.new.findings old.links old.matcher c.self.invariant c.args.self.now c.args.row.now c.self.view_is
+    c.insert.result c.requires c.insert.ensures.ok c.insert.ensures.found c.insert.ensures.err c.insert.ensures.err_findings
 
 pub returns-clause-ok : goal.returns-clause-ok
 returns-clause-ok g c =
-    subst (λ (t : TablesRecord). OnOk c.set_tables.result (c.set_tables.new.self ≡ with_tables t c.args.self.now))
-    (with_seen c.args.self.now c.self.inside.limits c.self.inside.tables c.self.inside.pending.items c.self.view_is c.in_ok-tables.tables c.insert.new.self c.args.row.now c.in_ok-copy.field-0 c.insert.result
-    c.in_ok-tables.ensures c.in_ok-copy.ensures (sym c.is_err.ensures.value ∙ c.if-is_err.false) c.insert.ensures.ok) c.set_tables.ensures.ok
+    let old = c.self.inside.stores in
+    inserted_seen c.self.inside.limits c.self.inside.tables c.insert.new.tables old.roster old.findings c.insert.new.findings old.links old.matcher c.self.invariant c.args.self.now c.args.row.now c.self.view_is
+    c.insert.result c.insert.ensures.ok c.insert.ensures.found
+
+pub returns-clause-visits : goal.returns-clause-visits
+returns-clause-visits g c =
+    let old = c.self.inside.stores in
+    let relation = c.args.row.now.relation in
+    ok-map c.insert.result (c.insert.new.visits ≡ raised c.args.work.now.visits (findings.named old.findings relation)) (c.insert.new.visits ≡ raised c.args.work.now.visits (named c.args.self.now.pending relation)) c.insert.ensures.ticks
+    (visits-seen c.self.inside.limits c.self.inside.tables old.roster old.findings old.links old.matcher c.self.invariant c.args.self.now c.self.view_is c.args.row.now.relation c.args.work.now.visits c.insert.new.visits)

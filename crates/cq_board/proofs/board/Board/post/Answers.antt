@@ -1,22 +1,10 @@
-use Rattle.std.proofs.Common.{◌≡◌, List, subst, sym}
-use Rattle.std.specs.Prelude.{OnOk}
-use Rattle.cq_board.specs.Pool.{PendingQuery, IsPool}
-use Rattle.cq_board.specs.Steps.Parts.{with_pending}
-use Rattle.cq_board.proofs.Kept.{posted_good, good_seen, clones_same, posted_seen}
+use Rattle.cq_board.proofs.KeptIn.{posted_in}
 use Rattle.cq_board.proofs.board.Board.post.Goals as goal
 
-pub set_pending-requires : goal.set_pending-requires
-set_pending-requires g c =
-    let view = c.self.view_is in
-    let copied = clones_same c.self.inside.pending.items c.in_ok-pending.pending.items c.in_ok-pending.ensures.cases.0 in
-    let posted = posted_seen c.args.self.now c.self.inside.limits c.self.inside.tables c.self.inside.pending.items view c.args.name.now c.args.query.now
-    c.in_ok-pending.pending.items c.push_posted.new.pending.items copied c.in_ok-push_posted.ensures in
-    subst (λ (ps : List PendingQuery). IsPool (with_pending ps c.args.self.now)) (sym posted)
-    (posted_good c.args.self.now c.args.name.now c.args.query.now (good_seen c.args.self.now c.self.inside.limits c.self.inside.tables c.self.inside.pending.items view c.self.invariant.good) c.requires)
-
-pub returns-clause-ok : goal.returns-clause-ok
-returns-clause-ok g c =
-    let copied = clones_same c.self.inside.pending.items c.in_ok-pending.pending.items c.in_ok-pending.ensures.cases.0 in
-    let posted = posted_seen c.args.self.now c.self.inside.limits c.self.inside.tables c.self.inside.pending.items c.self.view_is c.args.name.now c.args.query.now
-    c.in_ok-pending.pending.items c.push_posted.new.pending.items copied c.in_ok-push_posted.ensures in
-    subst (λ (ps : List PendingQuery). OnOk c.set_pending.result (c.set_pending.new.self ≡ with_pending ps c.args.self.now)) posted c.set_pending.ensures.ok
+pub invariant_of-self : goal.invariant_of-self
+invariant_of-self g c =
+    let old = c.self.inside.stores in
+    let new = c.post.new.stores in
+    posted_in c.self.inside.limits c.self.inside.tables old.roster new.roster old.findings new.findings old.links new.links old.matcher new.matcher c.self.invariant c.args.name.now
+    c.post.result c.args.self.now c.args.query.now c.self.view_is c.requires
+    c.post.ensures.stores c.post.ensures.posted c.post.ensures.err_roster c.post.ensures.err_findings c.post.ensures.err_links c.post.ensures.err_matcher

@@ -1,18 +1,20 @@
-use Rattle.std.proofs.Common.{Some, None, sym, ap, ◌∙◌}
+use Rattle.std.proofs.Common.{List, sym, ap, ◌∙◌}
 use Rattle.std.specs.Option.{option_copied}
-use Rattle.cq_board.proofs.Shown.{query_at, query_some, query_none}
+use Rattle.cq_board.specs.Pool.{PendingQuery}
+use Rattle.cq_board.specs.Named.{query_named}
+use Rattle.cq_board.proofs.ViewSeats.{query-nowhere, query-at-place}
 use Rattle.cq_board.proofs.board.Board.query.Goals as goal
 
-pub returns-in_err-place : goal.returns-in_err-place
-returns-in_err-place g c =
-    ap option_copied c.from_residual.ensures ∙ query_at None c.args.name.now c.args.self.now.pending (sym c.in_err-place.was ∙ c.place_of.ensures)
-
-pub returns-in_err-posted : goal.returns-in_err-posted
-returns-in_err-posted g c =
-    ap option_copied c.from_residual-in_err-posted.ensures ∙ query_none c.pending.result.now c.args.self.now.pending c.in_ok-place.place c.pending.ensures c.in_err-posted.ensures.lookup.3
-    ∙ query_at (Some c.in_ok-place.place) c.args.name.now c.args.self.now.pending (sym c.in_ok-place.was ∙ c.place_of.ensures)
+pub returns-in_err-place_of : goal.returns-in_err-place_of
+returns-in_err-place_of g c =
+    let stores = c.stores-stores.result.now in
+    ap option_copied c.from_residual.ensures
+    ∙ sym (query-nowhere c.args.name.now stores.roster stores.findings (sym c.place_of.ensures ∙ c.in_err-place_of.was))
+    ∙ ap (λ (pending : List PendingQuery). query_named c.args.name.now pending) c.stores-stores.ensures.pending
 
 pub returns : goal.returns
 returns g c =
-    query_some c.pending.result.now c.args.self.now.pending c.in_ok-place.place c.in_ok-posted.posted.now c.pending.ensures c.in_ok-posted.ensures.lookup.3.0 c.in_ok-posted.ensures.lookup.1
-    ∙ query_at (Some c.in_ok-place.place) c.args.name.now c.args.self.now.pending (sym c.in_ok-place.was ∙ c.place_of.ensures)
+    let stores = c.stores-stores.result.now in
+    c.query.ensures
+    ∙ query-at-place stores.roster stores.findings stores.links stores.matcher c.args.self.now.tables.rows c.stores-stores.ensures.kept c.args.name.now c.in_ok-place_of.field-0 (sym c.place_of.ensures ∙ c.in_ok-place_of.was)
+    ∙ ap (λ (pending : List PendingQuery). query_named c.args.name.now pending) c.stores-stores.ensures.pending

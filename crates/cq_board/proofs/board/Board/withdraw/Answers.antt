@@ -1,19 +1,25 @@
-use Rattle.std.proofs.Common.{◌≡◌, List, subst, sym, not}
-use Rattle.std.specs.Prelude.{OnOk}
-use Rattle.cq_board.specs.Pool.{PendingQuery, IsPool}
-use Rattle.cq_board.specs.Edits.{is_named}
-use Rattle.cq_board.specs.Steps.Parts.{with_pending}
-use Rattle.cq_board.proofs.Kept.{filtered_good, good_seen, without_seen}
+use Rattle.std.proofs.Common.{◌≤◌, ◌+◌, ap, subst, ◌∙◌}
+use Rattle.cq_board.specs.declared.edit.EditKind.TheVariants.{Withdraw}
+use Rattle.cq_board.specs.Pool.{PoolRecord}
+use Rattle.cq_board.specs.Edits.{edited}
+use Rattle.cq_board.specs.Work.{lost}
+use Rattle.cq_board.proofs.KeptIn.{pool_of, withdrawn_in}
 use Rattle.cq_board.proofs.board.Board.withdraw.Goals as goal
 
-pub set_pending-requires : goal.set_pending-requires
-set_pending-requires g c =
-    let view = c.self.view_is in
-    let others = without_seen c.args.self.now c.self.inside.limits c.self.inside.tables c.self.inside.pending.items view c.args.name.now c.in_ok-pending.pending.items (rw (← c.deref.ensures.value) c.in_ok-pending.ensures) in
-    subst (λ (ps : List PendingQuery). IsPool (with_pending ps c.args.self.now)) (sym others)
-    (filtered_good (λ other. not (is_named c.args.name.now other)) c.args.self.now (good_seen c.args.self.now c.self.inside.limits c.self.inside.tables c.self.inside.pending.items view c.self.invariant.good))
+pub invariant_of-self : goal.invariant_of-self
+invariant_of-self g c =
+    let old = c.self.inside.stores in
+    let new = c.withdraw.new.stores in
+    let rows = c.self.inside.tables.rows in
+    withdrawn_in c.self.inside.limits c.self.inside.tables old.roster new.roster old.findings new.findings old.links new.links old.matcher new.matcher c.self.invariant c.args.name.now
+    (c.withdraw.ensures.stores rows c.self.invariant.stores) (c.withdraw.ensures.left rows c.self.invariant.stores)
 
 pub returns-clause-ok : goal.returns-clause-ok
 returns-clause-ok g c =
-    let others = without_seen c.args.self.now c.self.inside.limits c.self.inside.tables c.self.inside.pending.items c.self.view_is c.args.name.now c.in_ok-pending.pending.items (rw (← c.deref.ensures.value) c.in_ok-pending.ensures) in
-    subst (λ (ps : List PendingQuery). OnOk c.set_pending.result (c.set_pending.new.self ≡ with_pending ps c.args.self.now)) others c.set_pending.ensures.ok
+    let left = c.withdraw.ensures.left c.self.inside.tables.rows c.self.invariant.stores in
+    (λ i. pool_of c.self.inside.limits c.self.inside.tables (left i)) ∙ ap (λ (p : PoolRecord). edited p (Withdraw c.args.name.now)) c.self.view_is
+
+pub returns-clause-changes : goal.returns-clause-changes
+returns-clause-changes g c =
+    subst (λ (p : PoolRecord). c.withdraw.new.changes ≤ c.args.work.now.changes + lost p.pending (edited p (Withdraw c.args.name.now)).pending) c.self.view_is
+    (c.withdraw.ensures.changes c.self.inside.tables.rows c.self.invariant.stores)

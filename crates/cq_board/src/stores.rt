@@ -1,0 +1,211 @@
+//! The four stores that a board keeps beside its rows.
+//!
+//! A query has one place in all of them: `findings` picks it. What takes memory comes first, and what was done before a
+//! refused growth is taken back by calls that take none.
+
+ghost use Rattle.std.specs.Prelude.{◌≡◌, ◌<◌, ◌≤◌, ℕ, Bool, true, false, ◌+◌, ◌++◌, ◌∷◌, [], None, OnOk, OnErr, IfOk, List, length, count_by, filter, nat_eq, not};
+ghost use Rattle.std.specs.FinMap as map;
+ghost use Rattle.std.specs.List.{All, Any, Contains};
+ghost use Rattle.std.specs.Option.{option_map};
+ghost use Rattle.std.specs.Set.{is_member};
+ghost use Rattle.cq_atom.specs.Atom.{RowRecord};
+ghost use Rattle.cq_match.specs.declared.edge.Edge.{Edge};
+ghost use Rattle.cq_match.specs.Matched.{numbers, is_matched};
+ghost use Rattle.cq_match.specs.Matcher.{nothing, has_node, without, with_number, is_apart};
+ghost use Rattle.cq_roster.specs.Roster.{seat_of, place_named, is_taken_place};
+ghost use Rattle.cq_findings.specs.Findings.{FindingMap};
+ghost use Rattle.cq_links.specs.Links.{ends_of, candidate_pairs};
+ghost use Rattle.cq_board.specs.Pool.{PendingQuery};
+ghost use Rattle.cq_board.specs.Edits.{is_named, is_taken};
+ghost use Rattle.cq_board.specs.Work.{candidates, lost, raised};
+ghost use Rattle.cq_board.specs.Steps.Stores.{pending_of, AreStores, AddsLinks};
+
+use crate::work::Work;
+use cq_atom::{Meter, Name, Query};
+use cq_findings::Findings;
+use cq_links::Links;
+use cq_match::{Edge, Matcher};
+use cq_rel::Tables;
+use cq_roster::Roster;
+use std::alloc::{AllocError, Allocator};
+
+/// What is kept of the pending queries.
+#[derive(Drop)]
+pub(crate) struct Stores<A: Allocator> {
+    /// Their names in posting order, each with its place.
+    pub(crate) roster: Roster<A>,
+    /// At each place the query, with its groundings.
+    pub(crate) findings: Findings<A>,
+    /// At each place the query's atoms, by which edges are found.
+    pub(crate) links: Links<A>,
+    /// The graph whose nodes are the places, and who is matched.
+    pub(crate) matcher: Matcher<A>,
+}
+
+/// Stores without queries.
+pub(crate) fn begin<A: Allocator + Copy>(alloc: A) -> Stores<A>
+    ensures roster { result.roster ≡ [] }
+    ensures findings { result.findings ≡ map.empty }
+    ensures links { result.links ≡ map.empty }
+    ensures matcher { result.matcher ≡ nothing }
+{
+    Stores {
+        roster: Roster::begin(alloc),
+        findings: Findings::begin(alloc),
+        links: Links::begin(alloc),
+        matcher: Matcher::begin(alloc),
+    }
+}
+
+/// Stores of equal content.
+pub(crate) fn copy<A: Allocator + Copy>(stores: &Stores<A>) -> Result<Stores<A>, AllocError>
+    ensures roster { IfOk result (λ copy. copy.roster ≡ stores.now.roster) }
+    ensures findings { IfOk result (λ copy. copy.findings ≡ stores.now.findings) }
+    ensures links { IfOk result (λ copy. copy.links ≡ stores.now.links) }
+    ensures matcher { IfOk result (λ copy. copy.matcher ≡ stores.now.matcher) }
+{
+    let roster = stores.roster.copy()?;
+    let findings = stores.findings.copy()?;
+    let links = stores.links.copy()?;
+    let matcher = stores.matcher.copy()?;
+    Ok(Stores {
+        roster,
+        findings,
+        links,
+        matcher,
+    })
+}
+
+/// Seats the name at the place and puts the node there with its edges, or does neither.
+fn seat<A: Allocator + Copy>(
+    roster: &mut Roster<A>,
+    matcher: &mut Matcher<A>,
+    name: &Name<A>,
+    place: usize,
+    posts: u8,
+    edges: &[Edge],
+) -> Result<(), AllocError>
+    requires absent { place_named name.now roster.old ≡ None }
+    requires free { is_taken_place place roster.old ≡ false }
+    requires no_node { has_node place matcher.old ≡ false }
+    requires touch { All (λ edge. is_apart place edge ≡ false) edges.now }
+    requires ends { All (λ edge. Contains (numbers ((place, posts, true) ∷ matcher.old.nodes)) edge.provider × Any (λ node. (node.0 ≡ edge.waiter) × (edge.post < node.1)) ((place, posts, true) ∷ matcher.old.nodes)) edges.now }
+    ensures seated { OnOk result (roster.new ≡ roster.old ++ seat_of name.now place ∷ []) }
+    ensures node { OnOk result (with_number place matcher.new.nodes ≡ (place, posts, true) ∷ []) }
+    ensures others { OnOk result (without place matcher.new.nodes ≡ matcher.old.nodes) }
+    ensures edges { OnOk result ((test : Edge → Bool) → count_by test matcher.new.edges ≡ count_by test matcher.old.edges + count_by test edges.now) }
+    ensures matched { OnOk result ((n : ℕ) → is_member nat_eq matcher.new.matched n ≡ is_matched matcher.new.nodes matcher.new.edges n) }
+    ensures err_roster { OnErr result (roster.new ≡ roster.old) }
+    ensures err_matcher { OnErr result (matcher.new ≡ matcher.old) }
+{
+    roster.add(name, place)?;
+    let added = matcher.add(place, posts, true, edges);
+    if added.is_err() {
+        roster.remove(name);
+    }
+    added
+}
+
+/// Puts the query's atoms in at the place, and seats it there with the edges that they make, or does neither.
+fn link<A: Allocator + Copy>(
+    links: &mut Links<A>,
+    roster: &mut Roster<A>,
+    matcher: &mut Matcher<A>,
+    name: &Name<A>,
+    query: &Query<A>,
+    place: usize,
+    tests: &mut Meter,
+) -> Result<(), AllocError>
+    requires absent { place_named name.now roster.old ≡ None }
+    requires stores { (rows : List RowRecord) × (findings : FindingMap) × AreStores roster.old findings links.old matcher.old rows × (map.get findings place ≡ None) }
+    ensures seated { OnOk result (roster.new ≡ roster.old ++ seat_of name.now place ∷ []) }
+    ensures linked { OnOk result (links.new ≡ map.insert links.old place (ends_of query.now)) }
+    ensures node { OnOk result (with_number place matcher.new.nodes ≡ (place, length query.now.posts, true) ∷ []) }
+    ensures others { OnOk result (without place matcher.new.nodes ≡ matcher.old.nodes) }
+    ensures edges { OnOk result (AddsLinks links.new place matcher.old.edges matcher.new.edges) }
+    ensures matched { OnOk result ((n : ℕ) → is_member nat_eq matcher.new.matched n ≡ is_matched matcher.new.nodes matcher.new.edges n) }
+    ensures err_roster { OnErr result (roster.new ≡ roster.old) }
+    ensures err_links { OnErr result (links.new ≡ links.old) }
+    ensures err_matcher { OnErr result (matcher.new ≡ matcher.old) }
+    ensures ticks { OnOk result (tests.new ≡ raised tests.old (candidate_pairs links.old place (ends_of query.now))) }
+{
+    let edges = links.add(place, query, tests)?;
+    let seated = seat(
+        roster,
+        matcher,
+        name,
+        place,
+        query.posts().len() as u8,
+        &edges,
+    );
+    if seated.is_err() {
+        links.remove(place, query);
+    }
+    seated
+}
+
+/// Puts the query in under the name, which no other has, with its groundings over the tables, or changes nothing.
+pub(crate) fn post<A: Allocator + Copy>(
+    stores: &mut Stores<A>,
+    tables: &Tables<A>,
+    name: &Name<A>,
+    query: &Query<A>,
+    work: &mut Work,
+) -> Result<(), AllocError>
+    requires stores { AreStores stores.old.roster stores.old.findings stores.old.links stores.old.matcher tables.now.rows }
+    requires absent { is_taken name.now (pending_of stores.old.roster stores.old.findings) ≡ false }
+    ensures stores { OnOk result (AreStores stores.new.roster stores.new.findings stores.new.links stores.new.matcher tables.now.rows) }
+    ensures posted { let posted : PendingQuery = record { name = name.now; query = query.now } in
+        OnOk result (pending_of stores.new.roster stores.new.findings ≡ pending_of stores.old.roster stores.old.findings ++ posted ∷ []) }
+    ensures err_roster { OnErr result (stores.new.roster ≡ stores.old.roster) }
+    ensures err_findings { OnErr result (stores.new.findings ≡ stores.old.findings) }
+    ensures err_links { OnErr result (stores.new.links ≡ stores.old.links) }
+    ensures err_matcher { OnErr result (stores.new.matcher ≡ stores.old.matcher) }
+    ensures tests { OnOk result (work.new.tests ≡ raised work.old.tests (candidates (pending_of stores.old.roster stores.old.findings) query.now)) }
+    ensures visits { OnOk result (work.new.visits ≡ raised work.old.visits 1) }
+    ensures changes { work.new.changes ≡ work.old.changes }
+{
+    let place = stores.findings.add(query, tables, &mut work.visits)?;
+    let linked = link(
+        &mut stores.links,
+        &mut stores.roster,
+        &mut stores.matcher,
+        name,
+        query,
+        place,
+        &mut work.tests,
+    );
+    if linked.is_err() {
+        stores.findings.remove(place);
+    }
+    linked
+}
+
+/// Takes the atoms of the query at the place out. Takes no memory.
+fn unlink<A: Allocator + Copy>(links: &mut Links<A>, findings: &Findings<A>, place: usize)
+    requires linked { map.get links.old place ≡ option_map (λ f. ends_of f.query) (map.get findings.now place) }
+    ensures { links.new ≡ map.remove links.old place }
+{
+    if let Some(query) = findings.query(place) {
+        links.remove(place, query);
+    }
+}
+
+/// Takes the query of the name out, where there is one. Takes no memory.
+pub(crate) fn withdraw<A: Allocator + Copy>(
+    stores: &mut Stores<A>,
+    name: &Name<A>,
+    changes: &mut Meter,
+)
+    requires { (rows : List RowRecord) × AreStores stores.old.roster stores.old.findings stores.old.links stores.old.matcher rows }
+    ensures stores { (rows : List RowRecord) → AreStores stores.old.roster stores.old.findings stores.old.links stores.old.matcher rows → AreStores stores.new.roster stores.new.findings stores.new.links stores.new.matcher rows }
+    ensures left { (rows : List RowRecord) → AreStores stores.old.roster stores.old.findings stores.old.links stores.old.matcher rows → pending_of stores.new.roster stores.new.findings ≡ filter (λ other. not (is_named name.now other)) (pending_of stores.old.roster stores.old.findings) }
+    ensures changes { (rows : List RowRecord) → AreStores stores.old.roster stores.old.findings stores.old.links stores.old.matcher rows → changes.new ≤ changes.old + lost (pending_of stores.old.roster stores.old.findings) (filter (λ other. not (is_named name.now other)) (pending_of stores.old.roster stores.old.findings)) }
+{
+    let Some(place) = stores.roster.remove(name) else {
+        return;
+    };
+    stores.matcher.remove(place, changes);
+    unlink(&mut stores.links, &stores.findings, place);
+    stores.findings.remove(place);
+}
