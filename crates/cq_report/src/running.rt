@@ -18,6 +18,7 @@ use crate::machine::Machine;
 use crate::output::{Output, ROOM};
 use cq_text::{MAX_PIECE, MAX_READS, Sink, Source};
 use std::alloc::Allocator;
+use std::mem;
 
 /// The place of the first LF.
 fn first_end(bytes: &[u8]) -> Option<usize>
@@ -195,7 +196,9 @@ fn replay<A: Allocator + Copy, R: Source, W: Sink>(
     ensures read_failures { MatchResult result (λ _. R.failures_met reader.new ≡ R.failures_met reader.old) (λ fault. (IsOfRead fault → ⊥) → R.failures_met reader.new ≡ R.failures_met reader.old) }
 {
     let mut machine = Machine::begin(alloc);
-    serve_with(&mut machine, alloc, reader, output)
+    let served = serve_with(&mut machine, alloc, reader, output);
+    mem::drop(machine);
+    served
 }
 
 /// Runs a script: reads it to its end, and writes what its lines answer.
