@@ -164,7 +164,7 @@ impl<A: Allocator + Copy> Board<A> {
         ensures ok { self.new ≡ edited self.old (Withdraw name.now) }
         ensures tests { work.new.tests ≡ work.old.tests }
         ensures visits { work.new.visits ≡ work.old.visits }
-        ensures changes { work.new.changes ≤ work.old.changes + lost self.old.pending (edited self.old (Withdraw name.now)).pending }
+        ensures changes { work.new.changes ≤ work.old.changes + lost self.old (edited self.old (Withdraw name.now)) }
     {
         stores::withdraw(&mut self.stores, name, &mut work.changes);
     }

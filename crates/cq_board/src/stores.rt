@@ -15,8 +15,9 @@ ghost use Rattle.cq_match.specs.Matcher.{nothing, has_node, without, with_number
 ghost use Rattle.cq_roster.specs.Roster.{seat_of, place_named, is_taken_place};
 ghost use Rattle.cq_findings.specs.Findings.{FindingMap};
 ghost use Rattle.cq_links.specs.Links.{ends_of, candidate_pairs};
-ghost use Rattle.cq_board.specs.Pool.{PendingQuery};
-ghost use Rattle.cq_board.specs.Edits.{is_named, is_taken};
+ghost use Rattle.cq_board.specs.declared.edit.EditKind.TheVariants.{Withdraw};
+ghost use Rattle.cq_board.specs.Pool.{PendingQuery, PoolRecord};
+ghost use Rattle.cq_board.specs.Edits.{edited, is_named, is_taken};
 ghost use Rattle.cq_board.specs.Work.{candidates, lost, raised};
 ghost use Rattle.cq_board.specs.Steps.Stores.{pending_of, AreStores, AddsLinks};
 
@@ -200,7 +201,7 @@ pub(crate) fn withdraw<A: Allocator + Copy>(
     requires { (rows : List RowRecord) × AreStores stores.old.roster stores.old.findings stores.old.links stores.old.matcher rows }
     ensures stores { (rows : List RowRecord) → AreStores stores.old.roster stores.old.findings stores.old.links stores.old.matcher rows → AreStores stores.new.roster stores.new.findings stores.new.links stores.new.matcher rows }
     ensures left { (rows : List RowRecord) → AreStores stores.old.roster stores.old.findings stores.old.links stores.old.matcher rows → pending_of stores.new.roster stores.new.findings ≡ filter (λ other. not (is_named name.now other)) (pending_of stores.old.roster stores.old.findings) }
-    ensures changes { (rows : List RowRecord) → AreStores stores.old.roster stores.old.findings stores.old.links stores.old.matcher rows → changes.new ≤ changes.old + lost (pending_of stores.old.roster stores.old.findings) (filter (λ other. not (is_named name.now other)) (pending_of stores.old.roster stores.old.findings)) }
+    ensures changes { (pool : PoolRecord) → pending_of stores.old.roster stores.old.findings ≡ pool.pending → AreStores stores.old.roster stores.old.findings stores.old.links stores.old.matcher pool.tables.rows → changes.new ≤ changes.old + lost pool (edited pool (Withdraw name.now)) }
 {
     let Some(place) = stores.roster.remove(name) else {
         return;
