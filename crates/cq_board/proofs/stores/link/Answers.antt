@@ -1,4 +1,4 @@
-use Rattle.std.proofs.Common.{◌≡◌, ◌↔◌, ◌<◌, ℕ, Bool, true, false, List, ◌∷◌, length, sym, ap, subst, ◌∙◌, count_by, ◌+◌}
+use Rattle.std.proofs.Common.{◌≡◌, ◌↔◌, ◌<◌, ℕ, Bool, false, List, ◌∷◌, length, sym, ap, subst, ◌∙◌, count_by, ◌+◌}
 use Rattle.std.specs.FinMap as map
 use Rattle.std.specs.List.{All, Any, Contains}
 use Rattle.cq_atom.specs.Atom.{AtomRecord}

@@ -1,11 +1,8 @@
-use Rattle.std.proofs.Common.{◌≡◌, ◌≤◌, ◌+◌, ℕ, ap, subst, ◌∙◌}
+use Rattle.std.proofs.Common.{◌≡◌, ◌≤◌, ◌+◌, ℕ, subst, ◌∙◌}
 use Rattle.cq_match.specs.Matcher as matcher
 use Rattle.cq_board.specs.declared.edit.EditKind.TheVariants.{Delete}
-use Rattle.cq_board.specs.Pool.{PoolRecord}
 use Rattle.cq_board.specs.Edits.{edited}
 use Rattle.cq_board.specs.Work.{lost}
-use Rattle.cq_board.specs.Steps.Stores.{pending_of}
-use Rattle.cq_board.proofs.KeptIn.{pool_of}
 use Rattle.cq_board.proofs.WorkLost.{lost-brought}
 use Rattle.cq_board.proofs.WorkStores.{visits-seen}
 use Rattle.cq_board.proofs.RowsIn.{deleted_in, deleted_seen}
