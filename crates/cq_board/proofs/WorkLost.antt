@@ -86,14 +86,14 @@ module _ (pool : PoolRecord) (seats : List SeatRecord) (m : FindingMap) (links :
 
 -- ---- rows that come or go
 
-module _ (limits : Limits) (tables tables' : TablesRecord) (seats : List SeatRecord) (m n : FindingMap) (links : LinkMap) (graph after : MatcherRecord) where
+module _ (limits : Limits) (tables tables' : TablesRecord) (seats seats' : List SeatRecord) (m n : FindingMap) (links links' : LinkMap) (graph after : MatcherRecord) where
   -- Who is matched may differ, and the residents do not.
-  pub lost-brought : AreStores seats m links graph tables.rows → AreStores seats n links after tables'.rows → residents_of seats n ≡ residents_of seats m
-      → matcher.lost graph after ≡ lost (pool_of limits tables (pending_of seats m)) (pool_of limits tables' (pending_of seats n))
+  pub lost-brought : AreStores seats m links graph tables.rows → AreStores seats' n links' after tables'.rows → residents_of seats' n ≡ residents_of seats m
+      → matcher.lost graph after ≡ lost (pool_of limits tables (pending_of seats m)) (pool_of limits tables' (pending_of seats' n))
   lost-brought before later same =
       let residents = residents_of seats m in
       let pool = pool_of limits tables (pending_of seats m) in
-      let pool' = pool_of limits tables' (pending_of seats n) in
+      let pool' = pool_of limits tables' (pending_of seats' n) in
       let graph' : IsGraphOf (able_over tables'.rows) residents after.nodes after.edges = subst (λ (rs : List Resident). IsGraphOf (able_over tables'.rows) rs after.nodes after.edges) same later.graph in
       lost-named pool seats m links graph before after pool'
       (λ x h. later.matched x.0
