@@ -43,7 +43,7 @@ place_at pool good i posted here =
 pub query_at : (pool : PoolRecord) → IsPool pool → (i : ℕ) (posted : PendingQuery) → slice_get pool.pending i ≡ Some posted → query_named posted.name pool.pending ≡ Some posted.query
 query_at pool good i posted here = rw (place_at pool good i posted here, here) refl
 
-pub matched_at : (pool : PoolRecord) → IsPool pool → (i : ℕ) (posted : PendingQuery) → slice_get pool.pending i ≡ Some posted → matched_named posted.name pool.pending ≡ Some (is_matched_at pool.pending i)
+pub matched_at : (pool : PoolRecord) → IsPool pool → (i : ℕ) (posted : PendingQuery) → slice_get pool.pending i ≡ Some posted → matched_named posted.name pool ≡ Some (is_matched_at pool i)
 matched_at pool good i posted here = rw (place_at pool good i posted here) refl
 
 pub groundings_at : (pool : PoolRecord) → IsPool pool → (i : ℕ) (posted : PendingQuery) → slice_get pool.pending i ≡ Some posted

@@ -11,11 +11,12 @@ use Rattle.std.proofs.lemmas.Option.{slice_get_past, slice_get-map, get_or_from_
 use Rattle.std.proofs.lemmas.Slice.Eq.{bytes_eq-Decides}
 use Rattle.cq_match.specs.declared.edge.Edge.{Edge}
 use Rattle.cq_match.specs.Matched.{is_matched, numbers}
-use Rattle.cq_board.specs.Pool.{PendingQuery, name_of}
+use Rattle.cq_board.specs.Pool.{PendingQuery, PoolRecord, name_of}
 use Rattle.cq_board.specs.Edits.{is_named}
 use Rattle.cq_board.specs.Board.{place_of, is_matched_at, name_at, name_or_none}
 use Rattle.cq_board.specs.Named.{matched_named}
 use Rattle.cq_board.specs.Steps.Residents.{Resident, places_of, queries_of, place_at, place_in, IsGraphOf, all_but}
+use Rattle.cq_board.specs.Steps.Stores.{able_over}
 use Rattle.cq_board.proofs.Members.{by_bool, In, any_gives, any_has, In-map_gives, In-filter, In-filter_gives}
 use Rattle.cq_board.proofs.Pairwise.{Pairwise, Differ, distinct-differ, same-key, Pairwise-filter}
 use Rattle.cq_board.proofs.Graphs.{graph_matched_at, graph_counted}
@@ -87,11 +88,11 @@ module _ (residents : List Resident) where
         | inr n ↦ ap (option_and_then (slice_get (map g (queries_of residents)))) n.1 ∙ sym (ap (option_map (λ (r : Resident). g r.1)) n.0)
       ]
 
-  module _ (distinct : IsDistinct nat_eq (places_of residents)) (nodes : List (ℕ × ℕ × Bool)) (edges : List Edge) (graph : IsGraphOf (λ r. true) residents nodes edges) where
-    -- Whether the query of a name is matched, where all are able.
-    pub matched_called : (name : List ℕ) → matched_named name (queries_of residents) ≡ option_map (is_matched nodes edges) (place_in name residents)
+  module _ (pool : PoolRecord) (distinct : IsDistinct nat_eq (places_of residents)) (nodes : List (ℕ × ℕ × Bool)) (edges : List Edge) (graph : IsGraphOf (able_over pool.tables.rows) residents nodes edges) where
+    -- Whether the query of a name is matched, where those are able that are so over the rows of a pool.
+    pub matched_called : (name : List ℕ) → matched_named name (record pool { pending = queries_of residents }) ≡ option_map (is_matched nodes edges) (place_in name residents)
     matched_called name =
-        called_tested (is_matched_at (queries_of residents)) (is_matched nodes edges) (λ i low. graph_matched_at residents distinct nodes edges graph i low) name
+        called_tested (is_matched_at (record pool { pending = queries_of residents })) (is_matched nodes edges) (λ i low. graph_matched_at pool residents distinct nodes edges graph i low) name
 
 abbrev pub OwnNames : List Resident → Type 0
 OwnNames residents = Pairwise (λ (x y : Resident). Differ x.1.name y.1.name) residents
@@ -155,6 +156,12 @@ module _ (residents : List Resident) (distinct : IsDistinct nat_eq (places_of re
       sym (ap and_there (called_tested residents at_position at_place same x.1.name
       ∙ ap (λ (o : Option Resident). option_map at_place (option_map (λ y. y.0) o)) (found_called residents (own_names residents named) x m)))
 
+  -- Whoever is there is matched at its place exactly where it is by its name, where those are able that are so over the rows of a pool.
+  pub matched_there : (pool : PoolRecord) (nodes : List (ℕ × ℕ × Bool)) (edges : List Edge) → IsGraphOf (able_over pool.tables.rows) residents nodes edges
+      → (x : Resident) → In x residents → is_matched nodes edges x.0 ≡ and_there (matched_named x.1.name (record pool { pending = queries_of residents }))
+  matched_there pool nodes edges graph =
+      stay_tested (is_matched_at (record pool { pending = queries_of residents })) (is_matched nodes edges) (λ i low. graph_matched_at pool residents distinct nodes edges graph i low)
+
   module _ (r : Resident) (there : In r residents) where
     abbrev rest : List Resident
     rest = all_but r.0 residents
@@ -176,12 +183,12 @@ module _ (residents : List Resident) (distinct : IsDistinct nat_eq (places_of re
         let names : OwnNames rest = Pairwise-filter (λ (y z : Resident). Differ y.1.name z.1.name) (λ y. not (nat_eq y.0 r.0)) residents (own_names residents named) in
         sym (ap and_there (called_tested rest at_position at_place same x.1.name ∙ ap (λ (o : Option Resident). option_map at_place (option_map (λ y. y.0) o)) (found_called rest names x stays))))
 
-    -- Where a query has gone, whoever was there is matched at its place exactly where it is by its name, where all are able.
-    pub matched_left : (nodes : List (ℕ × ℕ × Bool)) (edges : List Edge) → IsGraphOf (λ x. true) (all_but r.0 residents) nodes edges
-        → (x : Resident) → In x residents → is_matched nodes edges x.0 ≡ and_there (matched_named x.1.name (queries_of (all_but r.0 residents)))
-    matched_left nodes edges graph =
-        left_tested (is_matched_at (queries_of rest)) (is_matched nodes edges) (λ i low. graph_matched_at rest (places_withdrawn r.0 residents distinct) nodes edges graph i low)
-        (gone_unmatched (λ x. true) r.0 residents nodes edges graph)
+    -- Where a query has gone, whoever was there is matched at its place exactly where it is by its name among those that are left.
+    pub matched_left : (pool : PoolRecord) (nodes : List (ℕ × ℕ × Bool)) (edges : List Edge) → IsGraphOf (able_over pool.tables.rows) (all_but r.0 residents) nodes edges
+        → (x : Resident) → In x residents → is_matched nodes edges x.0 ≡ and_there (matched_named x.1.name (record pool { pending = queries_of (all_but r.0 residents) }))
+    matched_left pool nodes edges graph =
+        left_tested (is_matched_at (record pool { pending = queries_of rest })) (is_matched nodes edges) (λ i low. graph_matched_at pool rest (places_withdrawn r.0 residents distinct) nodes edges graph i low)
+        (gone_unmatched (able_over pool.tables.rows) r.0 residents nodes edges graph)
 
 slice_get-In : (xs : List Resident) (i : ℕ) (x : Resident) → slice_get xs i ≡ Some x → In x xs
 slice_get-In [] i x e = cc

@@ -1,11 +1,13 @@
--- Worked examples of the edges and of the edits.
+-- Worked examples of the edges, of the edits, and of the matched queries.
 use Rattle.std.proofs.Common.{◌≡◌, ℕ, pos, true, false, List, [], ◌∷◌, refl, Some, None}
 use Rattle.std.specs.Prelude.{codes}
 use Rattle.cq_atom.specs.declared.value.Content.TheVariants.{Number, Text}
 use Rattle.cq_atom.specs.declared.term.TermKind.TheVariants.{Constant, Variable}
 use Rattle.cq_atom.specs.Atom.{TermContent, AtomRecord}
 use Rattle.cq_atom.specs.Query.{QueryRecord}
+use Rattle.cq_ground.specs.Grounding.{groundings_of}
 use Rattle.cq_match.specs.declared.edge.Edge.{Edge}
+use Rattle.cq_match.specs.Matched.{is_closed, is_matched}
 use Rattle.cq_atom.specs.declared.fault.Part.TheVariants.{Heads}
 use Rattle.cq_atom.specs.Atom.{RowRecord}
 use Rattle.cq_board.specs.declared.edit.EditKind.TheVariants.{Post, Withdraw, Insert, Delete}
@@ -14,6 +16,8 @@ use Rattle.cq_board.specs.Supply.{unifies}
 use Rattle.cq_board.specs.Pool.{PendingQuery, PoolRecord}
 use Rattle.cq_board.specs.Edges.{edges_of}
 use Rattle.cq_board.specs.Edits.{why, pool_after}
+use Rattle.cq_board.specs.Board.{matched_of}
+use Rattle.cq_board.specs.Work.{lost}
 
 abbrev number : ℕ → TermContent
 number n = Constant (Number (pos n))
@@ -137,3 +141,45 @@ posted_again = refl
 
 inserted_and_deleted : pool_after (pool_after (pool []) (Insert (flight 123))) (Delete (flight 123)) ≡ pool []
 inserted_and_deleted = refl
+
+-- ---- matched queries
+
+abbrev over_one : List ℕ → TermContent → AtomRecord
+over_one relation term = record { relation = relation; terms = term ∷ [] }
+
+abbrev found_row : ℕ → RowRecord
+found_row n = record { relation = codes "F"; values = Number (pos n) ∷ [] }
+
+-- Each supplies the other, and the first one's body reads F.
+abbrev two : List RowRecord → PoolRecord
+two rows = record {
+  limits = record { pool = 9; journal = 9 };
+  tables = record { catalog = record { relation = codes "F"; arity = 1 } ∷ []; rows = rows };
+  pending =
+      (record { name = codes "p"; query = record { posts = over_one (codes "B") (number 1) ∷ []; heads = over_one (codes "A") (number 1) ∷ []; body = over_one (codes "F") x ∷ [] } })
+      ∷ (record { name = codes "q"; query = waits (over_one (codes "A") (number 1) ∷ []) (over_one (codes "B") (number 1) ∷ []) })
+      ∷ [];
+}
+
+-- A body that finds no rows keeps its query from coordinating, and with it whoever needs that query; the edges are there all the same.
+able_edges : edges_of (two []).pending ≡ edge 1 0 0 0 ∷ edge 0 0 1 0 ∷ []
+unfolding unifies
+able_edges = refl
+
+nobody_matched : matched_of (two []) ≡ []
+unfolding unifies is_closed is_matched groundings_of
+nobody_matched = refl
+
+-- One row is enough.
+both_matched : matched_of (two (found_row 7 ∷ [])) ≡ 0 ∷ 1 ∷ []
+unfolding unifies is_closed is_matched groundings_of
+both_matched = refl
+
+-- A deletion that leaves a row takes no provider away, and that of the last one takes both.
+one_row_left : lost (two (found_row 7 ∷ found_row 8 ∷ [])) (two (found_row 8 ∷ [])) ≡ 0
+unfolding unifies is_closed is_matched groundings_of
+one_row_left = refl
+
+no_row_left : lost (two (found_row 8 ∷ [])) (two []) ≡ 2
+unfolding unifies is_closed is_matched groundings_of
+no_row_left = refl

@@ -10,10 +10,11 @@ use Rattle.cq_match.specs.declared.edge.Edge.{Edge}
 use Rattle.cq_match.specs.Graph.{leads_to, provider_count}
 use Rattle.cq_match.specs.Matched.{numbers, is_matched}
 use Rattle.cq_match.proofs.CallerLemmas.{renumbered, IsWithin, matched-reordered, matched-renamed}
-use Rattle.cq_board.specs.Pool.{PendingQuery}
+use Rattle.cq_board.specs.Pool.{PendingQuery, PoolRecord}
 use Rattle.cq_board.specs.Edges.{edges_of}
-use Rattle.cq_board.specs.Board.{is_matched_at}
+use Rattle.cq_board.specs.Board.{is_able, is_matched_at}
 use Rattle.cq_board.specs.Steps.Residents.{Resident, places_of, queries_of, place_at, edges_among, nodes_among, renamed, IsGraphOf}
+use Rattle.cq_board.specs.Steps.Stores.{able_over}
 use Rattle.cq_board.proofs.Members.{by_bool}
 use Rattle.cq_board.proofs.Ends.{HasEnds-at}
 use Rattle.cq_board.proofs.Positions.{moved, residents_moved, edges_placed}
@@ -183,7 +184,7 @@ module _ (flag : PendingQuery → Bool) (residents : List Resident) (distinct : 
               (λ t. eq-eqb (place_at residents w) (place_at residents i) (ap (place_at residents) (eqb-true w i t)) ∙ sym t)
               (λ f. ne_eqb (place_at residents w) (place_at residents i) (λ e. let is = place-injective residents distinct w i inside low e in let t = eq-eqb w i is in cc) ∙ sym f)
 
--- Where all are able, the node of a query is matched exactly where the query is.
-pub graph_matched_at : (residents : List Resident) → IsDistinct nat_eq (places_of residents) → (nodes : List (ℕ × ℕ × Bool)) (edges : List Edge) → IsGraphOf (λ r. true) residents nodes edges
-    → (i : ℕ) → i < length residents → is_matched nodes edges (place_at residents i) ≡ is_matched_at (queries_of residents) i
-graph_matched_at residents distinct nodes edges graph i low = graph_matched (λ q. true) residents distinct nodes edges graph i low
+-- Where those are able that are so over the rows of a pool, the node of a query is matched exactly where the query is, in the pool of these queries.
+pub graph_matched_at : (pool : PoolRecord) (residents : List Resident) → IsDistinct nat_eq (places_of residents) → (nodes : List (ℕ × ℕ × Bool)) (edges : List Edge) → IsGraphOf (able_over pool.tables.rows) residents nodes edges
+    → (i : ℕ) → i < length residents → is_matched nodes edges (place_at residents i) ≡ is_matched_at (record pool { pending = queries_of residents }) i
+graph_matched_at pool residents distinct nodes edges graph i low = graph_matched (is_able pool.tables.rows) residents distinct nodes edges graph i low

@@ -1,10 +1,10 @@
--- Queries whose postconditions unify with heads of one another are matched.
+-- Queries with groundings whose postconditions unify with heads of one another are matched.
 use Rattle.std.proofs.Common.{◌≡◌, ℕ, zero, suc, ◌+◌, ◌<◌, Bool, true, false, ◌&&◌, ◌||◌, not, List, [], ◌∷◌, length, map, refl, sym, ap, subst, ◌∙◌, arith, inl, inr, Option, Some, None, get_or}
 use Rattle.std.specs.Prelude.{filter, option_map, nat_eq, ◌↔◌}
 use Rattle.std.specs.List.{All, Contains, list_any, flat_map, enumerate_from, slice_get, range_with_len}
 use Rattle.std.specs.Option.{option_and_then}
 use Rattle.std.specs.Set.{is_member}
-use Rattle.std.proofs.lemmas.Bool.{eq-eqb, eqb-true}
+use Rattle.std.proofs.lemmas.Bool.{eq-eqb, eqb-true, lt-ltb}
 use Rattle.std.proofs.lemmas.Option.{slice_get-get_or, slice_get-map, same_Some}
 use Rattle.cq_atom.specs.Value.{ValueContent}
 use Rattle.cq_atom.specs.Atom.{AtomRecord, RowRecord}
@@ -14,10 +14,11 @@ use Rattle.cq_match.specs.declared.edge.Edge.{Edge}
 use Rattle.cq_match.specs.Graph.{leads_to}
 use Rattle.cq_match.specs.Matched.{numbers, is_supplied, has_each_post, is_closed, sublists, is_matched}
 use Rattle.cq_ground.specs.Grounding.{AreGroundings, IsGrounding, groundings_of}
+use Rattle.cq_ground.proofs.CallerLemmas.{listed-groundings}
 use Rattle.cq_board.specs.Supply.{unifies}
 use Rattle.cq_board.specs.Pool.{PendingQuery, PoolRecord}
 use Rattle.cq_board.specs.Edges.{edge_if, edges_into, edges_of}
-use Rattle.cq_board.specs.Board.{nodes_of, is_matched_at, all_groundings, place_of}
+use Rattle.cq_board.specs.Board.{is_able, nodes_of, is_matched_at, all_groundings, place_of}
 use Rattle.cq_board.specs.Named.{query_named, matched_named, groundings_named}
 use Rattle.cq_board.specs.Choice.{ChoiceRecord, IsGrounded}
 use Rattle.cq_board.specs.Steps.Choices.{HasHead, IsSupplied, HasSuppliers, HaveSuppliers}
@@ -97,26 +98,70 @@ unfolding is_place
 is_place-has None n h = cc
 is_place-has (Some m) n h = eq-eqb m n (let same : m ≡ n = cc in same)
 
-module _ (pending : List PendingQuery) (choices : List ChoiceRecord) where
+-- a query with a grounding is able
+grounded-able : (rows : List RowRecord) (posted : PendingQuery) (values : List ValueContent) → IsGrounding posted.query.body rows values → is_able rows posted ≡ true
+grounded-able rows posted values g =
+    let lists = groundings_of posted.query.body rows in
+    let found = ((listed-groundings posted.query.body rows).exactly values).1 g in
+    lt-ltb 0 (length lists) (let inside = found.1 in omega arith)
+
+module _ (pool : PoolRecord) (choices : List ChoiceRecord) where
+  abbrev pending : List PendingQuery
+  pending = pool.pending
+
   abbrev is_chosen : ℕ → Bool
   is_chosen n = list_any (λ c. is_place (place_of c.name pending) n) choices
 
   -- the places of the chosen queries
   abbrev chosen : List ℕ
-  chosen = filter is_chosen (numbers (nodes_of pending))
+  chosen = filter is_chosen (numbers (nodes_of pool))
 
-  numbers-In : (place : ℕ) (posted : PendingQuery) → slice_get pending place ≡ Some posted → In place (numbers (nodes_of pending))
+  -- the node of a query at its place
+  abbrev node_for : ℕ × PendingQuery → ℕ × ℕ × Bool
+  node_for p = (p.0, length p.1.query.posts, is_able pool.tables.rows p.1)
+
+  numbers-In : (place : ℕ) (posted : PendingQuery) → slice_get pending place ≡ Some posted → In place (numbers (nodes_of pool))
   numbers-In place posted there =
-      In-map (λ (node : ℕ × ℕ × Bool). node.0) (nodes_of pending) (place, length posted.query.posts, true)
-      (In-map (λ p. (p.0, length p.1.query.posts, true)) (enumerate_from 0 pending) (place, posted) (enumerate-In pending place posted there))
+      In-map (λ (node : ℕ × ℕ × Bool). node.0) (nodes_of pool) (node_for (place, posted))
+      (In-map node_for (enumerate_from 0 pending) (place, posted) (enumerate-In pending place posted there))
 
   -- a choice of a pending query is among them
   chosen-In : (c : ChoiceRecord) (query : QueryRecord) → In c choices → (p : Placed c.name pending query) → In p.place chosen
   chosen-In c query m p =
-      In-filter is_chosen (numbers (nodes_of pending)) p.place (numbers-In p.place p.posted p.there)
+      In-filter is_chosen (numbers (nodes_of pool)) p.place (numbers-In p.place p.posted p.there)
       (any_has (λ d. is_place (place_of d.name pending) p.place) choices c m (is_place-has (place_of c.name pending) p.place p.at))
 
-  module _ (suppliers : HaveSuppliers pending choices) where
+  -- the query of a chosen node, and a choice of it
+  record ChosenNode (node : ℕ × ℕ × Bool) : Type 0 where
+    waiting : PendingQuery
+    choice : ChoiceRecord
+    at_node : slice_get pending node.0 ≡ Some waiting
+    second : node.1 ≡ length waiting.query.posts
+    third : node.2 ≡ is_able pool.tables.rows waiting
+    among : In choice choices
+    named : query_named choice.name pending ≡ Some waiting.query
+
+  chosen_node : (node : ℕ × ℕ × Bool) → In node (nodes_of pool) → In node.0 chosen → ChosenNode node
+  chosen_node node m h =
+      let by_place = In-map_gives node_for (enumerate_from 0 pending) node m in
+      let waiting = by_place.0.1 in
+      let here : slice_get pending by_place.0.0 ≡ Some waiting = In-enumerate pending by_place.0 by_place.1 in
+      let first : node.0 ≡ by_place.0.0 = ap (λ (n : ℕ × ℕ × Bool). n.0) by_place.2 in
+      let at_node : slice_get pending node.0 ≡ Some waiting = ap (slice_get pending) first ∙ here in
+      let test = In-filter_gives is_chosen (numbers (nodes_of pool)) node.0 h in
+      let by_choice = any_gives (λ d. is_place (place_of d.name pending) node.0) choices test in
+      let at = is_place-true (place_of by_choice.0.name pending) node.0 by_choice.2 in
+      record {
+        waiting = waiting;
+        choice = by_choice.0;
+        at_node = at_node;
+        second = ap (λ (n : ℕ × ℕ × Bool). n.1) by_place.2;
+        third = ap (λ (n : ℕ × ℕ × Bool). n.2) by_place.2;
+        among = by_choice.1;
+        named = named_at by_choice.0.name pending node.0 waiting at at_node;
+      }
+
+  module _ (suppliers : HaveSuppliers pending choices) (grounded : All (IsGrounded pool) choices) where
     -- one postcondition of a chosen query has an edge from a chosen one
     post_supplied : (i k : ℕ) (waiting : PendingQuery) (post : AtomRecord) → slice_get pending i ≡ Some waiting → slice_get waiting.query.posts k ≡ Some post
         → IsSupplied pending choices post → is_supplied (edges_of pending) chosen i k ≡ true
@@ -137,31 +182,25 @@ module _ (pending : List PendingQuery) (choices : List ChoiceRecord) where
             (edge-between pending i p.place k spot.0 waiting p.posted post head.0 at_i p.there at_k spot.1 head.2)
             (rw (eq-eqb i i refl, eq-eqb k k refl) member)
 
-    -- each node is able
-    node_able : (node : ℕ × ℕ × Bool) → In node (nodes_of pending) → node.2 ≡ true
-    node_able node m =
-        let by_place = In-map_gives (λ p. (p.0, length p.1.query.posts, true)) (enumerate_from 0 pending) node m in
-        ap (λ (n : ℕ × ℕ × Bool). n.2) by_place.2
+    -- each chosen node is able: its query has a grounding
+    node_able : (node : ℕ × ℕ × Bool) → In node (nodes_of pool) → In node.0 chosen → node.2 ≡ true
+    node_able node m h =
+        let n = chosen_node node m h in
+        let g = In-All (IsGrounded pool) choices grounded n.choice n.among in
+        let same : g.query ≡ n.waiting.query = same_Some g.query n.waiting.query (sym g.pending ∙ n.named) in
+        n.third ∙ grounded-able pool.tables.rows n.waiting n.choice.values (subst (λ (q : QueryRecord). IsGrounding q.body pool.tables.rows n.choice.values) same g.grounding)
 
     -- each postcondition of a chosen query has an edge from a chosen one
-    node_supplied : (node : ℕ × ℕ × Bool) → In node (nodes_of pending) → In node.0 chosen → has_each_post (edges_of pending) chosen node ≡ true
+    node_supplied : (node : ℕ × ℕ × Bool) → In node (nodes_of pool) → In node.0 chosen → has_each_post (edges_of pending) chosen node ≡ true
     node_supplied node m h =
-        let by_place = In-map_gives (λ p. (p.0, length p.1.query.posts, true)) (enumerate_from 0 pending) node m in
-        let waiting = by_place.0.1 in
-        let here : slice_get pending by_place.0.0 ≡ Some waiting = In-enumerate pending by_place.0 by_place.1 in
-        let first : node.0 ≡ by_place.0.0 = ap (λ (n : ℕ × ℕ × Bool). n.0) by_place.2 in
-        let second : node.1 ≡ length waiting.query.posts = ap (λ (n : ℕ × ℕ × Bool). n.1) by_place.2 in
-        let at_node : slice_get pending node.0 ≡ Some waiting = ap (slice_get pending) first ∙ here in
-        let test = In-filter_gives is_chosen (numbers (nodes_of pending)) node.0 h in
-        let by_choice = any_gives (λ d. is_place (place_of d.name pending) node.0) choices test in
-        let at = is_place-true (place_of by_choice.0.name pending) node.0 by_choice.2 in
-        let named = named_at by_choice.0.name pending node.0 waiting at at_node in
-        let all : All (IsSupplied pending choices) waiting.query.posts =
-        subst (HasSuppliers pending choices) named (In-All (λ c. HasSuppliers pending choices (query_named c.name pending)) choices suppliers by_choice.0 by_choice.1) in
+        let n = chosen_node node m h in
+        let all : All (IsSupplied pending choices) n.waiting.query.posts =
+        subst (HasSuppliers pending choices) n.named (In-All (λ c. HasSuppliers pending choices (query_named c.name pending)) choices suppliers n.choice n.among) in
         all_has (is_supplied (edges_of pending) chosen node.0) (range_with_len 0 node.1)
         (λ k r. let below = range-below 0 node.1 k r in
-        let within : k < length waiting.query.posts = omega (arith, below, second) in
-        some_post node.0 waiting at_node all k within)
+        let second = n.second in
+        let within : k < length n.waiting.query.posts = omega (arith, below, second) in
+        some_post node.0 n.waiting n.at_node all k within)
       where
         some_post : (i : ℕ) (waiting : PendingQuery) → slice_get pending i ≡ Some waiting → All (IsSupplied pending choices) waiting.query.posts → (k : ℕ) → k < length waiting.query.posts
             → is_supplied (edges_of pending) chosen i k ≡ true
@@ -169,27 +208,27 @@ module _ (pending : List PendingQuery) (choices : List ChoiceRecord) where
             let post = get_or waiting.query.posts k (record { relation = []; terms = [] }) in
             post_supplied i k waiting post at_i (slice_get-get_or waiting.query.posts k (record { relation = []; terms = [] }) within) (all k (record { relation = []; terms = [] }) within)
 
-    chosen_closed : is_closed (nodes_of pending) (edges_of pending) chosen ≡ true
+    chosen_closed : is_closed (nodes_of pool) (edges_of pending) chosen ≡ true
     unfolding is_closed
     chosen_closed =
-        all_has (λ node. not (is_member nat_eq chosen node.0) || (node.2 && has_each_post (edges_of pending) chosen node)) (nodes_of pending)
+        all_has (λ node. not (is_member nat_eq chosen node.0) || (node.2 && has_each_post (edges_of pending) chosen node)) (nodes_of pool)
         (λ node m. by_bool (is_member nat_eq chosen node.0) ((not (is_member nat_eq chosen node.0) || (node.2 && has_each_post (edges_of pending) chosen node)) ≡ true)
-        (λ t. rw (t, node_able node m, node_supplied node m (member-In chosen node.0 t)) refl)
+        (λ t. let h = member-In chosen node.0 t in rw (t, node_able node m h, node_supplied node m h) refl)
         (λ f. rw f refl))
 
-    chosen_matched : (place : ℕ) → In place chosen → is_matched_at pending place ≡ true
+    chosen_matched : (place : ℕ) → In place chosen → is_matched_at pool place ≡ true
     unfolding is_matched
     chosen_matched place h =
-        any_has (λ set. is_closed (nodes_of pending) (edges_of pending) set && is_member nat_eq set place) (sublists (numbers (nodes_of pending))) chosen (filtered-sublist is_chosen (numbers (nodes_of pending)))
+        any_has (λ set. is_closed (nodes_of pool) (edges_of pending) set && is_member nat_eq set place) (sublists (numbers (nodes_of pool))) chosen (filtered-sublist is_chosen (numbers (nodes_of pool)))
         (rw chosen_closed (In-member chosen place h))
 
     -- Each chosen query is matched.
-    pub suppliers_matched : (pool : PoolRecord) → pool.pending ≡ pending → All (IsGrounded pool) choices → All (λ c. matched_named c.name pending ≡ Some true) choices
-    suppliers_matched pool same grounded =
-        All-In (λ c. matched_named c.name pending ≡ Some true) choices
+    pub suppliers_matched : All (λ c. matched_named c.name pool ≡ Some true) choices
+    suppliers_matched =
+        All-In (λ c. matched_named c.name pool ≡ Some true) choices
         (λ c m. let g = In-All (IsGrounded pool) choices grounded c m in
-        let p = placed c.name pending g.query (ap (query_named c.name) (sym same) ∙ g.pending) in
-        ap (option_map (is_matched_at pending)) p.at ∙ ap Some (chosen_matched p.place (chosen-In c g.query m p)))
+        let p = placed c.name pending g.query g.pending in
+        ap (option_map (is_matched_at pool)) p.at ∙ ap Some (chosen_matched p.place (chosen-In c g.query m p)))
 
 -- ---- groundings by a query's name
 
@@ -211,15 +250,6 @@ module _ (name : List ℕ) (pool : PoolRecord) (lists : List (List ValueContent)
 
   pub grounds : groundings_named name pool ≡ Some lists → Grounds name pool lists
   grounds e = grounds_at (place_of name pool.pending) refl e
-
--- a pending query has groundings
-pub grounded_somehow : (name : List ℕ) (pool : PoolRecord) (query : QueryRecord) → query_named name pool.pending ≡ Some query → groundings_named name pool ≡ None → ⊥
-grounded_somehow name pool query e none =
-    let p = placed name pool.pending query e in
-    let some : groundings_named name pool ≡ Some (groundings_of p.posted.query.body pool.tables.rows) =
-    ap (option_and_then (slice_get (all_groundings pool))) p.at ∙ slice_get-map (λ (q : PendingQuery). groundings_of q.query.body pool.tables.rows) pool.pending p.place
-    ∙ ap (option_map (λ (q : PendingQuery). groundings_of q.query.body pool.tables.rows)) p.there in
-    cc
 
 -- the values are among the groundings exactly where the choice is grounded
 pub grounded_tells : (choice : ChoiceRecord) (pool : PoolRecord) (lists : List (List ValueContent)) → groundings_named choice.name pool ≡ Some lists

@@ -36,3 +36,4 @@ pub mod Stored
 pub mod WorkCounts
 pub mod WorkStores
 pub mod WorkLost
+pub mod Flags

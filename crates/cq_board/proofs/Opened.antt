@@ -11,7 +11,7 @@ use Rattle.std.specs.Set.{is_member}
 use Rattle.cq_match.specs.Matched.{is_closed, is_matched}
 use Rattle.cq_match.specs.Matcher.{MatcherRecord, nothing}
 use Rattle.cq_board.specs.declared.limits.Limits.{Limits}
-use Rattle.cq_board.specs.Steps.Stores.{pending_of, able, IsKeptIn}
+use Rattle.cq_board.specs.Steps.Stores.{pending_of, able_over, IsKeptIn}
 use Rattle.cq_board.proofs.GoodPools.{opening_good}
 use Rattle.cq_board.proofs.KeptIn.{pool_of}
 use Rattle.cq_board.proofs.Upkeep.{graph_opening}
@@ -31,7 +31,7 @@ opened limits tables is = record {
     roster = none_seated;
     stand = (λ p. get-empty nat_cmp p);
     linked = (λ p. get-empty nat_cmp p);
-    graph = graph_opening able;
+    graph = graph_opening (able_over tables.rows);
     matched = none_matched;
   };
 }

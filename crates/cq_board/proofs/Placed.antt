@@ -12,11 +12,12 @@ use Rattle.cq_match.specs.declared.edge.Edge.{Edge}
 use Rattle.cq_match.specs.Graph.{is_crowd}
 use Rattle.cq_match.specs.Matched.{is_matched}
 use Rattle.cq_board.specs.declared.link.Crowd.{Crowd}
-use Rattle.cq_board.specs.Pool.{PendingQuery, name_of}
+use Rattle.cq_board.specs.Pool.{PendingQuery, PoolRecord, name_of}
 use Rattle.cq_board.specs.Edits.{is_named}
 use Rattle.cq_board.specs.Board.{name_at, name_or_none, crowd_if, crowded_of, is_matched_at}
 use Rattle.cq_board.specs.Named.{matched_names}
 use Rattle.cq_board.specs.Steps.Residents.{Resident, places_of, queries_of, place_at, all_but, crowd_at_place, crowds_among, IsGraphOf}
+use Rattle.cq_board.specs.Steps.Stores.{able_over}
 use Rattle.cq_board.proofs.Members.{by_bool, In}
 use Rattle.cq_board.proofs.Ends.{In-enumerate}
 use Rattle.cq_board.proofs.Pairwise.{Pairwise, Differ, distinct-differ, same-key}
@@ -141,8 +142,8 @@ module _ (residents : List Resident) (distinct : IsDistinct nat_eq (places_of re
         ∙ sym (flat_map-map of_resident (λ (p : Resident). (place_at residents p.0, p.1)) all)
         ∙ ap (flat_map of_resident) (residents_moved residents)
 
-  -- The names of the matched queries, where all are able.
-  pub matched_placed : (nodes : List (ℕ × ℕ × Bool)) (edges : List Edge) → IsGraphOf (λ r. true) residents nodes edges
-      → matched_names (queries_of residents) ≡ map (λ r. r.1.name) (filter (λ r. is_matched nodes edges r.0) residents)
-  matched_placed nodes edges graph =
-      names_placed residents (is_matched_at (queries_of residents)) (is_matched nodes edges) (λ i low. graph_matched_at residents distinct nodes edges graph i low)
+  -- The names of the matched queries, where those are able that are so over the rows of a pool.
+  pub matched_placed : (pool : PoolRecord) (nodes : List (ℕ × ℕ × Bool)) (edges : List Edge) → IsGraphOf (able_over pool.tables.rows) residents nodes edges
+      → matched_names (record pool { pending = queries_of residents }) ≡ map (λ r. r.1.name) (filter (λ r. is_matched nodes edges r.0) residents)
+  matched_placed pool nodes edges graph =
+      names_placed residents (is_matched_at (record pool { pending = queries_of residents })) (is_matched nodes edges) (λ i low. graph_matched_at pool residents distinct nodes edges graph i low)

@@ -18,7 +18,7 @@ use Rattle.cq_match.specs.declared.edge.Edge.{Edge}
 use Rattle.cq_match.specs.Matcher.{MatcherRecord, leaves}
 use Rattle.cq_board.specs.Edges.{edges_of}
 use Rattle.cq_board.specs.Steps.Residents.{places_of, renamed, edge_cmp}
-use Rattle.cq_board.specs.Steps.Stores.{AreStores, able, residents_of, pending_of, number_of}
+use Rattle.cq_board.specs.Steps.Stores.{AreStores, able_over, residents_of, pending_of, number_of}
 use Rattle.cq_board.proofs.Leaving.{leaving-permuted, graph_provider_known}
 use Rattle.cq_board.proofs.Members.{by_bool, In, In-right, any_gives}
 use Rattle.cq_board.proofs.Pairwise.{Pairwise, Differ, distinct-differ}
@@ -124,6 +124,6 @@ module _ (seats : List SeatRecord) (findings : FindingMap) (links : LinkMap) (ma
       let distinct : IsDistinct nat_eq (places_of residents) = subst (IsDistinct nat_eq) (places-seated seats findings) stores.roster.places in
       let Numbered : List ℕ → Type 0 =
       λ ns. All (λ (e : Edge). Contains ns e.provider) matcher.edges → IsDistinct nat_eq ns → IsPermutation (map (renamed (number_of ns)) matcher.edges) numbered in
-      let all = subst Numbered same made (graph_provider_known able residents matcher.nodes matcher.edges stores.graph) distinct in
-      numbered-edges able residents distinct matcher.nodes matcher.edges stores.graph shown
+      let all = subst Numbered same made (graph_provider_known (able_over rows) residents matcher.nodes matcher.edges stores.graph) distinct in
+      numbered-edges (able_over rows) residents distinct matcher.nodes matcher.edges stores.graph shown
       (IsPermutation-trans (map (renamed (number_of (places_of residents))) matcher.edges) numbered shown all moved) sorted

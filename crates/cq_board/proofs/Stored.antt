@@ -1,6 +1,6 @@
 -- The stores are of the residents, while a query comes or goes.
 use Rattle.std.proofs.Common.{Result, Ok, Err, OnOk, OnErr, is_some, is_err, ◌≡◌, ◌↔◌, ℕ, ◌<◌, ◌⊎◌, inl, inr, IsSome, Bool, true, false, not, List, [], ◌∷◌, ◌++◌, length, map, refl, sym, ap, subst, ◌∙◌, Option, Some, None, if◌then◌else◌}
-use Rattle.std.specs.Prelude.{filter, nat_eq, option_map}
+use Rattle.std.specs.Prelude.{filter, nat_eq, nat_lt, option_map}
 use Rattle.std.specs.List.{All, Any, Contains, IsDistinct}
 use Rattle.std.specs.FinMap.{FinMap, get, insert, remove, get-insert, get-remove, same_map, nat_cmp-IsAntisymmetric}
 use Rattle.std.specs.Map.{lookup}
@@ -22,7 +22,8 @@ use Rattle.cq_links.specs.Links.{LinkMap, Ends, ends_of, heads_at, posts_at, IsL
 use Rattle.cq_board.specs.Pool.{PendingQuery, name_of}
 use Rattle.cq_board.specs.Edits.{is_named, is_taken}
 use Rattle.cq_board.specs.Steps.Residents.{Resident, IsLinked, places_of, queries_of, all_but, heads_in, posts_in, IsGraphOf}
-use Rattle.cq_board.specs.Steps.Stores.{no_query, query_at, residents_of, pending_of, able, AreStores, AddsLinks}
+use Rattle.cq_board.specs.Steps.Flags.{has_grounding}
+use Rattle.cq_board.specs.Steps.Stores.{no_query, query_at, residents_of, pending_of, able_over, AreStores, AddsLinks}
 use Rattle.cq_board.proofs.Members.{by_bool, In, any_has, In-map, In-filter_gives}
 use Rattle.cq_board.proofs.Linked.{tie-eq, In-lookup, lookup-free, map_posted, map_withdrawn, map_free, linked_ends, linked_touch, graph_linked}
 use Rattle.cq_board.proofs.Placed.{residents_withdrawn, queries_withdrawn}
@@ -85,7 +86,7 @@ module _ (seats : List SeatRecord) (m : FindingMap) (links : LinkMap) (graph : M
   free-seat = subst (λ (places : List ℕ). is_member nat_eq places place ≡ false) (places-seated seats m) free-resident
 
   pub free-node : has_node place graph ≡ false
-  free-node = graph_has able (residents_of seats m) graph.nodes graph.edges stores.graph place ∙ free-resident
+  free-node = graph_has (able_over rows) (residents_of seats m) graph.nodes graph.edges stores.graph place ∙ free-resident
 
   pub free-links : get links place ≡ None
   free-links = stores.linked place ∙ ap (option_map (λ q. ends_of q.query)) (lookup-free (residents_of seats m) place free-resident)
@@ -124,14 +125,14 @@ module _ (seats : List SeatRecord) (m : FindingMap) (links : LinkMap) (graph : M
         (λ h. (exact edge).1 ((record { offered = h.0.offered; wanted = h.0.wanted; head = h.0.head; post = h.0.post; unify = h.0.unify }), h.1)),
       )
 
-      pub posted-ends : All (λ (edge : Edge). Contains (numbers ((place, length query.posts, true) ∷ graph.nodes)) edge.provider × Any (λ (node : ℕ × ℕ × Bool). (node.0 ≡ edge.waiter) × (edge.post < node.1)) ((place, length query.posts, true) ∷ graph.nodes)) added
-      posted-ends = linked_ends able (residents_of seats m) graph.nodes graph.edges stores.graph newcomer distinct free-node (heads_at linked-with) (posts_at linked-with) same-heads same-posts added exactly
+      pub posted-ends : All (λ (edge : Edge). Contains (numbers ((place, length query.posts, able_over rows newcomer) ∷ graph.nodes)) edge.provider × Any (λ (node : ℕ × ℕ × Bool). (node.0 ≡ edge.waiter) × (edge.post < node.1)) ((place, length query.posts, able_over rows newcomer) ∷ graph.nodes)) added
+      posted-ends = linked_ends (able_over rows) (residents_of seats m) graph.nodes graph.edges stores.graph newcomer distinct free-node (heads_at linked-with) (posts_at linked-with) same-heads same-posts added exactly
 
       pub posted-touch : All (λ (edge : Edge). is_apart place edge ≡ false) added
-      posted-touch = linked_touch able (residents_of seats m) graph.nodes graph.edges stores.graph newcomer distinct free-node (heads_at linked-with) (posts_at linked-with) same-heads same-posts added exactly
+      posted-touch = linked_touch (able_over rows) (residents_of seats m) graph.nodes graph.edges stores.graph newcomer distinct free-node (heads_at linked-with) (posts_at linked-with) same-heads same-posts added exactly
 
     -- what the stores are after a posting
-    pub posted-stores : (name-free : place_named name seats ≡ None) (after : MatcherRecord) → with_number place after.nodes ≡ (place, length query.posts, true) ∷ [] → without place after.nodes ≡ graph.nodes → AddsLinks linked-with place graph.edges after.edges →
+    pub posted-stores : (name-free : place_named name seats ≡ None) (after : MatcherRecord) → with_number place after.nodes ≡ (place, length query.posts, able_over rows newcomer) ∷ [] → without place after.nodes ≡ graph.nodes → AddsLinks linked-with place graph.edges after.edges →
         ((n : ℕ) → is_member nat_eq after.matched n ≡ is_matched after.nodes after.edges n) → AreStores (seats ++ seat_of name place ∷ []) (insert m place (found rows query)) linked-with after rows
     posted-stores name-free after new old more matched =
         let residents = residents-posted seats m name place (found rows query) free-resident in
@@ -139,8 +140,8 @@ module _ (seats : List SeatRecord) (m : FindingMap) (links : LinkMap) (graph : M
           roster = IsRoster-push name place seats stores.roster name-free free-seat;
           stand = (λ p. map_posted (λ q. found rows q.query) m (residents_of seats m) stores.stand newcomer free-resident p ∙ ap (λ (rs : List Resident). option_map (λ q. found rows q.query) (lookup (nat_eq p) rs)) (sym residents));
           linked = (λ p. ends-posted p ∙ ap (λ (rs : List Resident). option_map (λ q. ends_of q.query) (lookup (nat_eq p) rs)) (sym residents));
-          graph = subst (λ (rs : List Resident). IsGraphOf able rs after.nodes after.edges) (sym residents)
-              (graph_linked able (residents_of seats m) graph.nodes graph.edges stores.graph newcomer distinct free-node (heads_at linked-with) (posts_at linked-with) same-heads same-posts more.added (exactly more.added more.exact) more.once after.nodes after.edges new old more.counted);
+          graph = subst (λ (rs : List Resident). IsGraphOf (able_over rows) rs after.nodes after.edges) (sym residents)
+              (graph_linked (able_over rows) (residents_of seats m) graph.nodes graph.edges stores.graph newcomer distinct free-node (heads_at linked-with) (posts_at linked-with) same-heads same-posts more.added (exactly more.added more.exact) more.once after.nodes after.edges new old more.counted);
           matched = matched;
         }
 
@@ -168,6 +169,9 @@ module _ {E : Type 0} (m : FinMap nat_cmp E) (place : ℕ) (free : get m place �
         ∙ by_bool (nat_eq p place) ((if nat_eq p place then None else get (insert m place e) p) ≡ get m p)
         (λ t. rw t (sym (at-place p t)))
         (λ f. rw f (get-insert nat_cmp_total m place e p ∙ ap (λ (b : Bool). if b then Some e else get m p) (tie-eq p place ∙ f))))
+
+pub grounding-inserted : (m : FindingMap) (place : ℕ) → get m place ≡ None → (f : FindingRecord) → has_grounding (insert m place f) place ≡ nat_lt 0 (length f.groundings)
+grounding-inserted m place free f = ap (λ (o : Option FindingRecord). option_map_or (λ x. nat_lt 0 (length x.groundings)) o false) (get-inserted m place free f)
 
 pub seat-removed : (name : List ℕ) (place : ℕ) (seats : List SeatRecord) → place_named name seats ≡ None → without_name name (seats ++ seat_of name place ∷ []) ≡ seats
 seat-removed name place [] e = let t = (bytes_eq-Decides name name).1 refl in rw t refl
@@ -236,7 +240,7 @@ module _ (seats : List SeatRecord) (m : FindingMap) (links : LinkMap) (graph : M
 
     pub leaver-node : has_node k graph ≡ true
     leaver-node =
-        graph_has able (residents_of seats m) graph.nodes graph.edges stores.graph k
+        graph_has (able_over rows) (residents_of seats m) graph.nodes graph.edges stores.graph k
         ∙ any_has (nat_eq k) (places_of (residents_of seats m)) leaver.0 (In-map (λ (r : Resident). r.0) (residents_of seats m) leaver leaver-In) (eq-eqb k leaver.0 (sym leaver-place))
 
     leaver-lookup : lookup (nat_eq k) (residents_of seats m) ≡ Some leaver.1
@@ -268,10 +272,10 @@ module _ (seats : List SeatRecord) (m : FindingMap) (links : LinkMap) (graph : M
       roster = IsRoster-without name seats stores.roster;
       stand = (λ p. map_withdrawn (λ q. found rows q.query) m (residents_of seats m) stores.stand k p ∙ ap (λ (rs : List Resident). option_map (λ q. found rows q.query) (lookup (nat_eq p) rs)) (sym residents-left));
       linked = (λ p. map_withdrawn (λ q. ends_of q.query) links (residents_of seats m) stores.linked k p ∙ ap (λ (rs : List Resident). option_map (λ q. ends_of q.query) (lookup (nat_eq p) rs)) (sym residents-left));
-      graph = subst (λ (rs : List Resident). IsGraphOf able rs after.nodes after.edges) (sym residents-left)
-          (subst (λ (es : List Edge). IsGraphOf able (all_but k (residents_of seats m)) after.nodes es) (sym edges)
-          (subst (λ (ns : List (ℕ × ℕ × Bool)). IsGraphOf able (all_but k (residents_of seats m)) ns (filter (is_apart k) graph.edges)) (sym nodes)
-          (graph_withdrawn able (residents_of seats m) graph.nodes graph.edges stores.graph k)));
+      graph = subst (λ (rs : List Resident). IsGraphOf (able_over rows) rs after.nodes after.edges) (sym residents-left)
+          (subst (λ (es : List Edge). IsGraphOf (able_over rows) (all_but k (residents_of seats m)) after.nodes es) (sym edges)
+          (subst (λ (ns : List (ℕ × ℕ × Bool)). IsGraphOf (able_over rows) (all_but k (residents_of seats m)) ns (filter (is_apart k) graph.edges)) (sym nodes)
+          (graph_withdrawn (able_over rows) (residents_of seats m) graph.nodes graph.edges stores.graph k)));
       matched = matched;
     }
 
@@ -327,3 +331,7 @@ on-ok (Err e) P p = tt
 pub ok-given : {T F : Type 0} (r : Result T F) (P : Type 0) → is_err r ≡ false → OnOk r P → P
 ok-given (Ok x) P e p = p
 ok-given (Err x) P e p = absurd (let never : true ≡ false = e in cc)
+
+pub err-given : {T F : Type 0} (r : Result T F) (P : Type 0) → is_err r ≡ true → OnErr r P → P
+err-given (Ok x) P e p = absurd (let never : false ≡ true = e in cc)
+err-given (Err x) P e p = p

@@ -11,7 +11,8 @@ use Rattle.std.proofs.lemmas.Map.Keys.{IsDistinct-push}
 use Rattle.std.proofs.lemmas.Option.{slice_get_within}
 use Rattle.cq_match.specs.declared.edge.Edge.{Edge}
 use Rattle.cq_match.specs.Matched.{numbers}
-use Rattle.cq_match.specs.Matcher.{with_flag, without, with_number, is_apart}
+use Rattle.cq_match.specs.Matcher.{without, with_number, is_apart}
+use Rattle.cq_board.specs.Steps.Flags.{with_flags}
 use Rattle.cq_board.specs.Steps.Residents.{Resident, Supplies, places_of, queries_of, all_but, edges_among, edges_touching, nodes_among, IsGraphOf}
 use Rattle.cq_board.proofs.Members.{by_bool, In, In-left, In-right, In-append, any_gives, any_has, In-map, In-map_gives, In-filter, In-filter_gives}
 use Rattle.cq_board.proofs.Ends.{In-filter_among}
@@ -79,9 +80,9 @@ module _ (able : Resident → Bool) where
   nodes-without : (p : ℕ) (residents : List Resident) → nodes_among able (all_but p residents) ≡ without p (nodes_among able residents)
   nodes-without p residents = filter-by_map node_of (λ r. not (eqb r.0 p)) (λ node. not (eqb node.0 p)) residents (λ r m. refl)
 
-  nodes-flagged : (p : ℕ) (b : Bool) (residents : List Resident) → with_flag p b (nodes_among able residents) ≡ nodes_among (λ r. if eqb r.0 p then b else able r) residents
-  nodes-flagged p b [] = refl
-  nodes-flagged p b (r ∷ residents) = ap (λ (ns : List (ℕ × ℕ × Bool)). (r.0, length r.1.query.posts, if eqb r.0 p then b else able r) ∷ ns) (nodes-flagged p b residents)
+  nodes-flagged : (test : ℕ → Bool) (b : Bool) (residents : List Resident) → with_flags test b (nodes_among able residents) ≡ nodes_among (λ r. if test r.0 then b else able r) residents
+  nodes-flagged test b [] = refl
+  nodes-flagged test b (r ∷ residents) = ap (λ (ns : List (ℕ × ℕ × Bool)). (r.0, length r.1.query.posts, if test r.0 then b else able r) ∷ ns) (nodes-flagged test b residents)
 
 nodes-same : (able other : Resident → Bool) (residents : List Resident) → ((r : Resident) → In r residents → able r ≡ other r) → nodes_among able residents ≡ nodes_among other residents
 nodes-same able other [] same = refl
@@ -108,11 +109,11 @@ graph_reflagged able other residents nodes edges same graph = record {
 }
 
 module _ (able : Resident → Bool) (residents : List Resident) (nodes : List (ℕ × ℕ × Bool)) (edges : List Edge) (graph : IsGraphOf able residents nodes edges) where
-  -- A node gets a flag.
-  pub graph_flagged : (p : ℕ) (b : Bool) → IsGraphOf (λ r. if eqb r.0 p then b else able r) residents (with_flag p b nodes) edges
-  graph_flagged p b = record {
-    same_nodes = subst (λ (ns : List (ℕ × ℕ × Bool)). SameMembers (with_flag p b nodes) ns) (nodes-flagged able p b residents)
-        (same-map (λ (node : ℕ × ℕ × Bool). (node.0, node.1, if eqb node.0 p then b else node.2)) nodes (nodes_among able residents) graph.same_nodes);
+  -- Nodes get a flag.
+  pub graph_flagged : (test : ℕ → Bool) (b : Bool) → IsGraphOf (λ r. if test r.0 then b else able r) residents (with_flags test b nodes) edges
+  graph_flagged test b = record {
+    same_nodes = subst (λ (ns : List (ℕ × ℕ × Bool)). SameMembers (with_flags test b nodes) ns) (nodes-flagged able test b residents)
+        (same-map (λ (node : ℕ × ℕ × Bool). (node.0, node.1, if test node.0 then b else node.2)) nodes (nodes_among able residents) graph.same_nodes);
     same_edges = graph.same_edges;
   }
 

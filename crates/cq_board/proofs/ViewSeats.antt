@@ -16,7 +16,7 @@ use Rattle.cq_findings.specs.Findings.{FindingRecord, FindingMap, found}
 use Rattle.cq_links.specs.Links.{LinkMap}
 use Rattle.cq_match.specs.Matched.{is_matched}
 use Rattle.cq_match.specs.Matcher.{MatcherRecord}
-use Rattle.cq_board.specs.Pool.{PendingQuery, name_of}
+use Rattle.cq_board.specs.Pool.{PendingQuery, PoolRecord, name_of}
 use Rattle.cq_board.specs.Edits.{is_named}
 use Rattle.cq_board.specs.Board.{name_at, name_or_none, place_of}
 use Rattle.cq_board.specs.Named.{query_named, matched_named, matched_names}
@@ -108,15 +108,22 @@ module _ (seats : List SeatRecord) (m : FindingMap) (links : LinkMap) (graph : M
   own-places : IsDistinct nat_eq (places_of (residents_of seats m))
   own-places = subst (λ (places : List ℕ). IsDistinct nat_eq places) (sym (places-seated seats m)) stores.roster.places
 
-  pub matched-at-place : (name : List ℕ) → matched_named name (pending_of seats m) ≡ option_map (is_matched graph.nodes graph.edges) (place_named name seats)
-  matched-at-place name = matched_called (residents_of seats m) own-places graph.nodes graph.edges stores.graph name ∙ ap (option_map (is_matched graph.nodes graph.edges)) (place-called name seats m)
+module _ (pool : PoolRecord) (seats : List SeatRecord) (m : FindingMap) (links : LinkMap) (graph : MatcherRecord) (stores : AreStores seats m links graph pool.tables.rows) where
+  abbrev now : PoolRecord
+  now = record pool { pending = pending_of seats m }
+
+  distinct : IsDistinct nat_eq (places_of (residents_of seats m))
+  distinct = own-places seats m links graph pool.tables.rows stores
+
+  pub matched-at-place : (name : List ℕ) → matched_named name now ≡ option_map (is_matched graph.nodes graph.edges) (place_named name seats)
+  matched-at-place name = matched_called (residents_of seats m) pool distinct graph.nodes graph.edges stores.graph name ∙ ap (option_map (is_matched graph.nodes graph.edges)) (place-called name seats m)
 
   -- the names of the matched queries are those of the seats whose places are matched
-  pub matched-seats : matched_names (pending_of seats m) ≡ map (λ s. s.name) (filter (λ s. is_matched graph.nodes graph.edges s.place) seats)
+  pub matched-seats : matched_names now ≡ map (λ s. s.name) (filter (λ s. is_matched graph.nodes graph.edges s.place) seats)
   matched-seats =
       let resident : SeatRecord → Resident = λ s. (s.place, (record { name = s.name; query = query_at m s.place })) in
       let matched : Resident → Bool = λ r. is_matched graph.nodes graph.edges r.0 in
-      matched_placed (residents_of seats m) own-places graph.nodes graph.edges stores.graph
+      matched_placed (residents_of seats m) distinct pool graph.nodes graph.edges stores.graph
       ∙ ap (map (λ (r : Resident). r.1.name)) (sym (filter-by_map resident (λ s. is_matched graph.nodes graph.edges s.place) matched seats (λ s h. refl)))
       ∙ map-map (λ (r : Resident). r.1.name) resident (filter (λ s. is_matched graph.nodes graph.edges s.place) seats)
 
@@ -128,11 +135,11 @@ module _ {X : Type 0} (xs ys : List X) (seat : X → SeatRecord) (seats : List S
       ap (map (λ (x : X). (seat x).name)) same ∙ sym (map-map (λ (s : SeatRecord). s.name) seat ys)
       ∙ ap (map (λ (s : SeatRecord). s.name)) read ∙ sym (pending-named seats m)
 
-  pub matched-read : (m : FindingMap) (links : LinkMap) (graph : MatcherRecord) (rows : List RowRecord) → AreStores seats m links graph rows
-      → map (λ x. (seat x).name) (filter (λ x. is_matched graph.nodes graph.edges (seat x).place) xs) ≡ matched_names (pending_of seats m)
-  matched-read m links graph rows stores =
+  pub matched-read : (pool : PoolRecord) (m : FindingMap) (links : LinkMap) (graph : MatcherRecord) → AreStores seats m links graph pool.tables.rows
+      → map (λ x. (seat x).name) (filter (λ x. is_matched graph.nodes graph.edges (seat x).place) xs) ≡ matched_names (record pool { pending = pending_of seats m })
+  matched-read pool m links graph stores =
       let there : X → Bool = λ x. is_matched graph.nodes graph.edges (seat x).place in
       ap (λ (l : List X). map (λ (x : X). (seat x).name) (filter there l)) same
       ∙ sym (map-map (λ (s : SeatRecord). s.name) seat (filter there ys))
       ∙ ap (map (λ (s : SeatRecord). s.name)) (filter-by_map seat there (λ s. is_matched graph.nodes graph.edges s.place) ys (λ x h. refl) ∙ ap (filter (λ (s : SeatRecord). is_matched graph.nodes graph.edges s.place)) read)
-      ∙ sym (matched-seats seats m links graph rows stores)
+      ∙ sym (matched-seats pool seats m links graph stores)

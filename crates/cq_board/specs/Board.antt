@@ -1,9 +1,9 @@
 -- The board of a pool: what is computed from scratch over its queries and rows.
 -- (edges, and groundings of bodies: Gupta et al., SIGMOD 2011; crowded, matched and the order of lists: this project's profile)
-use Rattle.std.specs.Prelude.{ℕ, Bool, true, List, [], ◌∷◌, map, filter, length, if◌then◌else◌, Option, Some, None, option_map}
+use Rattle.std.specs.Prelude.{ℕ, Bool, nat_lt, List, [], ◌∷◌, map, filter, length, if◌then◌else◌, Option, Some, None, option_map}
 use Rattle.std.specs.List.{flat_map, enumerate_from, slice_get, position}
 use Rattle.cq_atom.specs.Value.{ValueContent}
-use Rattle.cq_atom.specs.Atom.{AtomRecord}
+use Rattle.cq_atom.specs.Atom.{AtomRecord, RowRecord}
 use Rattle.cq_match.specs.declared.edge.Edge.{Edge}
 use Rattle.cq_match.specs.Graph.{provider_count, is_crowd}
 use Rattle.cq_match.specs.Matched.{is_matched}
@@ -14,17 +14,21 @@ use Rattle.cq_board.specs.Pool.{PendingQuery, PoolRecord}
 use Rattle.cq_board.specs.Edges.{edges_of}
 use Rattle.cq_board.specs.Edits.{is_named}
 
--- The graph's nodes: the places of the queries, each with its number of postconditions. All are able.
-abbrev pub nodes_of : List PendingQuery → List (ℕ × ℕ × Bool)
-nodes_of pending = map (λ p. (p.0, length p.1.query.posts, true)) (enumerate_from 0 pending)
+-- A query is able where its groundings over the rows are not empty: a body that finds no rows keeps it from coordinating.
+abbrev pub is_able : List RowRecord → PendingQuery → Bool
+is_able rows p = nat_lt 0 (length (groundings_of p.query.body rows))
+
+-- The graph's nodes: the places of the queries, each with its number of postconditions, and whether it is able.
+abbrev pub nodes_of : PoolRecord → List (ℕ × ℕ × Bool)
+nodes_of pool = map (λ p. (p.0, length p.1.query.posts, is_able pool.tables.rows p.1)) (enumerate_from 0 pool.pending)
 
 -- The query at that place is matched.
-abbrev pub is_matched_at : List PendingQuery → ℕ → Bool
-is_matched_at pending place = is_matched (nodes_of pending) (edges_of pending) place
+abbrev pub is_matched_at : PoolRecord → ℕ → Bool
+is_matched_at pool place = is_matched (nodes_of pool) (edges_of pool.pending) place
 
 -- The places of the matched queries, in posting order.
-abbrev pub matched_of : List PendingQuery → List ℕ
-matched_of pending = filter (is_matched_at pending) (map (λ p. p.0) (enumerate_from 0 pending))
+abbrev pub matched_of : PoolRecord → List ℕ
+matched_of pool = filter (is_matched_at pool) (map (λ p. p.0) (enumerate_from 0 pool.pending))
 
 -- The groundings of each query over the rows, in posting order.
 abbrev pub all_groundings : PoolRecord → List (List (List ValueContent))
@@ -51,7 +55,7 @@ abbrev pub board_of : PoolRecord → BoardRecord
 board_of pool = record {
   edges = edges_of pool.pending;
   crowded = crowded_of pool.pending;
-  matched = matched_of pool.pending;
+  matched = matched_of pool;
   groundings = all_groundings pool;
 }
 

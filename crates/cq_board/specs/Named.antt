@@ -14,16 +14,16 @@ abbrev pub query_named : List ℕ → List PendingQuery → Option QueryRecord
 query_named name pending = option_and_then (λ place. option_map (λ p. p.query) (slice_get pending place)) (place_of name pending)
 
 -- Whether the pending query of that name is matched.
-abbrev pub matched_named : List ℕ → List PendingQuery → Option Bool
-matched_named name pending = option_map (is_matched_at pending) (place_of name pending)
+abbrev pub matched_named : List ℕ → PoolRecord → Option Bool
+matched_named name pool = option_map (is_matched_at pool) (place_of name pool.pending)
 
 -- The groundings of the pending query of that name.
 abbrev pub groundings_named : List ℕ → PoolRecord → Option (List (List ValueContent))
 groundings_named name pool = option_and_then (slice_get (all_groundings pool)) (place_of name pool.pending)
 
 -- The names of the matched queries, in posting order.
-abbrev pub matched_names : List PendingQuery → List (List ℕ)
-matched_names pending = map (λ place. name_or_none (name_at pending place)) (matched_of pending)
+abbrev pub matched_names : PoolRecord → List (List ℕ)
+matched_names pool = map (λ place. name_or_none (name_at pool.pending place)) (matched_of pool)
 
 -- The same edge, with its names read.
 abbrev pub link_read : {N : Type 0} → (N → List ℕ) → Link N → Link (List ℕ)

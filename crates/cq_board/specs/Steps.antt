@@ -4,3 +4,4 @@ pub mod Choices
 pub mod Residents
 pub mod Stores
 pub mod Scratch
+pub mod Flags

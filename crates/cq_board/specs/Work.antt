@@ -70,22 +70,22 @@ visits_after pool edit visits = if_accepted (why pool edit) visits (visits_done 
 -- ---- changes
 
 -- The query of that name is pending and matched.
-abbrev pub is_matched_under : List ℕ → List PendingQuery → Bool
-is_matched_under name pending = option_map_or (λ matched. matched) (matched_named name pending) false
+abbrev pub is_matched_under : List ℕ → PoolRecord → Bool
+is_matched_under name pool = option_map_or (λ matched. matched) (matched_named name pool) false
 
--- The edge's provider was matched among the queries before, and is unmatched or absent among those after.
-abbrev pub loses_provider : List PendingQuery → List PendingQuery → Edge → Bool
-loses_provider before after edge = is_matched_at before edge.provider && not (is_matched_under (name_or_none (name_at before edge.provider)) after)
+-- The edge's provider was matched in the pool before, and is unmatched or absent in the one after.
+abbrev pub loses_provider : PoolRecord → PoolRecord → Edge → Bool
+loses_provider before after edge = is_matched_at before edge.provider && not (is_matched_under (name_or_none (name_at before.pending edge.provider)) after)
 
--- How many edges of the queries before have lost their matched provider among those after.
-abbrev pub lost : List PendingQuery → List PendingQuery → ℕ
-lost before after = count_by (loses_provider before after) (edges_of before)
+-- How many edges of the pool before have lost their matched provider in the one after.
+abbrev pub lost : PoolRecord → PoolRecord → ℕ
+lost before after = count_by (loses_provider before after) (edges_of before.pending)
 
--- The changes before and after an edit: none where it is refused, a query comes, or a row comes or goes, and where a query goes no more than the edges that
--- lose their matched provider.
+-- The changes before and after an edit: none where it is refused, or a query or a row comes, and where a query or a row goes no more than the edges that lose
+-- their matched provider.
 abbrev pub AreChanged : Option Why → PoolRecord → Edit → ℕ → ℕ → Type 0
 AreChanged (Some reason) pool edit before after = after ≡ before
 AreChanged None pool (Post name query) before after = after ≡ before
-AreChanged None pool (Withdraw name) before after = after ≤ before + lost pool.pending (edited pool (Withdraw name)).pending
+AreChanged None pool (Withdraw name) before after = after ≤ before + lost pool (edited pool (Withdraw name))
 AreChanged None pool (Insert row) before after = after ≡ before
-AreChanged None pool (Delete row) before after = after ≡ before
+AreChanged None pool (Delete row) before after = after ≤ before + lost pool (edited pool (Delete row))

@@ -164,7 +164,7 @@ impl<A: Allocator + Copy> Board<A> {
         ensures ok { self.new ≡ edited self.old (Withdraw name.now) }
         ensures tests { work.new.tests ≡ work.old.tests }
         ensures visits { work.new.visits ≡ work.old.visits }
-        ensures changes { work.new.changes ≤ work.old.changes + lost self.old.pending (edited self.old (Withdraw name.now)).pending }
+        ensures changes { work.new.changes ≤ work.old.changes + lost self.old (edited self.old (Withdraw name.now)) }
     {
         stores::withdraw(&mut self.stores, name, &mut work.changes);
     }
@@ -178,12 +178,7 @@ impl<A: Allocator + Copy> Board<A> {
         ensures visits { OnOk result (work.new.visits ≡ raised work.old.visits (named self.old.pending row.now.relation)) }
         ensures changes { work.new.changes ≡ work.old.changes }
     {
-        row_change::insert(
-            &mut self.tables,
-            &mut self.stores.findings,
-            row,
-            &mut work.visits,
-        )
+        row_change::insert(&mut self.tables, &mut self.stores, row, &mut work.visits)
     }
 
     /// Takes the row out, where nothing speaks against it.
@@ -192,13 +187,14 @@ impl<A: Allocator + Copy> Board<A> {
         ensures ok { self.new ≡ edited self.old (Delete row.now) }
         ensures tests { work.new.tests ≡ work.old.tests }
         ensures visits { work.new.visits ≡ raised work.old.visits (named self.old.pending row.now.relation) }
-        ensures changes { work.new.changes ≡ work.old.changes }
+        ensures changes { work.new.changes ≤ work.old.changes + lost self.old (edited self.old (Delete row.now)) }
     {
         row_change::delete(
             &mut self.tables,
-            &mut self.stores.findings,
+            &mut self.stores,
             row,
             &mut work.visits,
+            &mut work.changes,
         );
     }
 }

@@ -278,7 +278,7 @@ impl<A: Allocator + Copy> Board<A> {
     /// each of the queries is matched. It takes no memory.
     pub fn check_choice(&self, choices: &[Choice<A>]) -> bool
         ensures choice { IsTrue result ↔ IsCoordinating self.now choices.now }
-        ensures matched { IsTrue result → All (λ c. matched_named c.name self.now.pending ≡ Some true) choices.now }
+        ensures matched { IsTrue result → All (λ c. matched_named c.name self.now ≡ Some true) choices.now }
     {
         if !names_differ(choices) {
             return false;

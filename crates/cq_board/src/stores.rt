@@ -15,9 +15,12 @@ ghost use Rattle.cq_match.specs.Matcher.{nothing, has_node, without, with_number
 ghost use Rattle.cq_roster.specs.Roster.{seat_of, place_named, is_taken_place};
 ghost use Rattle.cq_findings.specs.Findings.{FindingMap};
 ghost use Rattle.cq_links.specs.Links.{ends_of, candidate_pairs};
-ghost use Rattle.cq_board.specs.Pool.{PendingQuery};
-ghost use Rattle.cq_board.specs.Edits.{is_named, is_taken};
+ghost use Rattle.cq_board.specs.declared.edit.EditKind.TheVariants.{Withdraw};
+ghost use Rattle.cq_board.specs.Pool.{PendingQuery, PoolRecord};
+ghost use Rattle.cq_board.specs.Edits.{edited, is_named, is_taken};
 ghost use Rattle.cq_board.specs.Work.{candidates, lost, raised};
+ghost use Rattle.cq_board.specs.Board.{is_able};
+ghost use Rattle.cq_board.specs.Steps.Flags.{has_grounding};
 ghost use Rattle.cq_board.specs.Steps.Stores.{pending_of, AreStores, AddsLinks};
 
 use crate::work::Work;
@@ -76,6 +79,16 @@ pub(crate) fn copy<A: Allocator + Copy>(stores: &Stores<A>) -> Result<Stores<A>,
     })
 }
 
+/// Whether a query stands at the place that has a grounding.
+pub(crate) fn has_grounding<A: Allocator + Copy>(findings: &Findings<A>, place: usize) -> bool
+    ensures { result ≡ has_grounding findings.now place }
+{
+    match findings.groundings(place) {
+        Some(groundings) => groundings.count() > 0,
+        None => false,
+    }
+}
+
 /// Seats the name at the place and puts the node there with its edges, or does neither.
 fn seat<A: Allocator + Copy>(
     roster: &mut Roster<A>,
@@ -83,15 +96,16 @@ fn seat<A: Allocator + Copy>(
     name: &Name<A>,
     place: usize,
     posts: u8,
+    able: bool,
     edges: &[Edge],
 ) -> Result<(), AllocError>
     requires absent { place_named name.now roster.old ≡ None }
     requires free { is_taken_place place roster.old ≡ false }
     requires no_node { has_node place matcher.old ≡ false }
     requires touch { All (λ edge. is_apart place edge ≡ false) edges.now }
-    requires ends { All (λ edge. Contains (numbers ((place, posts, true) ∷ matcher.old.nodes)) edge.provider × Any (λ node. (node.0 ≡ edge.waiter) × (edge.post < node.1)) ((place, posts, true) ∷ matcher.old.nodes)) edges.now }
+    requires ends { All (λ edge. Contains (numbers ((place, posts, able) ∷ matcher.old.nodes)) edge.provider × Any (λ node. (node.0 ≡ edge.waiter) × (edge.post < node.1)) ((place, posts, able) ∷ matcher.old.nodes)) edges.now }
     ensures seated { OnOk result (roster.new ≡ roster.old ++ seat_of name.now place ∷ []) }
-    ensures node { OnOk result (with_number place matcher.new.nodes ≡ (place, posts, true) ∷ []) }
+    ensures node { OnOk result (with_number place matcher.new.nodes ≡ (place, posts, able) ∷ []) }
     ensures others { OnOk result (without place matcher.new.nodes ≡ matcher.old.nodes) }
     ensures edges { OnOk result ((test : Edge → Bool) → count_by test matcher.new.edges ≡ count_by test matcher.old.edges + count_by test edges.now) }
     ensures matched { OnOk result ((n : ℕ) → is_member nat_eq matcher.new.matched n ≡ is_matched matcher.new.nodes matcher.new.edges n) }
@@ -99,7 +113,7 @@ fn seat<A: Allocator + Copy>(
     ensures err_matcher { OnErr result (matcher.new ≡ matcher.old) }
 {
     roster.add(name, place)?;
-    let added = matcher.add(place, posts, true, edges);
+    let added = matcher.add(place, posts, able, edges);
     if added.is_err() {
         roster.remove(name);
     }
@@ -114,13 +128,14 @@ fn link<A: Allocator + Copy>(
     name: &Name<A>,
     query: &Query<A>,
     place: usize,
+    able: bool,
     tests: &mut Meter,
 ) -> Result<(), AllocError>
     requires absent { place_named name.now roster.old ≡ None }
-    requires stores { (rows : List RowRecord) × (findings : FindingMap) × AreStores roster.old findings links.old matcher.old rows × (map.get findings place ≡ None) }
+    requires stores { (rows : List RowRecord) × (findings : FindingMap) × AreStores roster.old findings links.old matcher.old rows × (map.get findings place ≡ None) × (able ≡ is_able rows (record { name = name.now; query = query.now })) }
     ensures seated { OnOk result (roster.new ≡ roster.old ++ seat_of name.now place ∷ []) }
     ensures linked { OnOk result (links.new ≡ map.insert links.old place (ends_of query.now)) }
-    ensures node { OnOk result (with_number place matcher.new.nodes ≡ (place, length query.now.posts, true) ∷ []) }
+    ensures node { OnOk result (with_number place matcher.new.nodes ≡ (place, length query.now.posts, able) ∷ []) }
     ensures others { OnOk result (without place matcher.new.nodes ≡ matcher.old.nodes) }
     ensures edges { OnOk result (AddsLinks links.new place matcher.old.edges matcher.new.edges) }
     ensures matched { OnOk result ((n : ℕ) → is_member nat_eq matcher.new.matched n ≡ is_matched matcher.new.nodes matcher.new.edges n) }
@@ -136,6 +151,7 @@ fn link<A: Allocator + Copy>(
         name,
         place,
         query.posts().len() as u8,
+        able,
         &edges,
     );
     if seated.is_err() {
@@ -166,6 +182,7 @@ pub(crate) fn post<A: Allocator + Copy>(
     ensures changes { work.new.changes ≡ work.old.changes }
 {
     let place = stores.findings.add(query, tables, &mut work.visits)?;
+    let able = has_grounding(&stores.findings, place);
     let linked = link(
         &mut stores.links,
         &mut stores.roster,
@@ -173,6 +190,7 @@ pub(crate) fn post<A: Allocator + Copy>(
         name,
         query,
         place,
+        able,
         &mut work.tests,
     );
     if linked.is_err() {
@@ -200,7 +218,7 @@ pub(crate) fn withdraw<A: Allocator + Copy>(
     requires { (rows : List RowRecord) × AreStores stores.old.roster stores.old.findings stores.old.links stores.old.matcher rows }
     ensures stores { (rows : List RowRecord) → AreStores stores.old.roster stores.old.findings stores.old.links stores.old.matcher rows → AreStores stores.new.roster stores.new.findings stores.new.links stores.new.matcher rows }
     ensures left { (rows : List RowRecord) → AreStores stores.old.roster stores.old.findings stores.old.links stores.old.matcher rows → pending_of stores.new.roster stores.new.findings ≡ filter (λ other. not (is_named name.now other)) (pending_of stores.old.roster stores.old.findings) }
-    ensures changes { (rows : List RowRecord) → AreStores stores.old.roster stores.old.findings stores.old.links stores.old.matcher rows → changes.new ≤ changes.old + lost (pending_of stores.old.roster stores.old.findings) (filter (λ other. not (is_named name.now other)) (pending_of stores.old.roster stores.old.findings)) }
+    ensures changes { (pool : PoolRecord) → pending_of stores.old.roster stores.old.findings ≡ pool.pending → AreStores stores.old.roster stores.old.findings stores.old.links stores.old.matcher pool.tables.rows → changes.new ≤ changes.old + lost pool (edited pool (Withdraw name.now)) }
 {
     let Some(place) = stores.roster.remove(name) else {
         return;

@@ -156,7 +156,7 @@ impl<A: Allocator + Copy> Board<A> {
     /// Whether the pending query of that name is matched. `None` where no query of that name is
     /// pending.
     pub fn is_matched(&self, name: &Name<A>) -> Option<bool>
-        ensures { result ≡ matched_named name.now self.now.pending }
+        ensures { result ≡ matched_named name.now self.now }
     {
         let stores = self.stores();
         Some(stores.matcher.is_matched(stores.roster.place_of(name)?))
@@ -224,7 +224,7 @@ impl<A: Allocator + Copy> Board<A> {
     /// # Errors
     /// `AllocError` where a growth was refused.
     pub fn matched(&self) -> Result<Vec<&Name<A>, A>, AllocError>
-        ensures { IfOk result (λ names. map (λ name. name.now) names.items ≡ matched_names self.now.pending) }
+        ensures { IfOk result (λ names. map (λ name. name.now) names.items ≡ matched_names self.now) }
     {
         let stores = self.stores();
         let seats = stores.roster.in_order()?;

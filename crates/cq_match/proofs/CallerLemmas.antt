@@ -1,13 +1,15 @@
--- What a caller of a matcher cites: that who is matched depends neither on the order nor on the numbers of the nodes; and facts that hold of each of its nodes, kept while nodes come and go, and what such a fact says of a node that is there.
-use Rattle.std.proofs.Common.{◌≡◌, ℕ, ◌<◌, Bool, true, false, eqb, nat_eq, List, [], ◌∷◌, length, suc, refl, sym, ap, ◌∙◌, subst, arith}
+-- What a caller of a matcher cites: that who is matched depends neither on the order nor on the numbers of the nodes; that nobody is matched by a node that is able no longer; and facts that hold of each of its nodes, kept while nodes come and go, and what such a fact says of a node that is there.
+use Rattle.std.proofs.Common.{◌≡◌, ℕ, ◌<◌, Bool, true, false, if◌then◌else◌, eqb, nat_eq, List, [], ◌∷◌, length, zero, suc, refl, sym, ap, ◌∙◌, subst, arith}
 use Rattle.std.specs.List.{All, Any, Contains}
 use Rattle.std.specs.Set.{is_member}
 use Rattle.std.proofs.lemmas.List.Elements.{All-nil, All-cons, All-head, All-tail, All-same, All-contains}
-use Rattle.cq_match.specs.Matched.{numbers}
-use Rattle.cq_match.specs.Matcher.{without, with_number}
+use Rattle.cq_match.specs.declared.edge.Edge.{Edge}
+use Rattle.cq_match.specs.Matched.{numbers, is_matched}
+use Rattle.cq_match.specs.Matcher.{with_flag, without, with_number}
 use Rattle.cq_match.proofs.Tests.{by_bool}
 use Rattle.cq_match.proofs.Union.{member-contained}
 use Rattle.cq_match.proofs.Bridge.{here-Contains, later-Contains, number-listed}
+use Rattle.cq_match.proofs.Renaming.{matched-closed, closed-matched}
 pub use Rattle.cq_match.proofs.Renaming.{renumbered, renamed, IsWithin, matched-reordered, matched-renamed, matched-known}
 
 abbrev Nodes : Type 0
@@ -82,3 +84,35 @@ module _ (P : ℕ × ℕ × Bool → Type 0) (n : ℕ) where
       All-split after
       (All-same P (with_number n after) (node ∷ []) one (All-cons P node [] holds (All-nil P)))
       (All-away Q step after (All-same Q (without n after) before others all))
+
+-- ---- a node is able no longer
+
+abbrev flagged : ℕ → Bool → ℕ × ℕ × Bool → ℕ × ℕ × Bool
+flagged n b node = (node.0, node.1, if eqb node.0 n then b else node.2)
+
+flagged-numbers : (n : ℕ) (b : Bool) (nodes : Nodes) → numbers (with_flag n b nodes) ≡ numbers nodes
+flagged-numbers n b [] = refl
+flagged-numbers n b (x ∷ nodes) = ap (λ (ns : List ℕ). x.0 ∷ ns) (flagged-numbers n b nodes)
+
+flagged-listed : (n : ℕ) (b : Bool) (nodes : Nodes) (node : ℕ × ℕ × Bool) → Contains nodes node → Contains (with_flag n b nodes) (flagged n b node)
+flagged-listed n b [] node (k, low, at) = absurd (let none : k < 0 = low in omega arith)
+flagged-listed n b (x ∷ nodes) node (zero, low, at) = subst (λ (y : ℕ × ℕ × Bool). Contains (flagged n b x ∷ with_flag n b nodes) (flagged n b y)) at (here-Contains (flagged n b x) (with_flag n b nodes))
+flagged-listed n b (x ∷ nodes) node (suc k, low, at) =
+    later-Contains (flagged n b x) (flagged n b node) (with_flag n b nodes) (flagged-listed n b nodes node (k, (let l : suc k < suc (length nodes) = low in omega arith), at))
+
+was-able : (here able : Bool) → (if here then false else able) ≡ true → able ≡ true
+was-able true able e = absurd (let never : false ≡ true = e in cc)
+was-able false able e = e
+
+-- Where a node is able no longer, nobody is matched who was not so before: a set that is closed then was closed before.
+pub matched-lowered : (n : ℕ) (nodes : Nodes) (edges : List Edge) (k : ℕ) → is_matched (with_flag n false nodes) edges k ≡ true → is_matched nodes edges k ≡ true
+matched-lowered n nodes edges k t =
+    let c = matched-closed (with_flag n false nodes) edges k t in
+    closed-matched nodes edges k (record {
+      set = c.set;
+      within = λ m s. subst (λ (ns : List ℕ). Contains ns m) (flagged-numbers n false nodes) (c.within m s);
+      fits = λ node listed s.
+          let fit = c.fits (flagged n false node) (flagged-listed n false nodes node listed) s in
+          (was-able (eqb node.0 n) node.2 fit.0, fit.1);
+      has = c.has;
+    })

@@ -42,7 +42,7 @@ pub record Known (pool : PoolRecord) (i : ℕ) (name : List ℕ) : Type 0 where
   pub there : slice_get pool.pending i ≡ Some posted
   pub name_is : posted.name ≡ name
   pub query_is : query_named name pool.pending ≡ Some posted.query
-  pub matched_is : matched_named name pool.pending ≡ Some (is_matched_at pool.pending i)
+  pub matched_is : matched_named name pool ≡ Some (is_matched_at pool i)
   pub groundings_are : groundings_named name pool ≡ Some (groundings_of posted.query.body pool.tables.rows)
 
 pub known_at : (pool : PoolRecord) → IsPool pool → (i : ℕ) (name : List ℕ) → name_at pool.pending i ≡ Some name → Known pool i name
@@ -80,14 +80,14 @@ module _ (pool : PoolRecord) (good : IsPool pool) (i : ℕ) (name : List ℕ) (n
   query_shown query h = let k = known_at pool good i name named in ap (option_map (λ (p : PendingQuery). p.query)) k.there ∙ sym (h ∙ k.query_is)
 
   pub told_as : (query : QueryRecord) (matched : Bool) (lists : List (List ValueContent)) (posted : PendingQuery)
-      → Some query ≡ query_named name pool.pending → matched ≡ unwrap_or (matched_named name pool.pending) false → Some lists ≡ groundings_named name pool → slice_get pool.pending i ≡ Some posted
+      → Some query ≡ query_named name pool.pending → matched ≡ unwrap_or (matched_named name pool) false → Some lists ≡ groundings_named name pool → slice_get pool.pending i ≡ Some posted
       → lines_told pool.pending i name query matched lists ≡ query_lines pool (i, posted)
   told_as query matched lists posted q m l here =
       let k = known_at pool good i name named in
       let same : posted ≡ k.posted = same_Some posted k.posted (sym here ∙ k.there) in
       let query_is : query ≡ k.posted.query = same_Some query k.posted.query (q ∙ k.query_is) in
-      let matched_is : matched ≡ is_matched_at pool.pending i = m ∙ ap (λ o. unwrap_or o false) k.matched_is in
+      let matched_is : matched ≡ is_matched_at pool i = m ∙ ap (λ o. unwrap_or o false) k.matched_is in
       let lists_are : lists ≡ groundings_of k.posted.query.body pool.tables.rows = same_Some lists _ (l ∙ k.groundings_are) in
       let name_is : name ≡ k.posted.name = sym k.name_is in
-      lines_same pool.pending i name k.posted.name query k.posted.query matched (is_matched_at pool.pending i) lists (groundings_of k.posted.query.body pool.tables.rows) name_is query_is matched_is lists_are
+      lines_same pool.pending i name k.posted.name query k.posted.query matched (is_matched_at pool i) lists (groundings_of k.posted.query.body pool.tables.rows) name_is query_is matched_is lists_are
       ∙ ap (λ (p : PendingQuery). query_lines pool (i, p)) (sym same)

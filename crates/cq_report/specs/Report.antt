@@ -64,7 +64,7 @@ groundings_lines query rows =
 -- A pending query at its place: its name and whether it is matched, its printed form, its postconditions in order, and its groundings.
 abbrev pub query_lines : PoolRecord → ℕ × PendingQuery → List ℕ
 query_lines pool (place, posted) =
-    name_line posted.name (is_matched_at pool.pending place) ++ text_line posted.query
+    name_line posted.name (is_matched_at pool place) ++ text_line posted.query
     ++ flat_map (λ post. post_lines pool.pending place post.0) (enumerate_from 0 posted.query.posts)
     ++ groundings_lines posted.query pool.tables.rows
 

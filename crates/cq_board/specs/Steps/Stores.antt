@@ -1,5 +1,5 @@
 -- What the four stores of a board keep of a pool: its residents, each at its place.
-use Rattle.std.specs.Prelude.{◌≡◌, ◌≢◌, ◌↔◌, ℕ, ◌+◌, Bool, true, List, [], map, count_by, nat_eq}
+use Rattle.std.specs.Prelude.{◌≡◌, ◌≢◌, ◌↔◌, ℕ, ◌+◌, Bool, List, [], map, count_by, nat_eq}
 use Rattle.std.specs.List.{Contains, AllPairs, position_or_len}
 use Rattle.std.specs.FinMap.{get}
 use Rattle.std.specs.Map.{lookup}
@@ -14,6 +14,7 @@ use Rattle.cq_match.specs.declared.edge.Edge.{Edge}
 use Rattle.cq_match.specs.Matched.{is_matched}
 use Rattle.cq_match.specs.Matcher.{MatcherRecord}
 use Rattle.cq_board.specs.Pool.{PendingQuery, PoolRecord, IsPool}
+use Rattle.cq_board.specs.Board.{is_able}
 use Rattle.cq_board.specs.Steps.Residents.{Resident, queries_of, IsGraphOf}
 
 -- What is read at a place where no query stands.
@@ -32,9 +33,9 @@ residents_of seats findings = map (λ seat. (seat.place, (record { name = seat.n
 abbrev pub pending_of : List SeatRecord → FindingMap → List PendingQuery
 pending_of seats findings = queries_of (residents_of seats findings)
 
--- All residents are able.
-abbrev pub able : Resident → Bool
-able resident = true
+-- Whether the resident is able: whether its query is, over the rows.
+abbrev pub able_over : List RowRecord → Resident → Bool
+able_over rows resident = is_able rows resident.1
 
 -- The number of a place in a list of places, from 0.
 abbrev pub number_of : List ℕ → ℕ → ℕ
@@ -52,7 +53,7 @@ pub record AreStores (seats : List SeatRecord) (findings : FindingMap) (links : 
   pub roster : IsRoster seats
   pub stand : (place : ℕ) → get findings place ≡ option_map (λ q. found rows q.query) (lookup (nat_eq place) (residents_of seats findings))
   pub linked : (place : ℕ) → get links place ≡ option_map (λ q. ends_of q.query) (lookup (nat_eq place) (residents_of seats findings))
-  pub graph : IsGraphOf able (residents_of seats findings) matcher.nodes matcher.edges
+  pub graph : IsGraphOf (able_over rows) (residents_of seats findings) matcher.nodes matcher.edges
   pub matched : (n : ℕ) → is_member nat_eq matcher.matched n ≡ is_matched matcher.nodes matcher.edges n
 
 -- The pool is good, and the stores are of it.

@@ -1,4 +1,4 @@
-use Rattle.std.proofs.Common.{◌≡◌, ◌↔◌, ◌<◌, ℕ, Bool, true, false, List, ◌∷◌, length, sym, ap, subst, ◌∙◌, count_by, ◌+◌}
+use Rattle.std.proofs.Common.{◌≡◌, ◌↔◌, ◌<◌, ℕ, Bool, false, List, ◌∷◌, length, sym, ap, subst, ◌∙◌, count_by, ◌+◌}
 use Rattle.std.specs.FinMap as map
 use Rattle.std.specs.List.{All, Any, Contains}
 use Rattle.cq_atom.specs.Atom.{AtomRecord}
@@ -28,10 +28,12 @@ pub seat-seated-requires-clause-ends : goal.seat-seated-requires-clause-ends
 seat-seated-requires-clause-ends g c =
     let s = c.requires.stores in
     let exact = subst (λ (l : LinkMap). (edge : Edge) → Contains c.in_ok-edges.edges.items edge ↔ (IsLink l edge × Touches c.args.place edge)) c.in_ok-edges.ensures.ok c.in_ok-edges.ensures.exact in
-    let known = posted-ends c.args.roster.now s.1 c.args.links.now c.args.matcher.now s.0 s.2 c.args.place s.3 c.args.name.now c.args.query.now c.in_ok-edges.edges.items exact in
-    subst (λ (ps : List AtomRecord). All (λ (edge : Edge). Contains (numbers ((c.args.place, length ps, true) ∷ c.args.matcher.now.nodes)) edge.provider × Any (λ (node : ℕ × ℕ × Bool). (node.0 ≡ edge.waiter) × (edge.post < node.1)) ((c.args.place, length ps, true) ∷ c.args.matcher.now.nodes)) c.deref.result.now)
+    let known = subst (λ (b : Bool). All (λ (edge : Edge). Contains (numbers ((c.args.place, length c.args.query.now.posts, b) ∷ c.args.matcher.now.nodes)) edge.provider × Any (λ (node : ℕ × ℕ × Bool). (node.0 ≡ edge.waiter) × (edge.post < node.1)) ((c.args.place, length c.args.query.now.posts, b) ∷ c.args.matcher.now.nodes)) c.in_ok-edges.edges.items)
+    (sym s.4)
+    (posted-ends c.args.roster.now s.1 c.args.links.now c.args.matcher.now s.0 s.2 c.args.place s.3 c.args.name.now c.args.query.now c.in_ok-edges.edges.items exact) in
+    subst (λ (ps : List AtomRecord). All (λ (edge : Edge). Contains (numbers ((c.args.place, length ps, c.args.able) ∷ c.args.matcher.now.nodes)) edge.provider × Any (λ (node : ℕ × ℕ × Bool). (node.0 ≡ edge.waiter) × (edge.post < node.1)) ((c.args.place, length ps, c.args.able) ∷ c.args.matcher.now.nodes)) c.deref.result.now)
     (sym c.posts.ensures.value)
-    (subst (λ (es : List Edge). All (λ (edge : Edge). Contains (numbers ((c.args.place, length c.args.query.now.posts, true) ∷ c.args.matcher.now.nodes)) edge.provider × Any (λ (node : ℕ × ℕ × Bool). (node.0 ≡ edge.waiter) × (edge.post < node.1)) ((c.args.place, length c.args.query.now.posts, true) ∷ c.args.matcher.now.nodes)) es)
+    (subst (λ (es : List Edge). All (λ (edge : Edge). Contains (numbers ((c.args.place, length c.args.query.now.posts, c.args.able) ∷ c.args.matcher.now.nodes)) edge.provider × Any (λ (node : ℕ × ℕ × Bool). (node.0 ≡ edge.waiter) × (edge.post < node.1)) ((c.args.place, length c.args.query.now.posts, c.args.able) ∷ c.args.matcher.now.nodes)) es)
     (sym c.deref.ensures.value) known)
 
 pub remove-requires : goal.remove-requires

@@ -40,11 +40,11 @@ returns-clause-left g c = λ rows stores.
     ∙ withdrawn-pending c.args.stores.now.roster c.args.stores.now.findings c.args.stores.now.links c.args.stores.now.matcher rows stores c.args.name.now c.in-Some.place (sym c.remove.ensures.place ∙ c.in-Some.is)
 
 pub returns-in_default-clause-changes : goal.returns-in_default-clause-changes
-returns-in_default-clause-changes g c = λ rows stores. omega arith
+returns-in_default-clause-changes g c = λ pool same stores. omega arith
 
 pub returns-clause-changes : goal.returns-clause-changes
-returns-clause-changes g c = λ rows stores.
+returns-clause-changes g c = λ pool same stores.
     subst (λ (n : ℕ). c.remove-2.new.meter ≤ c.args.changes.now + n)
-    (lost-kept c.args.stores.now.roster c.args.stores.now.findings c.args.stores.now.links c.args.stores.now.matcher rows stores c.args.name.now c.in-Some.place (sym c.remove.ensures.place ∙ c.in-Some.is)
-    c.remove-2.new.self c.remove-2.ensures.nodes c.remove-2.ensures.edges c.remove-2.ensures.matched)
+    (lost-kept pool c.args.stores.now.roster c.args.stores.now.findings c.args.stores.now.links c.args.stores.now.matcher stores c.args.name.now c.in-Some.place (sym c.remove.ensures.place ∙ c.in-Some.is)
+    c.remove-2.new.self c.remove-2.ensures.nodes c.remove-2.ensures.edges c.remove-2.ensures.matched same)
     c.remove-2.ensures.counted

@@ -1,4 +1,3 @@
-use Rattle.std.proofs.Common.{refl}
 use Rattle.cq_board.proofs.Coordination.{served_all, all_served}
 use Rattle.cq_board.proofs.Law.{suppliers_matched}
 use Rattle.cq_board.proofs.board.Board.check_choice.Goals as goal
@@ -17,4 +16,4 @@ returns-then-are_grounded-clause-choice g c =
 
 pub returns-then-are_grounded-clause-matched : goal.returns-then-are_grounded-clause-matched
 returns-then-are_grounded-clause-matched g c =
-    λ t. suppliers_matched c.args.self.now.pending c.args.choices.now (c.are_served.ensures.unify t) c.args.self.now refl (c.are_grounded.ensures.0 c.if-are_grounded.true)
+    λ t. suppliers_matched c.args.self.now c.args.choices.now (c.are_served.ensures.unify t) (c.are_grounded.ensures.0 c.if-are_grounded.true)

@@ -3,24 +3,29 @@ use Rattle.cq_findings.specs.Findings as findings
 use Rattle.cq_board.specs.Work.{named, raised}
 use Rattle.cq_board.proofs.Stored.{ok-map}
 use Rattle.cq_board.proofs.WorkStores.{visits-seen}
-use Rattle.cq_board.proofs.RowsIn.{findings-over, inserted_in, inserted_seen}
+use Rattle.cq_board.proofs.RowsIn.{inserted_in, inserted_seen, refused_seen}
 use Rattle.cq_board.proofs.board.Board.insert.Goals as goal
-
-pub insert-requires-clause-found : goal.insert-requires-clause-found
-insert-requires-clause-found g c =
-    let old = c.self.inside.stores in findings-over old.roster old.findings old.links old.matcher c.self.inside.tables.rows c.self.invariant.stores
 
 pub invariant_of-self : goal.invariant_of-self
 invariant_of-self g c =
     let old = c.self.inside.stores in
-    inserted_in c.self.inside.limits c.self.inside.tables c.insert.new.tables old.roster old.findings c.insert.new.findings old.links old.matcher c.self.invariant c.args.self.now c.args.row.now c.self.view_is
-    c.insert.result c.requires c.insert.ensures.ok c.insert.ensures.found c.insert.ensures.err c.insert.ensures.err_findings
+    let new = c.insert.new.stores in
+    inserted_in c.self.inside.limits c.self.inside.tables c.insert.new.tables old.roster new.roster old.findings new.findings old.links new.links old.matcher new.matcher c.self.invariant c.args.self.now
+    c.args.row.now c.self.view_is c.insert.ensures.stores c.insert.ensures.residents c.insert.result c.requires c.insert.ensures.ok c.insert.ensures.err
 
 pub returns-clause-ok : goal.returns-clause-ok
 returns-clause-ok g c =
     let old = c.self.inside.stores in
-    inserted_seen c.self.inside.limits c.self.inside.tables c.insert.new.tables old.roster old.findings c.insert.new.findings old.links old.matcher c.self.invariant c.args.self.now c.args.row.now c.self.view_is
-    c.insert.result c.insert.ensures.ok c.insert.ensures.found
+    let new = c.insert.new.stores in
+    inserted_seen c.self.inside.limits c.self.inside.tables c.insert.new.tables old.roster new.roster old.findings new.findings old.links new.links old.matcher new.matcher c.self.invariant c.args.self.now
+    c.args.row.now c.self.view_is c.insert.ensures.stores c.insert.ensures.residents c.insert.result c.insert.ensures.ok
+
+pub returns-clause-err : goal.returns-clause-err
+returns-clause-err g c =
+    let old = c.self.inside.stores in
+    let new = c.insert.new.stores in
+    refused_seen c.self.inside.limits c.self.inside.tables c.insert.new.tables old.roster new.roster old.findings new.findings old.links new.links old.matcher new.matcher c.self.invariant c.args.self.now
+    c.args.row.now c.self.view_is c.insert.ensures.stores c.insert.ensures.residents c.insert.result c.insert.ensures.err
 
 pub returns-clause-visits : goal.returns-clause-visits
 returns-clause-visits g c =

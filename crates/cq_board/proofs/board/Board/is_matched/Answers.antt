@@ -11,13 +11,13 @@ returns-in_err-place_of g c =
     let stores = c.stores-stores.result.now in
     c.from_residual.ensures
     ∙ ap (option_map (is_matched stores.matcher.nodes stores.matcher.edges)) (sym (sym c.place_of.ensures ∙ c.in_err-place_of.was))
-    ∙ sym (matched-at-place stores.roster stores.findings stores.links stores.matcher c.args.self.now.tables.rows c.stores-stores.ensures.kept c.args.name.now)
-    ∙ ap (λ (pending : List PendingQuery). matched_named c.args.name.now pending) c.stores-stores.ensures.pending
+    ∙ sym (matched-at-place c.args.self.now stores.roster stores.findings stores.links stores.matcher c.stores-stores.ensures.kept c.args.name.now)
+    ∙ ap (λ (pending : List PendingQuery). matched_named c.args.name.now (record c.args.self.now { pending = pending })) c.stores-stores.ensures.pending
 
 pub returns : goal.returns
 returns g c =
     let stores = c.stores-stores.result.now in
     ap Some c.is_matched.ensures.exact
     ∙ ap (option_map (is_matched stores.matcher.nodes stores.matcher.edges)) (sym (sym c.place_of.ensures ∙ c.in_ok-place_of.was))
-    ∙ sym (matched-at-place stores.roster stores.findings stores.links stores.matcher c.args.self.now.tables.rows c.stores-stores.ensures.kept c.args.name.now)
-    ∙ ap (λ (pending : List PendingQuery). matched_named c.args.name.now pending) c.stores-stores.ensures.pending
+    ∙ sym (matched-at-place c.args.self.now stores.roster stores.findings stores.links stores.matcher c.stores-stores.ensures.kept c.args.name.now)
+    ∙ ap (λ (pending : List PendingQuery). matched_named c.args.name.now (record c.args.self.now { pending = pending })) c.stores-stores.ensures.pending

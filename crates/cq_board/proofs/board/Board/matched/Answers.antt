@@ -11,6 +11,6 @@ returns g c =
     IfOk-weaker c.matched_of.result _ _
     (λ names shown.
     shown
-    ∙ matched-read c.deref.result.now c.in_ok-seats.seats.items (λ s. s.now) stores.roster c.deref.ensures.value c.in_ok-seats.ensures stores.findings stores.links stores.matcher c.args.self.now.tables.rows c.stores-stores.ensures.kept
-    ∙ ap (λ (pending : List PendingQuery). matched_names pending) c.stores-stores.ensures.pending)
+    ∙ matched-read c.deref.result.now c.in_ok-seats.seats.items (λ s. s.now) stores.roster c.deref.ensures.value c.in_ok-seats.ensures c.args.self.now stores.findings stores.links stores.matcher c.stores-stores.ensures.kept
+    ∙ ap (λ (pending : List PendingQuery). matched_names (record c.args.self.now { pending = pending })) c.stores-stores.ensures.pending)
     c.matched_of.ensures
