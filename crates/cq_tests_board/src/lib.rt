@@ -4,6 +4,8 @@
 #![tactic(auto)]
 
 #[cfg(test)]
+mod able;
+#[cfg(test)]
 mod choices;
 #[cfg(test)]
 mod edits;

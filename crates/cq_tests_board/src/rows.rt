@@ -67,8 +67,8 @@ const SUPPLIES_ITSELF: [Step; 1] = [(
 )];
 
 const BOTH_WAYS: [Step; 5] = [
-    ("post t {} R(x, y) <- T(x, y), T(y, x)", Posted(0), &["t"]),
-    ("insert T(1, 2)", Inserted(1), &["t"]),
+    ("post t {} R(x, y) <- T(x, y), T(y, x)", Posted(0), &[]),
+    ("insert T(1, 2)", Inserted(1), &[]),
     ("insert T(2, 1)", Inserted(1), &["t"]),
     ("insert T(1, 1)", Inserted(1), &["t"]),
     ("delete T(1, 2)", Deleted(1, 0), &["t"]),
@@ -117,8 +117,8 @@ const EVERY_REFUSAL: [Step; 10] = [
 const PUBLISHED_GROUNDINGS: [Step; 4] = [
     ("insert Flights(122, Paris)", Inserted(0), &[]),
     ("post k {} R(x) <- Flights(x, Paris)", Posted(0), &["k"]),
-    ("delete Flights(122, Paris)", Deleted(1, 0), &["k"]),
-    ("insert Flights(122, Rome)", Inserted(1), &["k"]),
+    ("delete Flights(122, Paris)", Deleted(1, 0), &[]),
+    ("insert Flights(122, Rome)", Inserted(1), &[]),
 ];
 
 const LIMITS: [Step; 2] = [
