@@ -1,8 +1,9 @@
 //! Edits: the first reason of each refusal, and copies.
 
-use crate::samples::{Shape, WORKED, admit, edit, kramer_and_jerry, shape_of, travel};
+use crate::same::are_same;
+use crate::samples::{JERRY, KRAMER, admit, admit_all, kramer_and_jerry, shape_of, travel};
 use cq_atom::Part;
-use cq_board::{Board, Why, Work, pools_stay_good, unifies_is_unify};
+use cq_board::{Board, Why, pools_stay_good, unifies_is_unify};
 use std::alloc::{AllocError, Global};
 use std::test::Fail;
 
@@ -58,27 +59,49 @@ fn every_refusal(rt: HostRuntime) -> Result<(), Fail> {
     Ok(())
 }
 
-/// Withdraws a query, with the work counted.
-fn withdraw_jerry(alloc: Global, board: &mut Board) -> Result<Option<Why>, AllocError> {
-    let edit = edit(alloc, "withdraw jerry")?;
-    board.admit_counted(&edit, &mut Work::new())
+/// Whether the board shows what a travel board with these lines does.
+fn shows(alloc: Global, board: &Board, lines: &[&str]) -> Result<bool, AllocError> {
+    let other = travel(alloc, lines)?;
+    are_same(alloc, board, &other)
 }
 
-/// The shape behind the withdrawal.
-const LEFT: Shape = Shape {
-    pending: 1,
-    edges: 0,
-    matched: 0,
-    rows: 4,
-    groundings: 3,
-};
+const NEWMAN: &str = "post newman {} N(z) <- Flights(z, Rome)";
+
+/// Edits of a board whose copy is kept: a query and a row come.
+fn edit_board(alloc: Global, board: &mut Board, copy: &Board) -> Result<bool, AllocError> {
+    admit_all(
+        alloc,
+        board,
+        [NEWMAN, "insert Flights(140, Rome)"].as_slice(),
+    )?;
+    let wanted = ["insert Flights(140, Rome)", KRAMER, JERRY, NEWMAN];
+    Ok(
+        shows(alloc, board, wanted.as_slice())?
+            && shows(alloc, copy, [KRAMER, JERRY].as_slice())?
+            && !are_same(alloc, board, copy)?,
+    )
+}
+
+/// Edits of the copy: a query and a row go.
+fn edit_copy(alloc: Global, board: &Board, copy: &mut Board) -> Result<bool, AllocError> {
+    let gone = ["withdraw jerry", "delete Flights(134, Paris)"];
+    admit_all(alloc, copy, gone.as_slice())?;
+    let wanted = ["insert Flights(140, Rome)", KRAMER, JERRY, NEWMAN];
+    Ok(
+        shows(
+            alloc,
+            copy,
+            ["delete Flights(134, Paris)", KRAMER].as_slice(),
+        )? && shows(alloc, board, wanted.as_slice())?,
+    )
+}
 
 #[test]
-fn copies(rt: HostRuntime) -> Result<(), Fail> {
-    let board = kramer_and_jerry(rt.alloc())?;
+fn copies_are_apart(rt: HostRuntime) -> Result<(), Fail> {
+    let mut board = kramer_and_jerry(rt.alloc())?;
     let mut copy = board.copy()?;
-    assert!(rt; shape_of(&copy) == Ok(WORKED));
-    assert!(rt; withdraw_jerry(rt.alloc(), &mut copy) == Ok(None));
-    assert!(rt; shape_of(&copy) == Ok(LEFT) && shape_of(&board) == Ok(WORKED));
+    assert!(rt; shows(rt.alloc(), &copy, [KRAMER, JERRY].as_slice())?);
+    assert!(rt; edit_board(rt.alloc(), &mut board, &copy)?);
+    assert!(rt; edit_copy(rt.alloc(), &board, &mut copy)?);
     Ok(())
 }

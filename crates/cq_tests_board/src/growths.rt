@@ -1,172 +1,177 @@
-//! Each growth of a call refused in turn. A board is looked at by the counts of what it shows: the reports on boards
-//! are compared with the crate of reports.
+//! Each growth of a call refused in turn, and calls that ask for none.
 
-use crate::samples::{Shape, admit_all, edit, shape_of};
-use cq_board::{Board, Edit, Limits};
-use cq_rel::Catalog;
-use cq_tests_growths::{Outcome, Tried, refusals};
-use std::alloc::{AllocError, Allocator};
+use crate::same::are_same;
+use crate::samples::{JERRY, KRAMER, TRAVEL, admit_all, edit, kramer_and_jerry, made};
+use cq_board::{Board, Edit};
+use cq_tests_growths::{Outcome, Refusing, Tried, refusals};
+use std::alloc::{AllocError, Allocator, Global};
+use std::test::Fail;
 
-const LIMITS: Limits = Limits {
-    pool: 2,
-    journal: 9,
-};
+/// The rows and the queries of a board, and an edit of it, all by lines.
+#[derive(Clone, Copy)]
+pub struct Call {
+    pub rows: &'static [&'static str],
+    pub queries: &'static [&'static str],
+    pub edit: &'static str,
+}
 
-/// A board with one row and one query.
-fn small<A: Allocator + Copy>(alloc: A) -> Result<Board<A>, AllocError> {
-    let mut catalog = Catalog::empty(alloc);
-    if catalog.declare("Flights", 1).is_err() {
-        return Err(AllocError);
-    }
-    let mut board = Board::begin(alloc, catalog, LIMITS)?;
-    let lines = [
-        "insert Flights(1)",
-        "post a {R(1, x)} R(2, x) <- Flights(x)",
-    ];
-    admit_all(alloc, &mut board, lines.as_slice())?;
+/// The board before the edit.
+fn board_before<A: Allocator + Copy>(alloc: A, call: Call) -> Result<Board<A>, AllocError> {
+    let mut board = made(alloc, call.rows)?;
+    admit_all(alloc, &mut board, call.queries)?;
     Ok(board)
 }
 
-/// The shape of the small board.
-const SMALL: Shape = Shape {
-    pending: 1,
-    edges: 0,
-    matched: 0,
-    rows: 1,
-    groundings: 1,
-};
+/// Whether the board shows what it did before the edit.
+fn is_before<A: Allocator + Copy>(
+    alloc: A,
+    board: &Board<A>,
+    call: Call,
+) -> Result<bool, AllocError> {
+    let other = board_before(alloc, call)?;
+    are_same(alloc, board, &other)
+}
 
-/// Done, where the board shows that; there is no telling where the look was refused a growth.
-fn done<A: Allocator + Copy>(board: &Board<A>, after: Shape) -> Outcome {
-    match shape_of(board) {
-        Ok(shape) => Outcome::done_if(shape == after),
+/// Whether the board shows what an edit with ample memory makes of it.
+fn is_edited<A: Allocator + Copy>(
+    alloc: A,
+    board: &Board<A>,
+    call: Call,
+) -> Result<bool, AllocError> {
+    let mut other = board_before(alloc, call)?;
+    admit_all(alloc, &mut other, [call.edit].as_slice())?;
+    are_same(alloc, board, &other)
+}
+
+/// Done, where that is what is shown; there is no telling where the look was refused a growth.
+fn done(shown: Result<bool, AllocError>) -> Outcome {
+    match shown {
+        Ok(shown) => Outcome::done_if(shown),
         Err(_) => Outcome::Unready,
     }
 }
 
-fn admitted<A: Allocator + Copy>(board: &mut Board<A>, edit: &Edit<A>, after: Shape) -> Outcome {
+/// Whether a refused edit left all as it was, and the same edit then is admitted.
+fn admits_again<A: Allocator + Copy>(
+    alloc: A,
+    board: &mut Board<A>,
+    edit: &Edit<A>,
+    call: Call,
+) -> bool {
+    is_before(alloc, board, call) == Ok(true)
+        && board.admit(edit) == Ok(None)
+        && is_edited(alloc, board, call) == Ok(true)
+}
+
+fn admitted<A: Allocator + Copy>(
+    alloc: A,
+    board: &mut Board<A>,
+    edit: &Edit<A>,
+    call: Call,
+) -> Outcome {
     match board.admit(edit) {
-        Ok(None) => done(board, after),
+        Ok(None) => done(is_edited(alloc, board, call)),
         Ok(Some(_)) => Outcome::Wrong,
-        Err(_) => Outcome::refused_if(
-            shape_of(board) == Ok(SMALL)
-                && board.admit(edit) == Ok(None)
-                && shape_of(board) == Ok(after),
-        ),
+        Err(_) => Outcome::refused_if(admits_again(alloc, board, edit, call)),
     }
 }
 
-/// The edit of the line at the small board, which leaves that shape.
-fn tried<A: Allocator + Copy>(alloc: A, line: &str, after: Shape) -> Outcome {
-    let Ok(mut board) = small(alloc) else {
-        return Outcome::Unready;
-    };
-    match edit(alloc, line) {
-        Ok(edit) => admitted(&mut board, &edit, after),
-        Err(_) => Outcome::Unready,
+pub fn tried<A: Allocator + Copy>(alloc: A, call: Call) -> Outcome {
+    match (board_before(alloc, call), edit(alloc, call.edit)) {
+        (Ok(mut board), Ok(edit)) => admitted(alloc, &mut board, &edit, call),
+        _ => Outcome::Unready,
     }
 }
 
 /// A query posted, which coordinates with the one that waits.
 struct Posting;
 
+const JERRY_COMES: Call = Call {
+    rows: &TRAVEL,
+    queries: &[KRAMER],
+    edit: JERRY,
+};
+
 impl Tried for Posting {
     fn tried<A: Allocator + Copy>(alloc: A) -> Outcome {
-        let after = Shape {
-            pending: 2,
-            edges: 2,
-            matched: 2,
-            rows: 1,
-            groundings: 1,
-        };
-        tried(alloc, "post b {R(2, y)} R(1, y) <- Flights(y)", after)
+        tried(alloc, JERRY_COMES)
     }
 }
 
 #[test]
-fn refused_growth_in_post(rt: HostRuntime) {
-    assert!(rt; matches!(refusals::<Posting>(rt.alloc()), Ok(6..)));
+fn refused_growth_in_admit(rt: HostRuntime) {
+    assert!(rt; matches!(refusals::<Posting>(rt.alloc()), Ok(20..)));
 }
 
-/// The query withdrawn.
-struct Withdrawing;
-
-impl Tried for Withdrawing {
-    fn tried<A: Allocator + Copy>(alloc: A) -> Outcome {
-        let after = Shape {
-            pending: 0,
-            edges: 0,
-            matched: 0,
-            rows: 1,
-            groundings: 0,
-        };
-        tried(alloc, "withdraw a", after)
-    }
-}
-
-#[test]
-fn refused_growth_in_withdraw(rt: HostRuntime) {
-    assert!(rt; refusals::<Withdrawing>(rt.alloc()).is_ok());
-}
-
-/// A row inserted.
+/// A row inserted, by which two queries gain a grounding.
 struct Inserting;
+
+const ROW_COMES: Call = Call {
+    rows: &["insert F(1)"],
+    queries: &["post a {A(x)} B(x) <- F(x)", "post b {B(x)} A(x) <- F(x)"],
+    edit: "insert F(2)",
+};
 
 impl Tried for Inserting {
     fn tried<A: Allocator + Copy>(alloc: A) -> Outcome {
-        let after = Shape {
-            rows: 2,
-            groundings: 2,
-            ..SMALL
-        };
-        tried(alloc, "insert Flights(2)", after)
+        tried(alloc, ROW_COMES)
     }
 }
 
 #[test]
-fn refused_growth_in_insert(rt: HostRuntime) {
-    assert!(rt; matches!(refusals::<Inserting>(rt.alloc()), Ok(1..)));
-}
-
-/// A row deleted.
-struct Deleting;
-
-impl Tried for Deleting {
-    fn tried<A: Allocator + Copy>(alloc: A) -> Outcome {
-        let after = Shape {
-            rows: 0,
-            groundings: 0,
-            ..SMALL
-        };
-        tried(alloc, "delete Flights(1)", after)
-    }
-}
-
-#[test]
-fn refused_growth_in_delete(rt: HostRuntime) {
-    assert!(rt; matches!(refusals::<Deleting>(rt.alloc()), Ok(1..)));
+fn refused_growth_in_an_insertion(rt: HostRuntime) {
+    assert!(rt; matches!(refusals::<Inserting>(rt.alloc()), Ok(10..)));
 }
 
 /// A board copied.
 struct Copying;
 
-fn copied<A: Allocator + Copy>(board: &Board<A>) -> Outcome {
+fn copied<A: Allocator + Copy>(alloc: A, board: &Board<A>) -> Outcome {
     match board.copy() {
-        Ok(copy) => done(&copy, SMALL),
-        Err(_) => Outcome::refused_if(shape_of(board) == Ok(SMALL) && board.copy().is_ok()),
+        Ok(copy) => done(is_before(alloc, &copy, ROW_COMES)),
+        Err(_) => Outcome::refused_if(match board.copy() {
+            Ok(copy) => is_before(alloc, &copy, ROW_COMES) == Ok(true),
+            Err(_) => false,
+        }),
     }
 }
 
 impl Tried for Copying {
     fn tried<A: Allocator + Copy>(alloc: A) -> Outcome {
-        match small(alloc) {
-            Ok(board) => copied(&board),
+        match board_before(alloc, ROW_COMES) {
+            Ok(board) => copied(alloc, &board),
             Err(_) => Outcome::Unready,
         }
     }
 }
 
 #[test]
-fn refused_growth_in_copies(rt: HostRuntime) {
-    assert!(rt; matches!(refusals::<Copying>(rt.alloc()), Ok(6..)));
+fn refused_growth_in_copy(rt: HostRuntime) {
+    assert!(rt; matches!(refusals::<Copying>(rt.alloc()), Ok(20..)));
+}
+
+/// How many growths the edit of the line asks for at the worked board; `None` where it is refused.
+fn asked(alloc: Global, line: &str) -> Result<Option<u64>, AllocError> {
+    let heap = Refusing::new(alloc, u64::MAX);
+    let mut board = kramer_and_jerry(&heap)?;
+    let edit = edit(&heap, line)?;
+    let before = heap.grown();
+    let told = board.admit(&edit)?;
+    let growths = heap.grown().saturating_sub(before);
+    Ok(if told.is_none() { Some(growths) } else { None })
+}
+
+#[test]
+fn what_goes_takes_no_memory(rt: HostRuntime) -> Result<(), Fail> {
+    for line in [
+        "withdraw kramer",
+        "withdraw jerry",
+        "delete Flights(122, Paris)",
+    ] {
+        assert!(rt; asked(rt.alloc(), line)? == Some(0), "{line}");
+    }
+    for line in ["post newman {} N(1) <-", "insert Flights(140, Paris)"] {
+        assert!(rt; matches!(asked(rt.alloc(), line)?, Some(1..)), "{line}");
+    }
+    Ok(())
 }

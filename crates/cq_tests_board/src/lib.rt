@@ -1,14 +1,22 @@
-//! Tests of `cq_board`: each public call once with ample memory, and each growth of an edit refused in turn. Edits are
-//! read from lines. The worked rows themselves stand in the cases, as whole scripts. Nothing but tests is here, and no
-//! crate stands on this one.
+//! Tests of `cq_board`: the worked rows with their work, lists of edits beside boards from scratch, each public call once
+//! with ample memory, and each growth of an edit refused in turn. Edits are read from lines. What is printed of the worked
+//! rows stands in the cases, as whole scripts. Nothing but tests is here, and no crate stands on this one.
 #![tactic(auto)]
 
+#[cfg(test)]
+mod able;
 #[cfg(test)]
 mod choices;
 #[cfg(test)]
 mod edits;
 #[cfg(test)]
 mod growths;
+#[cfg(test)]
+mod lists;
+#[cfg(test)]
+mod rows;
+#[cfg(test)]
+mod same;
 #[cfg(test)]
 mod samples;
 #[cfg(test)]

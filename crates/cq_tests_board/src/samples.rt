@@ -1,7 +1,7 @@
 //! Boards that several tests use.
 
 use cq_board::{Board, Edit, EditKind, Limits, Why};
-use cq_rel::{Catalog, CatalogFault};
+use cq_rel::Catalog;
 use cq_text::{CommandKind, read_command};
 use std::alloc::{AllocError, Allocator};
 
@@ -64,29 +64,36 @@ pub fn admit_all<A: Allocator + Copy>(
     Ok(())
 }
 
-/// `Flights` and `Airlines`, both of arity 2.
-pub fn travel_catalog<A: Allocator + Copy>(alloc: A) -> Result<Catalog<A>, CatalogFault> {
+/// The relations of all boards here, each with its arity.
+pub const RELATIONS: [(&str, usize); 4] = [("Flights", 2), ("Airlines", 2), ("T", 2), ("F", 1)];
+
+/// The catalog of these relations; a refused one is want of memory.
+pub fn catalog<A: Allocator + Copy>(alloc: A) -> Result<Catalog<A>, AllocError> {
     let mut catalog = Catalog::empty(alloc);
-    catalog.declare("Flights", 2)?;
-    catalog.declare("Airlines", 2)?;
+    for (relation, arity) in RELATIONS {
+        if catalog.declare(relation, arity).is_err() {
+            return Err(AllocError);
+        }
+    }
     Ok(catalog)
 }
 
-/// A board without rows and queries, over the catalog.
-fn begun<A: Allocator + Copy>(
-    alloc: A,
-    catalog: Result<Catalog<A>, CatalogFault>,
-) -> Result<Board<A>, AllocError> {
-    match catalog {
-        Ok(catalog) => Board::begin(alloc, catalog, LIMITS),
-        Err(_) => Err(AllocError),
-    }
+/// A board without rows and queries, for so many queries.
+pub fn begun<A: Allocator + Copy>(alloc: A, pool: usize) -> Result<Board<A>, AllocError> {
+    let catalog = catalog(alloc)?;
+    Board::begin(alloc, catalog, Limits { pool, journal: 9 })
 }
 
-/// The travel setup with its rows, and the queries of these lines.
+/// A board of what these lines put in.
+pub fn made<A: Allocator + Copy>(alloc: A, lines: &[&str]) -> Result<Board<A>, AllocError> {
+    let mut board = begun(alloc, LIMITS.pool)?;
+    admit_all(alloc, &mut board, lines)?;
+    Ok(board)
+}
+
+/// The travel setup with its rows, and what these lines put in.
 pub fn travel<A: Allocator + Copy>(alloc: A, lines: &[&str]) -> Result<Board<A>, AllocError> {
-    let mut board = begun(alloc, travel_catalog(alloc))?;
-    admit_all(alloc, &mut board, TRAVEL.as_slice())?;
+    let mut board = made(alloc, TRAVEL.as_slice())?;
     admit_all(alloc, &mut board, lines)?;
     Ok(board)
 }
@@ -94,13 +101,6 @@ pub fn travel<A: Allocator + Copy>(alloc: A, lines: &[&str]) -> Result<Board<A>,
 /// The travel setup with the two worked queries.
 pub fn kramer_and_jerry<A: Allocator + Copy>(alloc: A) -> Result<Board<A>, AllocError> {
     travel(alloc, [KRAMER, JERRY].as_slice())
-}
-
-/// A board without relations, and the queries of these lines.
-pub fn bare<A: Allocator + Copy>(alloc: A, lines: &[&str]) -> Result<Board<A>, AllocError> {
-    let mut board = begun(alloc, Ok(Catalog::empty(alloc)))?;
-    admit_all(alloc, &mut board, lines)?;
-    Ok(board)
 }
 
 /// Counts of what a board shows.
@@ -116,7 +116,7 @@ pub struct Shape {
 }
 
 /// How many groundings the first query has; none where there is no query.
-fn first_grounded<A: Allocator>(board: &Board<A>) -> usize {
+fn first_grounded<A: Allocator + Copy>(board: &Board<A>) -> usize {
     let Some(name) = board.name_at(0) else {
         return 0;
     };

@@ -1,6 +1,6 @@
 //! Boards from scratch.
 
-use crate::samples::{JERRY, KRAMER, LIMITS, TRAVEL, WORKED, shape_of, travel_catalog};
+use crate::samples::{JERRY, KRAMER, LIMITS, TRAVEL, WORKED, catalog, shape_of};
 use cq_atom::{Name, Query, Row};
 use cq_board::{Board, ScratchFault, Why};
 use cq_rel::Catalog;
@@ -50,7 +50,7 @@ fn is_worked(alloc: Global, catalog: Catalog, rows: &[Row]) -> Result<bool, Scra
 #[test]
 fn from_scratch(rt: HostRuntime) -> Result<(), Fail> {
     let rows = rows(rt.alloc(), TRAVEL.as_slice())?;
-    let catalog = travel_catalog(rt.alloc())?;
+    let catalog = catalog(rt.alloc())?;
     assert!(rt; is_worked(rt.alloc(), catalog, &rows) == Ok(true));
     Ok(())
 }
@@ -61,7 +61,7 @@ fn refused_from_scratch(rt: HostRuntime) -> Result<(), Fail> {
         rt.alloc(),
         ["insert Flights(1, 2)", "insert Flights(1)"].as_slice(),
     )?;
-    let catalog = travel_catalog(rt.alloc())?;
+    let catalog = catalog(rt.alloc())?;
     let refused = ScratchFault::Refused(Why::Arity { place: 0 });
     assert!(rt; is_worked(rt.alloc(), catalog, &rows) == Err(refused));
     Ok(())

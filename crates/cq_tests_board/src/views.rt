@@ -1,6 +1,6 @@
 //! What a board shows, by names and in posting order.
 
-use crate::samples::{LIMITS, WORKED, bare, kramer_and_jerry, shape_of};
+use crate::samples::{LIMITS, WORKED, kramer_and_jerry, made, shape_of};
 use cq_atom::Name;
 use cq_board::{Board, Crowd, Link};
 use cq_match::Edge;
@@ -157,7 +157,7 @@ fn crowded_supplier(rt: HostRuntime) -> Result<(), Fail> {
         "post h1 {} R(1) <-",
         "post h2 {Z(1)} R(2), R(1) <-",
     ];
-    let board = bare(rt.alloc(), lines.as_slice())?;
+    let board = made(rt.alloc(), lines.as_slice())?;
     let links = [("h1", 0, "w", 0), ("h2", 1, "w", 0)];
     assert!(rt; are_edges(&board, links.as_slice()) == Ok(true));
     assert!(rt; are_matched(&board, ["w", "h1"].as_slice()) == Ok(true));

@@ -191,10 +191,10 @@ pub fn to_paris(alloc: Global) -> Result<Query, Bad> {
     Query::new(alloc, Vec::new(alloc), heads, body)
 }
 
-/// Whether a look shows so many entries, a matched query, and so many groundings of it.
+/// Whether a look shows so many entries, so many groundings of the query, and it matched where there are some.
 fn shows(floor: &mut BoardFloor, name: &Name, count: u64, groundings: usize) -> bool {
     looks(floor, 0, Ok(Answer::Looked(count)))
-        && floor.board().is_matched(name) == Some(true)
+        && floor.board().is_matched(name) == Some(groundings > 0)
         && match floor.board().groundings(name) {
             Some(found) => found.count() == groundings,
             None => false,

@@ -53,11 +53,11 @@ fn submits_later(alloc: Global, desk: &mut BoardDesk) -> bool {
     }
 }
 
-/// Whether the published board has the query matched, with the flight 122 as its one grounding, or
+/// Whether the published board has the query matched, with the flight 122 as its one grounding, or waiting,
 /// with none.
 fn shows(desk: &BoardDesk, name: &Name, grounded: bool) -> bool {
     let shown = desk.publisher().published();
-    shown.is_matched(name) == Some(true)
+    shown.is_matched(name) == Some(grounded)
         && match shown.groundings(name) {
             Some(found) => {
                 found.has(&[Value::num(122)]) == grounded && found.count() == usize::from(grounded)

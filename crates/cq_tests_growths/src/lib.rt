@@ -5,7 +5,8 @@
 //! refuses the second, and so on. Nothing but tests uses it.
 #![tactic(auto)]
 
-use cq_refusing::Refusing;
+/// The allocator, for a test that counts what a call asks for.
+pub use cq_refusing::Refusing;
 use std::alloc::{Allocator, Global};
 
 /// What came of a call on an allocator that refuses one growth.
