@@ -20,10 +20,10 @@ use cq_atom::{Name, Query, Row};
 use cq_rel::{Catalog, Tables};
 use std::alloc::{AllocError, Allocator, Global};
 use std::marker::Model;
+use std::mem;
 
 /// A pool and its board. Contracts see the pool: that the stores that are kept are those of the pool,
 /// and with them the board of the pool, stands in this type.
-#[derive(Drop)]
 pub struct Board<A: Allocator = Global> {
     alloc: A,
     limits: Limits,
@@ -40,6 +40,20 @@ impl<A: Allocator> Model for Board<A> {
     ghost view = { λ b. record { limits = b.limits; tables = b.tables; pending = pending_of b.stores.roster b.stores.findings } };
 
     ghost invariant = { λ b. IsKeptIn (record { limits = b.limits; tables = b.tables; pending = pending_of b.stores.roster b.stores.findings }) b.stores.roster b.stores.findings b.stores.links b.stores.matcher };
+}
+
+// By hand, so that who lets a board go calls this, and does not take its stores apart.
+impl<A: Allocator> Drop for Board<A> {
+    fn drop(self) {
+        let Board {
+            alloc: _,
+            limits: _,
+            tables,
+            stores,
+        } = self;
+        mem::drop(tables);
+        mem::drop(stores);
+    }
 }
 
 impl<A: Allocator + Copy> Board<A> {
