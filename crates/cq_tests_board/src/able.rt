@@ -43,8 +43,9 @@ const fn edge(provider: usize, waiter: usize) -> Edge {
 #[test]
 fn waiting_providers(rt: HostRuntime) -> Result<(), Fail> {
     let board = made(rt.alloc(), [P, Q].as_slice())?;
-    let edges = board.edges_by_place()?;
-    assert!(rt; edges.as_slice() == [edge(1, 0), edge(0, 1)].as_slice());
+    let edges = board.edges_by_place();
+    drop(board);
+    assert!(rt; edges?.as_slice() == [edge(1, 0), edge(0, 1)].as_slice());
     Ok(())
 }
 

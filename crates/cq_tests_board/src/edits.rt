@@ -62,7 +62,9 @@ fn every_refusal(rt: HostRuntime) -> Result<(), Fail> {
 /// Whether the board shows what a travel board with these lines does.
 fn shows(alloc: Global, board: &Board, lines: &[&str]) -> Result<bool, AllocError> {
     let other = travel(alloc, lines)?;
-    are_same(alloc, board, &other)
+    let same = are_same(alloc, board, &other);
+    drop(other);
+    same
 }
 
 const NEWMAN: &str = "post newman {} N(z) <- Flights(z, Rome)";
@@ -96,12 +98,28 @@ fn edit_copy(alloc: Global, board: &Board, copy: &mut Board) -> Result<bool, All
     )
 }
 
+/// Whether board and copy show the same at first, and edits of either leave the other as it was.
+fn are_apart(alloc: Global, board: &mut Board, copy: &mut Board) -> Result<bool, AllocError> {
+    Ok(
+        shows(alloc, copy, [KRAMER, JERRY].as_slice())?
+            && edit_board(alloc, board, copy)?
+            && edit_copy(alloc, board, copy)?,
+    )
+}
+
+/// The same of a board and a copy that is made of it.
+fn is_apart(alloc: Global, board: &mut Board) -> Result<bool, AllocError> {
+    let mut copy = board.copy()?;
+    let apart = are_apart(alloc, board, &mut copy);
+    drop(copy);
+    apart
+}
+
 #[test]
 fn copies_are_apart(rt: HostRuntime) -> Result<(), Fail> {
     let mut board = kramer_and_jerry(rt.alloc())?;
-    let mut copy = board.copy()?;
-    assert!(rt; shows(rt.alloc(), &copy, [KRAMER, JERRY].as_slice())?);
-    assert!(rt; edit_board(rt.alloc(), &mut board, &copy)?);
-    assert!(rt; edit_copy(rt.alloc(), &board, &mut copy)?);
+    let apart = is_apart(rt.alloc(), &mut board);
+    drop(board);
+    assert!(rt; apart == Ok(true));
     Ok(())
 }

@@ -29,7 +29,9 @@ fn is_before<A: Allocator + Copy>(
     call: Call,
 ) -> Result<bool, AllocError> {
     let other = board_before(alloc, call)?;
-    are_same(alloc, board, &other)
+    let same = are_same(alloc, board, &other);
+    drop(other);
+    same
 }
 
 /// Whether the board shows what an edit with ample memory makes of it.
@@ -39,8 +41,12 @@ fn is_edited<A: Allocator + Copy>(
     call: Call,
 ) -> Result<bool, AllocError> {
     let mut other = board_before(alloc, call)?;
-    admit_all(alloc, &mut other, [call.edit].as_slice())?;
-    are_same(alloc, board, &other)
+    let same = match admit_all(alloc, &mut other, [call.edit].as_slice()) {
+        Ok(()) => are_same(alloc, board, &other),
+        Err(refused) => Err(refused),
+    };
+    drop(other);
+    same
 }
 
 /// Done, where that is what is shown; there is no telling where the look was refused a growth.
@@ -150,15 +156,26 @@ fn refused_growth_in_copy(rt: HostRuntime) {
     assert!(rt; matches!(refusals::<Copying>(rt.alloc()), Ok(20..)));
 }
 
-/// How many growths the edit of the line asks for at the worked board; `None` where it is refused.
-fn asked(alloc: Global, line: &str) -> Result<Option<u64>, AllocError> {
-    let heap = Refusing::new(alloc, u64::MAX);
-    let mut board = kramer_and_jerry(&heap)?;
-    let edit = edit(&heap, line)?;
+/// How many growths the edit of the line asks the heap for; `None` where it is refused.
+fn asked_of<'a>(
+    heap: &'a Refusing<Global>,
+    board: &mut Board<&'a Refusing<Global>>,
+    line: &str,
+) -> Result<Option<u64>, AllocError> {
+    let edit = edit(heap, line)?;
     let before = heap.grown();
     let told = board.admit(&edit)?;
     let growths = heap.grown().saturating_sub(before);
     Ok(if told.is_none() { Some(growths) } else { None })
+}
+
+/// The same at the worked board.
+fn asked(alloc: Global, line: &str) -> Result<Option<u64>, AllocError> {
+    let heap = Refusing::new(alloc, u64::MAX);
+    let mut board = kramer_and_jerry(&heap)?;
+    let asked = asked_of(&heap, &mut board, line);
+    drop(board);
+    asked
 }
 
 #[test]

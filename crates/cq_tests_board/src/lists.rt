@@ -203,7 +203,9 @@ impl Twin {
     fn is_kept(&self, alloc: Global) -> Result<bool, ScratchFault> {
         let catalog = catalog(alloc)?;
         let board = Board::scratch(alloc, catalog, LIMITS, &self.queries, &self.rows)?;
-        Ok(are_same(alloc, &self.board, &board)?)
+        let same = are_same(alloc, &self.board, &board);
+        drop(board);
+        Ok(same?)
     }
 }
 
@@ -235,15 +237,27 @@ fn change_five(
 }
 
 /// Whether the board is kept under fifty edits, of which each fifth is looked behind.
-fn keep_list(alloc: Global, draws: &mut Draws, seen: &mut Seen) -> Result<bool, ScratchFault> {
-    let mut twin = Twin::begin(alloc)?;
+fn keep(
+    alloc: Global,
+    draws: &mut Draws,
+    twin: &mut Twin,
+    seen: &mut Seen,
+) -> Result<bool, ScratchFault> {
     for _ in 0..10 {
-        change_five(alloc, draws, &mut twin, seen)?;
+        change_five(alloc, draws, twin, seen)?;
         if !twin.is_kept(alloc)? {
             return Ok(false);
         }
     }
     Ok(true)
+}
+
+/// The same of a board that begins.
+fn keep_list(alloc: Global, draws: &mut Draws, seen: &mut Seen) -> Result<bool, ScratchFault> {
+    let mut twin = Twin::begin(alloc)?;
+    let kept = keep(alloc, draws, &mut twin, seen);
+    drop(twin);
+    kept
 }
 
 /// The first list under which the board is not kept.

@@ -205,20 +205,31 @@ fn other_step(
     Ok(None)
 }
 
+/// The first row and line that do not go as told, behind the setup.
+fn other_behind(
+    alloc: Global,
+    board: &mut Board,
+    worked: Worked,
+) -> Result<Option<(&'static str, &'static str)>, AllocError> {
+    let (setup, _, rows) = worked;
+    admit_all(alloc, board, setup)?;
+    for (name, steps) in rows {
+        if let Some(line) = other_step(alloc, board, steps)? {
+            return Ok(Some((*name, line)));
+        }
+    }
+    Ok(None)
+}
+
 /// The first row and line that do not go as told.
 pub fn other_row(
     alloc: Global,
     worked: Worked,
 ) -> Result<Option<(&'static str, &'static str)>, AllocError> {
-    let (setup, pool, rows) = worked;
-    let mut board = begun(alloc, pool)?;
-    admit_all(alloc, &mut board, setup)?;
-    for (name, steps) in rows {
-        if let Some(line) = other_step(alloc, &mut board, steps)? {
-            return Ok(Some((*name, line)));
-        }
-    }
-    Ok(None)
+    let mut board = begun(alloc, worked.1)?;
+    let other = other_behind(alloc, &mut board, worked);
+    drop(board);
+    other
 }
 
 #[test]
