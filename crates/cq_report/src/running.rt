@@ -149,33 +149,6 @@ fn serve_all<A: Allocator + Copy, R: Source, W: Sink>(
     })
 }
 
-/// Serves all that is read by a machine that begins. What holds the bytes is made here, so that the machine, which is large,
-/// stands in a function with nothing else to let go.
-fn serve_with<A: Allocator + Copy, R: Source, W: Sink>(
-    machine: &mut Machine<A>,
-    alloc: A,
-    reader: &mut R,
-    output: &mut Output<'_, W, A>,
-) -> Result<(), RunFault>
-    requires machine { machine.old ≡ begin_state }
-    requires reads { R.reads_made reader.old < 2 ^ 62 }
-    requires failures { R.failures_met reader.old < 2 ^ 62 }
-    requires write_failures { W.write_failures output.old.sink.now < 2 ^ 62 }
-    requires held { output.old.held.now.items ≡ [] }
-    ensures ok { OnOk result (Replayed W.taken W.write_failures (R.left reader.old) (R.left reader.new) output.old output.new) }
-    ensures read { IfErr result (λ fault. IfRead fault (λ turn. BrokeOff W.taken W.write_failures (R.left reader.old) (R.left reader.new) output.old output.new)) }
-    ensures turn { IfErr result (λ fault. IfRead fault (λ turn. FailedAtTurn turn (R.reads_made reader.old) (R.reads_made reader.new) (R.failures_met reader.old) (R.failures_met reader.new))) }
-    ensures err { IfErr result (λ fault. Ended W.taken W.write_failures (R.left reader.old) (R.left reader.new) output.old output.new fault) }
-    ensures writer { output.new.sink.ghost_name ≡ output.old.sink.ghost_name }
-    ensures write_failures { MatchResult result (λ _. W.write_failures output.new.sink.now ≡ W.write_failures output.old.sink.now) (λ fault. W.write_failures output.new.sink.now ≡ W.write_failures output.old.sink.now + failures_of fault) }
-    ensures reads { R.reads_made reader.new ≤ R.reads_made reader.old + MAX_READS }
-    ensures read_failures { MatchResult result (λ _. R.failures_met reader.new ≡ R.failures_met reader.old) (λ fault. (IsOfRead fault → ⊥) → R.failures_met reader.new ≡ R.failures_met reader.old) }
-{
-    let mut line = Line::new(alloc);
-    let mut piece = [0u8; MAX_PIECE];
-    serve_all(machine, &mut line, &mut piece, reader, output)
-}
-
 /// Serves all that is read, from the first line on.
 fn replay<A: Allocator + Copy, R: Source, W: Sink>(
     alloc: A,
@@ -196,7 +169,9 @@ fn replay<A: Allocator + Copy, R: Source, W: Sink>(
     ensures read_failures { MatchResult result (λ _. R.failures_met reader.new ≡ R.failures_met reader.old) (λ fault. (IsOfRead fault → ⊥) → R.failures_met reader.new ≡ R.failures_met reader.old) }
 {
     let mut machine = Machine::begin(alloc);
-    let served = serve_with(&mut machine, alloc, reader, output);
+    let mut line = Line::new(alloc);
+    let mut piece = [0u8; MAX_PIECE];
+    let served = serve_all(&mut machine, &mut line, &mut piece, reader, output);
     mem::drop(machine);
     served
 }
