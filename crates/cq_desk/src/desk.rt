@@ -6,6 +6,7 @@ ghost use Rattle.cq_desk.specs.History.{edits_of, grown, BeginsWith, StandsLast}
 ghost use Rattle.cq_desk.specs.Desk.{IsAnswer, with_entry};
 ghost use Rattle.cq_desk.specs.Replies.{MatchEnd, accepted, entries_by, journal_edits, replies_at, reply_at};
 
+use crate::gate::{Gate, OpenGate};
 use crate::journal::Entry;
 use crate::live::{Live, NoMemory};
 use crate::publisher::Publisher;
@@ -175,6 +176,31 @@ impl<L: Live, P: Publisher<L>, A: Allocator + Copy> Desk<L, P, A> {
         ensures last { IfOk result (λ submitted. MatchEnd submitted.end (λ _. StandsLast (accepted asked.items submitted.replies.items) (P.shown self.new.publisher)) ⊤ ⊤) }
         ensures err { OnErr result (self.new ≡ self.old) }
     {
+        self.submit_past(author, asked, leave, &OpenGate)
+    }
+
+    /// The same, with the gate passed between entering and publishing.
+    ///
+    /// # Errors
+    /// `NoMemory` where there was no room for the replies. Nothing was entered or published then, and
+    /// the gate was not passed.
+    pub fn submit_past<G: Gate>(
+        &mut self,
+        author: usize,
+        asked: Vec<L::Edit, A>,
+        leave: &P::Leave,
+        gate: &G,
+    ) -> Result<Submitted<L::Why, A>, NoMemory>
+        ensures limit { self.new.limit ≡ self.old.limit }
+        ensures opening { P.opening self.new.publisher ≡ P.opening self.old.publisher }
+        ensures replies { IfOk result (λ submitted. submitted.replies.items ≡ replies_at L.after L.why (P.opening self.old.publisher) self.old.limit (journal_edits self.old.journal) (take (length submitted.replies.items) asked.items)) }
+        ensures journal { IfOk result (λ submitted. self.new.journal ≡ self.old.journal ++ entries_by author (accepted asked.items submitted.replies.items)) }
+        ensures tried { IfOk result (λ submitted. MatchEnd submitted.end (λ _. length submitted.replies.items ≡ length asked.items) (length submitted.replies.items < length asked.items) (length submitted.replies.items ≡ length asked.items)) }
+        ensures count { IfOk result (λ submitted. MatchEnd submitted.end (λ count. count ≡ length self.new.journal) ⊤ ⊤) }
+        ensures shown { IfOk result (λ submitted. MatchEnd submitted.end (λ _. edits_of (P.shown self.new.publisher) ≡ journal_edits self.new.journal) (self.new.publisher ≡ self.old.publisher) (P.shown self.new.publisher ≡ P.shown self.old.publisher)) }
+        ensures last { IfOk result (λ submitted. MatchEnd submitted.end (λ _. StandsLast (accepted asked.items submitted.replies.items) (P.shown self.new.publisher)) ⊤ ⊤) }
+        ensures err { OnErr result (self.new ≡ self.old) }
+    {
         let alloc = *asked.allocator();
         let mut replies = Vec::new(alloc);
         replies.reserve(asked.len())?;
@@ -188,6 +214,7 @@ impl<L: Live, P: Publisher<L>, A: Allocator + Copy> Desk<L, P, A> {
             };
             replies.push_reserved(reply);
         }
+        gate.pass();
         match self.publish(leave) {
             Ok(count) => Ok(Submitted {
                 replies,

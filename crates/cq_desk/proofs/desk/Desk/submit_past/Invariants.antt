@@ -1,7 +1,7 @@
 use Rattle.std.proofs.Common.{◌≡◌, ◌+◌, ◌≤◌, ◌++◌, length, vec_len, vec_capacity}
 use Rattle.std.specs.Vec.Iter.{into_iter_items, into_iter_len}
 use Rattle.cq_desk.specs.Replies.{journal_edits, accepted, entries_by, replies_at}
-use Rattle.cq_desk.proofs.desk.Desk.submit.Given as goal
+use Rattle.cq_desk.proofs.desk.Desk.submit_past.Given as goal
 
 abbrev pub invariant-loop-edit : goal.invariant-loop-edit
 invariant-loop-edit g l = let a = l.initial.self in

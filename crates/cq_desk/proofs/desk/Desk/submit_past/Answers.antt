@@ -5,7 +5,7 @@ use mathlib.Core.List.{IsPrefix}
 use Rattle.cq_desk.specs.History.{edits_of, grown, StandsLast}
 use Rattle.cq_desk.specs.Replies.{journal_edits, accepted, entries_by, reply_at}
 use Rattle.cq_desk.proofs.Replying.{accepted-more, edits_entered, nothing_left, published_last, replied_on, taken_in}
-use Rattle.cq_desk.proofs.desk.Desk.submit.Goals as goal
+use Rattle.cq_desk.proofs.desk.Desk.submit_past.Goals as goal
 
 pub loop-edit-preserved : goal.loop-edit-preserved
 loop-edit-preserved g c = let at = c.loop-edit in let inv = at.invariant in let a = c.args.self.now in

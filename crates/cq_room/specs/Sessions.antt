@@ -1,0 +1,13 @@
+-- What contracts see of a session and of a look. (this project's profile)
+use Rattle.std.specs.Prelude.{ℕ, List, [], map}
+use Rattle.std.specs.List.{range_with_len}
+use Rattle.cq_desk.specs.History.{History}
+
+-- The session's number, and the publications that it has seen or heard of; of a look, those that it shows.
+pub record SessionRecord (E : Type 0) : Type 0 where
+  pub number : ℕ
+  pub history : History E
+
+-- So many sessions, numbered from 0, that have seen nothing.
+abbrev pub newcomers : {E : Type 0} → ℕ → List (SessionRecord E)
+newcomers sessions = map (λ k. record { number = k; history = [] }) (range_with_len 0 sessions)

@@ -1,0 +1,54 @@
+//! Fronts: what a publish hands on.
+
+ghost use Rattle.std.specs.Prelude.{◌≡◌, [], length};
+ghost use Rattle.cq_desk.specs.History.{edits_of};
+ghost use Rattle.cq_room.specs.Marks.{publications, fresh_in};
+
+use crate::names::RoomName;
+use crate::trail::Trail;
+use cq_desk::Live;
+use std::marker::Model;
+
+/// What a publish hands on, for other sessions to hear: that so much is published. Contracts see its
+/// history.
+#[derive(Drop)]
+pub struct Front<L: Live, N: RoomName<L::Content>> {
+    pub(crate) trail: Trail<L, N>,
+}
+
+impl<L: Live, N: RoomName<L::Content>> Model for Front<L, N> {
+    ghost use Rattle.std.specs.Prelude.{◌≡◌, []};
+    ghost use Rattle.cq_desk.specs.History.{History};
+    ghost use Rattle.cq_room.specs.Marks.{publications, fresh_in};
+
+    ghost Value = { History L.Edit };
+
+    ghost view = { λ f. publications f.trail };
+
+    ghost invariant = { λ f. fresh_in f.trail ≡ [] };
+}
+
+impl<L: Live, N: RoomName<L::Content>> Front<L, N> {
+    pub(crate) fn over(trail: Trail<L, N>) -> Front<L, N>
+        requires { fresh_in trail ≡ [] }
+        ensures { result ≡ publications trail }
+    {
+        Front { trail }
+    }
+
+    /// How many entries are published in it.
+    pub fn count(&self) -> u64
+        ensures { result ≡ length (edits_of self.now) }
+    {
+        self.trail.count()
+    }
+
+    /// A front with the same history.
+    pub fn copy(&self) -> Front<L, N>
+        ensures { result ≡ self.now }
+    {
+        Front {
+            trail: self.trail.again(),
+        }
+    }
+}

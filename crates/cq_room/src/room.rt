@@ -1,0 +1,144 @@
+//! A room: a desk under one lock, and sessions that look at what it publishes.
+
+ghost use Rattle.std.specs.Prelude.{◌≡◌, ◌<◌, [], ◌∷◌, ◌++◌, length, None, IfOk, OnErr, MatchBool, MatchOption, ⊤};
+ghost use mathlib.Core.List.{IsPrefix};
+ghost use Rattle.cq_desk.specs.History.{edits_of};
+ghost use Rattle.cq_desk.specs.Replies.{MatchEnd, accepted, entries_by, journal_edits};
+ghost use Rattle.cq_room.specs.Marks.{edits_in};
+ghost use Rattle.cq_room.specs.Receipts.{AreReplies, IsPublished};
+
+use crate::front::Front;
+use crate::names::RoomName;
+use crate::session::Session;
+use crate::trail::Trail;
+use cq_desk::{Desk, End, Gate, Live, NoMemory, Publisher, Submitted};
+use std::alloc::{Allocator, Global};
+use std::marker::{Model, PhantomData};
+use std::sync::{Mutex, Wait};
+
+/// A publisher that sessions look at, and whose history they know.
+pub trait Watched<L: Live, N: RoomName<L::Content>>: Publisher<L>
+where
+    Self::Leave: Wait,
+{
+    /// The trail of the whole history.
+    fn logged(&self) -> &Trail<L, N>
+        ensures { edits_in result.now ≡ edits_of (Self.history self.now) ++ Self.pending self.now };
+
+    /// A front with the publications that are shown.
+    fn front(&self) -> Front<L, N>
+        ensures { result ≡ Self.shown self.now };
+}
+
+/// What lies under the lock. Contracts see the journal and what is shown. That the room's name
+/// names the opening content and the limit stands in this type.
+#[derive(Drop)]
+pub struct LockedDesk<L: Live, N: RoomName<L::Content>, P: Publisher<L>, A: Allocator = Global> {
+    pub(crate) desk: Desk<L, P, A>,
+    pub(crate) of: PhantomData<N>,
+}
+
+impl<L: Live, N: RoomName<L::Content>, P: Publisher<L>, A: Allocator> Model
+    for LockedDesk<L, N, P, A> {
+    ghost use Rattle.std.specs.Prelude.{◌≡◌, ◌∷◌, []};
+    ghost use Rattle.cq_room.specs.Room.{LockedRecord};
+
+    ghost Value = { LockedRecord L.Edit };
+
+    ghost view = { λ k. record { journal = k.desk.journal; shown = P.shown k.desk.publisher } };
+
+    ghost invariant = { λ k. (P.opening k.desk.publisher ∷ [] ≡ N.opening) × (k.desk.limit ≡ N.limit) };
+}
+
+/// What the sessions of a room share: the desk, under one lock. A look takes no part in the lock.
+#[derive(Drop)]
+pub struct Room<L: Live, N: RoomName<L::Content>, P: Publisher<L>, A: Allocator = Global> {
+    pub(crate) lock: Mutex<LockedDesk<L, N, P, A>>,
+}
+
+/// The replies to a list of edits, how it ended, and what other sessions can hear of it.
+#[derive(Drop)]
+pub struct Receipt<L: Live, N: RoomName<L::Content>, A: Allocator = Global> {
+    /// The replies in the order of the edits, and the end.
+    pub submitted: Submitted<L::Why, A>,
+    /// What is published now. It is there exactly where the end is `Published`.
+    pub front: Option<Front<L, N>>,
+}
+
+impl<L: Live, N: RoomName<L::Content>, P: Publisher<L>, A: Allocator> Room<L, N, P, A> {
+    /// A room over the desk.
+    pub(crate) fn over(desk: Desk<L, P, A>) -> Room<L, N, P, A>
+        requires opening { P.opening desk.publisher ∷ [] ≡ N.opening }
+        requires limit { desk.limit ≡ N.limit }
+    {
+        Room {
+            lock: Mutex::new(LockedDesk {
+                desk,
+                of: PhantomData,
+            }),
+        }
+    }
+}
+
+/// Whether the journal begins with what the session has seen. It always does.
+pub(crate) fn knows<L: Live, N: RoomName<L::Content>, P: Watched<L, N>, A: Allocator + Copy>(
+    desk: &Desk<L, P, A>,
+    session: &Session<L, N, A>,
+) -> bool
+where
+    P::Leave: Wait,
+    ensures { MatchBool result (IsPrefix (edits_of session.now.history) (journal_edits desk.now.journal)) ⊤ }
+{
+    session.is_behind(desk.publisher().logged())
+}
+
+impl<L: Live, N: RoomName<L::Content>, P: Watched<L, N>, A: Allocator + Copy> LockedDesk<L, N, P, A>
+where
+    P::Leave: Wait,
+{
+    /// Returns where the journal begins with what the session has seen, which is always so.
+    fn await_known(&self, rt: &P::Leave, session: &Session<L, N, A>)
+        ensures { IsPrefix (edits_of session.now.history) (journal_edits self.now.journal) }
+    {
+        if knows(&self.desk, session) {
+            return;
+        }
+        for _ in rt.forever() {}
+        unreachable!()
+    }
+
+    /// A front with what is shown, where that was published.
+    fn front_at(&self, end: End) -> Option<Front<L, N>>
+        ensures { MatchEnd end (λ _. MatchOption result ⊥ (λ front. front ≡ self.now.shown)) (result ≡ None) (result ≡ None) }
+    {
+        match end {
+            End::Published(_) => Some(self.desk.publisher().front()),
+            End::Stopped => None,
+            End::Unpublished => None,
+        }
+    }
+
+    /// Enters edits one after another, passes the gate, publishes, and makes a front.
+    pub(crate) fn submit_past<G: Gate>(
+        &mut self,
+        rt: &P::Leave,
+        session: &Session<L, N, A>,
+        asked: Vec<L::Edit, A>,
+        gate: &G,
+    ) -> Result<Receipt<L, N, A>, NoMemory>
+        ensures seen { IfOk result (λ _. IsPrefix (edits_of session.now.history) (journal_edits self.old.journal)) }
+        ensures replies { IfOk result (λ receipt. AreReplies L.after L.why N.opening N.limit (journal_edits self.old.journal) asked.items receipt.submitted.replies.items) }
+        ensures journal { IfOk result (λ receipt. self.new.journal ≡ self.old.journal ++ entries_by session.now.number (accepted asked.items receipt.submitted.replies.items)) }
+        ensures tried { IfOk result (λ receipt. MatchEnd receipt.submitted.end (λ _. length receipt.submitted.replies.items ≡ length asked.items) (length receipt.submitted.replies.items < length asked.items) (length receipt.submitted.replies.items ≡ length asked.items)) }
+        ensures front { IfOk result (λ receipt. MatchEnd receipt.submitted.end
+            (λ count. MatchOption receipt.front ⊥ (λ front. IsPublished (journal_edits self.old.journal) asked.items receipt.submitted.replies.items count front))
+            (receipt.front ≡ None)
+            (receipt.front ≡ None)) }
+        ensures err { OnErr result (self.new ≡ self.old) }
+    {
+        self.await_known(rt, session);
+        let submitted = self.desk.submit_past(session.number(), asked, rt, gate)?;
+        let front = self.front_at(submitted.end);
+        Ok(Receipt { submitted, front })
+    }
+}

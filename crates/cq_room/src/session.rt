@@ -1,0 +1,202 @@
+//! Sessions, and what they look at.
+
+ghost use Rattle.std.specs.Prelude.{◌≡◌, ◌⊎◌, [], length, MatchBool, MatchOption, IfOk, IfErr};
+ghost use mathlib.Core.List.{IsPrefix};
+ghost use Rattle.cq_desk.specs.History.{BeginsWith, edits_of};
+ghost use Rattle.cq_room.specs.Marks.{Leaves, edits_in, publications, fresh_in};
+ghost use Rattle.cq_room.specs.Receipts.{Heard};
+
+use crate::front::Front;
+use crate::names::RoomName;
+use crate::pair::PairReader;
+use crate::shown::Shown;
+use crate::trail::Trail;
+use cq_desk::Live;
+use crossbeam_utils::rule::Unruled;
+use left_right::reader::Reading;
+use std::alloc::{Allocator, Global};
+use std::marker::Model;
+
+/// A session that is not looking: one client's seat in a room. Contracts see its number and its history,
+/// which is what it has seen or heard of.
+#[derive(Drop)]
+pub struct Session<L: Live, N: RoomName<L::Content>, A: Allocator = Global> {
+    reader: PairReader<L, N, A>,
+    trail: Trail<L, N>,
+    number: usize,
+}
+
+impl<L: Live, N: RoomName<L::Content>, A: Allocator> Model for Session<L, N, A> {
+    ghost use Rattle.std.specs.Prelude.{◌≡◌, []};
+    ghost use Rattle.cq_room.specs.Sessions.{SessionRecord};
+    ghost use Rattle.cq_room.specs.Marks.{publications, fresh_in};
+
+    ghost Value = { SessionRecord L.Edit };
+
+    ghost view = { λ s. record { number = s.number; history = publications s.trail } };
+
+    ghost invariant = { λ s. fresh_in s.trail ≡ [] };
+}
+
+/// A session that is looking. While it looks, a publish may wait for it, and nothing else does.
+/// Contracts see the session's number and the history whose content is shown.
+pub struct Look<L: Live, N: RoomName<L::Content>, A: Allocator = Global> {
+    reading: Reading<Shown<L, N>, (), Unruled, A>,
+    trail: Trail<L, N>,
+    number: usize,
+}
+
+impl<L: Live, N: RoomName<L::Content>, A: Allocator> Model for Look<L, N, A> {
+    ghost use Rattle.std.specs.Prelude.{◌≡◌, []};
+    ghost use Rattle.cq_room.specs.Sessions.{SessionRecord};
+    ghost use Rattle.cq_room.specs.Marks.{publications, fresh_in};
+
+    ghost Value = { SessionRecord L.Edit };
+
+    ghost view = { λ s. record { number = s.number; history = publications s.trail } };
+
+    ghost invariant = { λ s. (fresh_in s.trail ≡ []) × (s.reading.part.value.marks ≡ s.trail) };
+}
+
+impl<L: Live, N: RoomName<L::Content>, A: Allocator> Drop for Look<L, N, A> {
+    fn drop(self) {
+        let Self {
+            reading,
+            trail: _trail,
+            number: _,
+        } = self;
+        drop(reading.leave());
+    }
+}
+
+impl<L: Live, N: RoomName<L::Content>, A: Allocator> Session<L, N, A> {
+    /// A session that has seen the trail.
+    pub(crate) fn over(
+        reader: PairReader<L, N, A>,
+        trail: Trail<L, N>,
+        number: usize,
+    ) -> Session<L, N, A>
+        requires { fresh_in trail ≡ [] }
+        ensures { result ≡ record { number = number; history = publications trail } }
+    {
+        Session {
+            reader,
+            trail,
+            number,
+        }
+    }
+
+    /// The session's number in its room, which stands as author at its entries.
+    pub fn number(&self) -> usize
+        ensures { result ≡ self.now.number }
+    {
+        self.number
+    }
+
+    /// How many entries the session has seen or heard of.
+    pub fn seen(&self) -> u64
+        ensures { result ≡ length (edits_of self.now.history) }
+    {
+        self.trail.count()
+    }
+
+    /// Whether the trail begins with what the session has seen.
+    pub(crate) fn is_behind(&self, trail: &Trail<L, N>) -> bool
+        ensures { MatchBool result (IsPrefix (edits_of self.now.history) (edits_in trail.now)) (Unit {0}) }
+    {
+        self.trail.begins(trail)
+    }
+
+    /// Looks at what is published. It takes no lock and no memory, and waits for nobody.
+    ///
+    /// # Errors
+    /// The session, unchanged. The room is then gone.
+    pub fn watch(self) -> Result<Look<L, N, A>, Session<L, N, A>>
+        ensures history { IfOk result (λ look. BeginsWith look.history self.history) }
+        ensures number { IfOk result (λ look. look.number ≡ self.number) }
+        ensures refused { IfErr result (λ session. session ≡ self) }
+    {
+        let Session {
+            reader,
+            trail,
+            number,
+        } = self;
+        match reader.enter_as::<Unruled>() {
+            Ok(reading) => {
+                let shown = reading.get().trail().again();
+                // What is shown always begins with what was seen, and ends in no edit.
+                if shown.fresh() == 0 && trail.begins(&shown) {
+                    Ok(Look {
+                        reading,
+                        trail: shown,
+                        number,
+                    })
+                } else {
+                    Err(Session {
+                        reader: reading.leave(),
+                        trail,
+                        number,
+                    })
+                }
+            }
+            Err(reader) => Err(Session {
+                reader,
+                trail,
+                number,
+            }),
+        }
+    }
+
+    /// Hears the front: from now on the session sees no less. It waits for nobody.
+    pub fn hear(&mut self, front: &Front<L, N>)
+        ensures own { BeginsWith self.new.history self.old.history }
+        ensures told { BeginsWith self.new.history front.now }
+        ensures one { (self.new.history ≡ self.old.history) ⊎ (self.new.history ≡ front.now) }
+        ensures number { self.new.number ≡ self.old.number }
+    {
+        self.trail = self.trail.longer(&front.trail);
+    }
+}
+
+impl<L: Live, N: RoomName<L::Content>, A: Allocator> Session<L, N, A> {
+    /// Hears the front, where there is one.
+    pub(crate) fn hear_any(&mut self, front: &Option<Front<L, N>>)
+        ensures { MatchOption front.now (self.new ≡ self.old) (λ front. Heard self.old self.new front) }
+    {
+        if let Some(front) = front {
+            self.hear(front);
+        }
+    }
+}
+
+impl<L: Live, N: RoomName<L::Content>, A: Allocator> Look<L, N, A> {
+    /// The state that is looked at.
+    pub fn state(&self) -> &L
+        ensures { Leaves L.after N.opening (edits_of self.now.history) (L.content result.now) }
+    {
+        self.reading.get().state()
+    }
+
+    /// How many entries stand in what is looked at.
+    pub fn count(&self) -> u64
+        ensures { result ≡ length (edits_of self.now.history) }
+    {
+        self.trail.count()
+    }
+
+    /// Ends the look. The session has seen what the look showed.
+    pub fn leave(self) -> Session<L, N, A>
+        ensures { result ≡ self }
+    {
+        let Look {
+            reading,
+            trail,
+            number,
+        } = self;
+        Session {
+            reader: reading.leave(),
+            trail,
+            number,
+        }
+    }
+}

@@ -1,0 +1,123 @@
+//! What is shown: a state, and the trail that it has taken in.
+
+ghost use Rattle.std.specs.Prelude.{◌≡◌};
+ghost use Rattle.cq_room.specs.Marks.{Leaves, edits_in};
+ghost use Rattle.cq_room.specs.Seen.{Ends};
+
+use crate::mark::Mark;
+use crate::names::RoomName;
+use crate::trail::Trail;
+use cq_desk::Live;
+use left_right::Absorb;
+use std::alloc::AllocError;
+use std::marker::Model;
+
+/// A state with the trail that it has taken in. Contracts see the trail's marks and the content. That
+/// the content is what the trail's edits leave over the room's opening content stands in this type,
+/// so it holds of each copy at any time.
+#[derive(Drop)]
+pub struct Shown<L: Live, N: RoomName<L::Content>> {
+    state: L,
+    trail: Trail<L, N>,
+}
+
+impl<L: Live, N: RoomName<L::Content>> Model for Shown<L, N> {
+    ghost use Rattle.cq_room.specs.Seen.{ShownRecord};
+    ghost use Rattle.cq_room.specs.Marks.{Leaves, edits_in};
+
+    ghost Value = { ShownRecord L.Edit L.Content };
+
+    ghost view = { λ s. record { marks = s.trail; content = L.content s.state } };
+
+    ghost invariant = { λ s. Leaves L.after N.opening (edits_in s.trail) (L.content s.state) };
+}
+
+/// One mark more, with the trail that it ends. Contracts see that trail's marks.
+#[derive(Drop)]
+pub struct Step<L: Live, N: RoomName<L::Content>> {
+    edit: Option<L::Edit>,
+    trail: Trail<L, N>,
+}
+
+impl<L: Live, N: RoomName<L::Content>> Model for Step<L, N> {
+    ghost use Rattle.std.specs.Prelude.{List};
+    ghost use Rattle.cq_room.specs.declared.mark.Mark.{Mark};
+    ghost use Rattle.cq_room.specs.Seen.{Ends};
+
+    ghost Value = { List (Mark L.Edit) };
+
+    ghost view = { λ s. s.trail };
+
+    ghost invariant = { λ s. Ends s.trail s.edit };
+}
+
+impl<L: Live, N: RoomName<L::Content>> Shown<L, N> {
+    /// The state over the trail that leaves it.
+    pub(crate) fn over(state: L, trail: Trail<L, N>) -> Shown<L, N>
+        requires { Leaves L.after N.opening (edits_in trail) (L.content state) }
+        ensures { (result.marks ≡ trail) × (result.content ≡ L.content state) }
+    {
+        Shown { state, trail }
+    }
+
+    /// The state.
+    pub(crate) fn state(&self) -> &L
+        ensures content { L.content result.now ≡ self.now.content }
+        ensures leaves { Leaves L.after N.opening (edits_in self.now.marks) (L.content result.now) }
+    {
+        &self.state
+    }
+
+    /// The trail.
+    pub(crate) fn trail(&self) -> &Trail<L, N>
+        ensures marks { result.now ≡ self.now.marks }
+        ensures leaves { Leaves L.after N.opening (edits_in self.now.marks) self.now.content }
+    {
+        &self.trail
+    }
+}
+
+impl<L: Live, N: RoomName<L::Content>> Step<L, N> {
+    /// The step that enters the edit, or ends a publication where there is none.
+    pub(crate) fn over(edit: Option<L::Edit>, trail: Trail<L, N>) -> Step<L, N>
+        requires { Ends trail edit }
+        ensures { result ≡ trail }
+    {
+        Step { edit, trail }
+    }
+}
+
+impl<L: Live, N: RoomName<L::Content>> Absorb<Step<L, N>> for Shown<L, N> {
+    type State = [Mark<L::Edit>; 0];
+
+    ghost state = { λ s. s.marks };
+
+    ghost applied = { λ _ step. step };
+
+    /// Takes the step's edit into the state.
+    ///
+    /// # Errors
+    /// Where a growth was refused. Nothing has changed then, and the step can be taken later.
+    fn absorb_first(
+        &mut self,
+        operation: &Step<L, N>,
+        _other: &Shown<L, N>,
+    ) -> Result<(), AllocError> {
+        if !self.trail.is_followed_by(&operation.trail) {
+            return Err(AllocError);
+        }
+        match &operation.edit {
+            None => {
+                self.trail = operation.trail.again();
+                Ok(())
+            }
+            Some(edit) => match self.state.admit(edit) {
+                Ok(_) => {
+                    self.trail = operation.trail.again();
+                    Ok(())
+                }
+                Err(_) => Err(AllocError),
+            },
+        }
+    }
+}

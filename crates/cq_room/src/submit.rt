@@ -1,0 +1,74 @@
+//! Submits: what a session does under the room's lock.
+
+ghost use Rattle.std.specs.Prelude.{◌≡◌, ◌<◌, List, ◌++◌, length, None, IfNone, IfOk, IfSome, OnErr, MatchOption};
+ghost use mathlib.Core.List.{IsPrefix};
+ghost use Rattle.cq_desk.specs.History.{StandsLast, edits_of};
+ghost use Rattle.cq_desk.specs.Replies.{MatchEnd, accepted};
+ghost use Rattle.cq_room.specs.Receipts.{AreNumbered, AreReplies, Heard, entered_before};
+
+use crate::names::RoomName;
+use crate::room::{Receipt, Room, Watched};
+use crate::session::Session;
+use cq_desk::{Gate, Live, NoMemory, OpenGate};
+use std::alloc::Allocator;
+use std::sync::Wait;
+
+impl<L: Live, N: RoomName<L::Content>, A: Allocator + Copy> Session<L, N, A> {
+    /// Enters these edits one after another under the session's number, and publishes what the journal
+    /// holds. The room's lock is held from the first entry to the end of the publish. Each edit has a
+    /// reply; a refused one stops nobody.
+    ///
+    /// # Errors
+    /// `NoMemory` where there was no room for the replies. Nothing was entered or published then.
+    pub fn submit<P: Watched<L, N>>(
+        &mut self,
+        rt: &P::Leave,
+        room: &Room<L, N, P, A>,
+        asked: Vec<L::Edit, A>,
+    ) -> Result<Receipt<L, N, A>, NoMemory>
+    where
+        P::Leave: Wait,
+        ensures front { IfOk result (λ receipt. MatchEnd receipt.submitted.end (λ count. MatchOption receipt.front ⊥ (λ front. count ≡ length (edits_of front))) (receipt.front ≡ None) (receipt.front ≡ None)) }
+        ensures tried { IfOk result (λ receipt. MatchEnd receipt.submitted.end (λ _. length receipt.submitted.replies.items ≡ length asked.items) (length receipt.submitted.replies.items < length asked.items) (length receipt.submitted.replies.items ≡ length asked.items)) }
+        ensures seen { IfOk result (λ receipt. IfSome receipt.front (λ front. IsPrefix (edits_of self.old.history) (entered_before front asked.items receipt.submitted.replies.items))) }
+        ensures replies { IfOk result (λ receipt. IfSome receipt.front (λ front. AreReplies L.after L.why N.opening N.limit (entered_before front asked.items receipt.submitted.replies.items) asked.items receipt.submitted.replies.items)) }
+        ensures last { IfOk result (λ receipt. IfSome receipt.front (λ front. edits_of front ≡ entered_before front asked.items receipt.submitted.replies.items ++ accepted asked.items receipt.submitted.replies.items)) }
+        ensures publication { IfOk result (λ receipt. IfSome receipt.front (λ front. StandsLast (accepted asked.items receipt.submitted.replies.items) front)) }
+        ensures numbered { IfOk result (λ receipt. IfSome receipt.front (λ front. AreNumbered (edits_of front) asked.items receipt.submitted.replies.items)) }
+        ensures unpublished { IfOk result (λ receipt. IfNone receipt.front ((before : List L.Edit) × IsPrefix (edits_of self.old.history) before × AreReplies L.after L.why N.opening N.limit before asked.items receipt.submitted.replies.items)) }
+        ensures heard { IfOk result (λ receipt. MatchOption receipt.front (self.new ≡ self.old) (λ front. Heard self.old self.new front)) }
+        ensures err { OnErr result (self.new ≡ self.old) }
+    {
+        self.submit_past(rt, room, asked, &OpenGate)
+    }
+
+    /// The same, with the gate passed between entering and publishing, under the lock.
+    ///
+    /// # Errors
+    /// `NoMemory` where there was no room for the replies. Nothing was entered or published then, and
+    /// the gate was not passed.
+    pub fn submit_past<P: Watched<L, N>, G: Gate>(
+        &mut self,
+        rt: &P::Leave,
+        room: &Room<L, N, P, A>,
+        asked: Vec<L::Edit, A>,
+        gate: &G,
+    ) -> Result<Receipt<L, N, A>, NoMemory>
+    where
+        P::Leave: Wait,
+        ensures front { IfOk result (λ receipt. MatchEnd receipt.submitted.end (λ count. MatchOption receipt.front ⊥ (λ front. count ≡ length (edits_of front))) (receipt.front ≡ None) (receipt.front ≡ None)) }
+        ensures tried { IfOk result (λ receipt. MatchEnd receipt.submitted.end (λ _. length receipt.submitted.replies.items ≡ length asked.items) (length receipt.submitted.replies.items < length asked.items) (length receipt.submitted.replies.items ≡ length asked.items)) }
+        ensures seen { IfOk result (λ receipt. IfSome receipt.front (λ front. IsPrefix (edits_of self.old.history) (entered_before front asked.items receipt.submitted.replies.items))) }
+        ensures replies { IfOk result (λ receipt. IfSome receipt.front (λ front. AreReplies L.after L.why N.opening N.limit (entered_before front asked.items receipt.submitted.replies.items) asked.items receipt.submitted.replies.items)) }
+        ensures last { IfOk result (λ receipt. IfSome receipt.front (λ front. edits_of front ≡ entered_before front asked.items receipt.submitted.replies.items ++ accepted asked.items receipt.submitted.replies.items)) }
+        ensures publication { IfOk result (λ receipt. IfSome receipt.front (λ front. StandsLast (accepted asked.items receipt.submitted.replies.items) front)) }
+        ensures numbered { IfOk result (λ receipt. IfSome receipt.front (λ front. AreNumbered (edits_of front) asked.items receipt.submitted.replies.items)) }
+        ensures unpublished { IfOk result (λ receipt. IfNone receipt.front ((before : List L.Edit) × IsPrefix (edits_of self.old.history) before × AreReplies L.after L.why N.opening N.limit before asked.items receipt.submitted.replies.items)) }
+        ensures heard { IfOk result (λ receipt. MatchOption receipt.front (self.new ≡ self.old) (λ front. Heard self.old self.new front)) }
+        ensures err { OnErr result (self.new ≡ self.old) }
+    {
+        let receipt = room.lock.lock(rt).submit_past(rt, self, asked, gate)?;
+        self.hear_any(&receipt.front);
+        Ok(receipt)
+    }
+}

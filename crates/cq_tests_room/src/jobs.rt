@@ -1,0 +1,25 @@
+//! Jobs that run in threads.
+
+use std::thread::{Threads, join};
+
+/// What a thread does once.
+pub trait Job: Drop + Send {
+    type Told: Drop + Send;
+
+    fn run(self) -> Self::Told;
+}
+
+/// What both jobs told, each of which ran in a thread.
+pub fn both<J: Job, K: Job, T: Threads>(threads: &T, one: J, other: K) -> (J::Told, K::Told) {
+    join(threads, || one.run(), || other.run())
+}
+
+/// A job that does nothing.
+#[derive(Clone, Copy)]
+pub struct Idle;
+
+impl Job for Idle {
+    type Told = ();
+
+    fn run(self) {}
+}

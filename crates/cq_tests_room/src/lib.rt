@@ -1,0 +1,18 @@
+//! Tests of `cq_room` over a tally and over a board: each public call with ample memory, a session in a thread, and each
+//! growth of a submit refused in turn. Nothing but tests is here, and no crate stands on this one.
+#![tactic(auto)]
+
+#[cfg(test)]
+mod boards;
+#[cfg(test)]
+mod growths;
+#[cfg(test)]
+mod jobs;
+#[cfg(test)]
+mod rooms;
+#[cfg(test)]
+mod tallies;
+#[cfg(test)]
+mod tally;
+#[cfg(test)]
+mod threads;
