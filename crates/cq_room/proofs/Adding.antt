@@ -5,7 +5,7 @@ use Rattle.std.proofs.lemmas.Bool.Decides.{nat_tests}
 use mathlib.Core.List.{IsPrefix}
 use prog.Atomic.{either}
 use Rattle.logbook.specs.Pages.{Cell, cell, keeps, no_nib, step, Moves, Goes}
-use Rattle.cq_room.specs.Rules.{IsKept, Adds}
+use Rattle.cq_room.specs.Steps.Rules.{IsKept, Adds}
 use Rattle.cq_room.proofs.Fronts.{prefix_whole}
 
 abbrev pub shown : {E : Type 0} → List E → List E

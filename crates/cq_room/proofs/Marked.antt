@@ -4,7 +4,7 @@ use Rattle.std.proofs.Common.{◌≡◌, ℕ, ◌+◌, ◌<◌, ◌≤◌, Bool,
 use mathlib.Core.List.{IsPrefix}
 use Rattle.cq_room.specs.declared.mark.Mark.{Mark}
 use Rattle.cq_room.specs.declared.mark.Mark.TheVariants.{Entered, Cut}
-use Rattle.cq_room.specs.Seen.{Ends}
+use Rattle.cq_room.specs.Steps.Marks.{Ends}
 use Rattle.std.proofs.lemmas.Grind.{fold-append}
 use Rattle.cq_desk.specs.History.{edits_of, grown}
 use Rattle.cq_room.specs.Marks.{Leaves, edits_in, behind, cut_at, publications, fresh_in}

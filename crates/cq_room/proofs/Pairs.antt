@@ -5,7 +5,8 @@ use Rattle.cq_desk.specs.History.{grown}
 use Rattle.cq_room.specs.declared.mark.Mark.{Mark}
 use Rattle.cq_room.specs.Marks.{fresh_in, publications}
 use Rattle.cq_room.specs.Seen.{ShownRecord}
-use Rattle.cq_room.specs.Pair.{IsPaired, opening_or, last_of, ends_at}
+use Rattle.cq_room.specs.Pair.{opening_or}
+use Rattle.cq_room.specs.Steps.Pair.{IsPaired, last_of, ends_at}
 use Rattle.cq_room.proofs.Fronts.{prefix_self, prefix_trans}
 use Rattle.cq_room.proofs.Marked.{grown_none}
 

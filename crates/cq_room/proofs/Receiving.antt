@@ -10,7 +10,8 @@ use Rattle.cq_desk.specs.declared.reply.Reply.TheVariants.{Entered, JournalFull,
 use Rattle.cq_desk.specs.declared.reply.End.{End}
 use Rattle.cq_desk.specs.declared.reply.End.TheVariants.{Published, Stopped, Unpublished}
 use Rattle.cq_desk.proofs.Replying.{edits_entered}
-use Rattle.cq_room.specs.Receipts.{AreNumbered, IsPublished, entered_before}
+use Rattle.cq_room.specs.Receipts.{AreNumbered, entered_before}
+use Rattle.cq_room.specs.Steps.Receipts.{IsPublished}
 
 admitted_number : {W : Type 0} (entries n : ℕ) (w : Option W) → admitted entries w ≡ Entered n → n ≡ entries + 1
 admitted_number entries n (Some reason) is = absurd (cc is)

@@ -1,10 +1,8 @@
 pub mod Marks
-pub mod Rules
 pub mod Seen
-pub mod Copies
 pub mod Pair
 pub mod Sessions
-pub mod Room
 pub mod Receipts
 pub mod Faults
 pub mod Parts
+pub mod Steps

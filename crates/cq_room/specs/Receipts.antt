@@ -1,6 +1,6 @@
 -- What a submit answers, and what a session hears. (this project's profile)
 use Rattle.std.specs.Prelude.{◌≡◌, ℕ, ◌+◌, ◌-◌, List, [], ◌∷◌, ◌++◌, ◌⊎◌, Option, length, take}
-use Rattle.cq_desk.specs.History.{History, edits_of, BeginsWith, StandsLast}
+use Rattle.cq_desk.specs.History.{History, edits_of, BeginsWith}
 use Rattle.cq_desk.specs.Replies.{accepted, replies_at}
 use Rattle.cq_desk.specs.declared.reply.Reply.{Reply}
 use Rattle.cq_desk.specs.declared.reply.Reply.TheVariants.{Entered, JournalFull, Not}
@@ -21,13 +21,6 @@ AreNumbered es (e ∷ asked) [] = Unit {0}
 AreNumbered es (e ∷ asked) (Entered number ∷ replies) = StandsAt es number e × AreNumbered es asked replies
 AreNumbered es (e ∷ asked) (JournalFull ∷ replies) = AreNumbered es asked replies
 AreNumbered es (e ∷ asked) (Not reason ∷ replies) = AreNumbered es asked replies
-
--- A front whose edits are those before and then the accepted ones, all of which stand in its last publication; it is counted, and each number is told right.
-pub record IsPublished {E W : Type 0} (before asked : List E) (replies : List (Reply W)) (count : ℕ) (front : History E) : Type 0 where
-  pub ends : edits_of front ≡ before ++ accepted asked replies
-  pub last : StandsLast (accepted asked replies) front
-  pub counts : count ≡ length (edits_of front)
-  pub numbered : AreNumbered (edits_of front) asked replies
 
 -- The edits of a front without the last ones, as many as were accepted: what the journal held when the first of them entered.
 abbrev pub entered_before : {E W : Type 0} → History E → List E → List (Reply W) → List E

@@ -1,14 +1,8 @@
--- What contracts see of what is shown, and of a step. (this project's profile)
-use Rattle.std.specs.Prelude.{◌≡◌, List, [], ◌∷◌, ◌++◌, Option, Some, None}
+-- What contracts see of one copy of a state. (this project's profile)
+use Rattle.std.specs.Prelude.{List}
 use Rattle.cq_room.specs.declared.mark.Mark.{Mark}
-use Rattle.cq_room.specs.declared.mark.Mark.TheVariants.{Entered, Cut}
 
 -- A content, and the marks whose edits it has taken in.
 pub record ShownRecord (E C : Type 0) : Type 0 where
   pub marks : List (Mark E)
   pub content : C
-
--- The last mark enters this edit; where there is none, it ends a publication.
-abbrev pub Ends : {E : Type 0} → List (Mark E) → Option E → Type 0
-Ends {E} marks (Some e) = (rest : List (Mark E)) × (marks ≡ rest ++ Entered e ∷ [])
-Ends {E} marks None = (rest : List (Mark E)) × (marks ≡ rest ++ Cut ∷ [])

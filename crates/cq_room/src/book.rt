@@ -1,7 +1,7 @@
 //! The history of a room: marks that are only added to, and the one word that all threads share.
 
 ghost use Rattle.std.specs.Prelude.{◌≡◌, []};
-ghost use Rattle.cq_room.specs.Rules.{head_of};
+ghost use Rattle.cq_room.specs.Steps.Rules.{head_of};
 
 use crate::mark::Mark;
 use crate::names::RoomName;
@@ -16,7 +16,7 @@ pub(crate) struct Length;
 impl<E> Rule<Mark<E>, u64> for Length {
     ghost use Rattle.std.specs.Prelude.{[]};
     ghost use base.Fml.{ftrue};
-    ghost use Rattle.cq_room.specs.Rules.{IsKept};
+    ghost use Rattle.cq_room.specs.Steps.Rules.{IsKept};
 
     ghost holds = { λ cells log. IsKept cells log };
 
@@ -44,7 +44,7 @@ impl<E> Gain<Mark<E>, u64> for Nothing {
 pub(crate) struct Add;
 
 impl<E> Play<Mark<E>, u64> for Add {
-    ghost use Rattle.cq_room.specs.Rules.{Adds};
+    ghost use Rattle.cq_room.specs.Steps.Rules.{Adds};
 
     ghost then = { Adds };
 }

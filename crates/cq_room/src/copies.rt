@@ -20,7 +20,7 @@ pub(crate) struct Copies<T: Absorb<O> + Drop, O: Drop, R: Wait + Drop, A: Alloca
 
 impl<T: Absorb<O> + Drop, O: Drop, R: Wait + Drop, A: Allocator> Model for Copies<T, O, R, A> {
     ghost use Rattle.std.specs.Prelude.{drop};
-    ghost use Rattle.cq_room.specs.Copies.{CopiesRecord};
+    ghost use Rattle.cq_room.specs.Steps.Copies.{CopiesRecord};
 
     ghost Value = { CopiesRecord T O };
 

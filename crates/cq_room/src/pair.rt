@@ -4,7 +4,7 @@ ghost use Rattle.std.specs.Prelude.{◌≡◌, ◌<◌, ◌^◌, ◌++◌, ◌�
 ghost use mathlib.Core.List.{IsPrefix};
 ghost use Rattle.cq_desk.specs.History.{grown};
 ghost use Rattle.cq_room.specs.Marks.{publications, fresh_in};
-ghost use Rattle.cq_room.specs.Pair.{last_of, ends_at};
+ghost use Rattle.cq_room.specs.Steps.Pair.{last_of, ends_at};
 
 use crate::book::Book;
 use crate::copies::Copies;
@@ -42,7 +42,8 @@ pub struct Pair<L: Live, N: RoomName<L::Content>, R: Wait + Drop, A: Allocator =
 
 impl<L: Live, N: RoomName<L::Content>, R: Wait + Drop, A: Allocator> Model for Pair<L, N, R, A> {
     ghost use Rattle.cq_room.specs.Marks.{publications, fresh_in};
-    ghost use Rattle.cq_room.specs.Pair.{PairRecord, IsPaired, opening_or};
+    ghost use Rattle.cq_room.specs.Pair.{PairRecord, opening_or};
+    ghost use Rattle.cq_room.specs.Steps.Pair.{IsPaired};
 
     ghost Value = { PairRecord L.Edit L.Content };
 

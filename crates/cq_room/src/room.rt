@@ -5,7 +5,8 @@ ghost use mathlib.Core.List.{IsPrefix};
 ghost use Rattle.cq_desk.specs.History.{edits_of};
 ghost use Rattle.cq_desk.specs.Replies.{MatchEnd, accepted, entries_by, journal_edits};
 ghost use Rattle.cq_room.specs.Marks.{edits_in};
-ghost use Rattle.cq_room.specs.Receipts.{AreReplies, IsPublished};
+ghost use Rattle.cq_room.specs.Receipts.{AreReplies};
+ghost use Rattle.cq_room.specs.Steps.Receipts.{IsPublished};
 
 use crate::front::Front;
 use crate::names::RoomName;
@@ -41,7 +42,7 @@ pub struct LockedDesk<L: Live, N: RoomName<L::Content>, P: Publisher<L>, A: Allo
 impl<L: Live, N: RoomName<L::Content>, P: Publisher<L>, A: Allocator> Model
     for LockedDesk<L, N, P, A> {
     ghost use Rattle.std.specs.Prelude.{◌≡◌, ◌∷◌, []};
-    ghost use Rattle.cq_room.specs.Room.{LockedRecord};
+    ghost use Rattle.cq_room.specs.Steps.Room.{LockedRecord};
 
     ghost Value = { LockedRecord L.Edit };
 

@@ -2,7 +2,7 @@
 
 ghost use Rattle.std.specs.Prelude.{◌≡◌};
 ghost use Rattle.cq_room.specs.Marks.{Leaves, edits_in};
-ghost use Rattle.cq_room.specs.Seen.{Ends};
+ghost use Rattle.cq_room.specs.Steps.Marks.{Ends};
 
 use crate::mark::Mark;
 use crate::names::RoomName;
@@ -42,7 +42,7 @@ pub struct Step<L: Live, N: RoomName<L::Content>> {
 impl<L: Live, N: RoomName<L::Content>> Model for Step<L, N> {
     ghost use Rattle.std.specs.Prelude.{List};
     ghost use Rattle.cq_room.specs.declared.mark.Mark.{Mark};
-    ghost use Rattle.cq_room.specs.Seen.{Ends};
+    ghost use Rattle.cq_room.specs.Steps.Marks.{Ends};
 
     ghost Value = { List (Mark L.Edit) };
 

@@ -1,6 +1,6 @@
 use Rattle.std.proofs.Common.{rules, ◌≡◌, [], None, sym, subst}
 use Rattle.cq_room.specs.Marks.{fresh_in}
-use Rattle.cq_room.specs.Pair.{IsPaired}
+use Rattle.cq_room.specs.Steps.Pair.{IsPaired}
 use Rattle.cq_room.proofs.Marked.{prefix_publications}
 use Rattle.cq_room.proofs.Pairs.{paired_after}
 use Rattle.cq_room.proofs.pair.PairPublisher.publish.Goals as goal

@@ -1,6 +1,6 @@
 use Rattle.std.proofs.Common.{rules, ◌≡◌, ◌+◌, length, subst, Some, None}
 use mathlib.Core.List.{IsPrefix}
-use Rattle.cq_room.specs.Seen.{Ends}
+use Rattle.cq_room.specs.Steps.Marks.{Ends}
 use Rattle.cq_room.proofs.Marked.{follows_edit, follows_cut}
 use Rattle.cq_room.proofs.shown.ShownAbsorbStep.absorb_first.Goals as goal
 
