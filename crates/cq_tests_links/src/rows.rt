@@ -23,11 +23,13 @@ fn all_come<A: Allocator + Copy>(
 fn postings_hold<A: Allocator + Copy>(alloc: A) -> Result<bool, AllocError> {
     let mut links = Links::begin(alloc);
     let [first, second, third] = RING;
-    all_come(
+    let held = all_come(
         alloc,
         &mut links,
         [first, second, third, ALONE, MIXED].as_slice(),
-    )
+    );
+    drop(links);
+    held
 }
 
 #[test]
@@ -38,7 +40,7 @@ fn postings_make_their_edges(rt: HostRuntime) -> Result<(), Fail> {
 
 /// Posts the query at a place where none stands and takes it away again. Answers whether the place had it in between,
 /// and only then.
-fn comes_and_goes<A: Allocator + Copy>(
+fn stands_between<A: Allocator + Copy>(
     links: &mut Links<A>,
     place: usize,
     query: &Query<A>,
@@ -53,16 +55,35 @@ fn comes_and_goes<A: Allocator + Copy>(
     Ok(stood && !links.has(place))
 }
 
-fn removals_hold<A: Allocator + Copy>(alloc: A) -> Result<bool, AllocError> {
-    let mut links = two_of_ring(alloc)?;
+/// The same of the query of a text.
+fn comes_and_goes<A: Allocator + Copy>(
+    alloc: A,
+    links: &mut Links<A>,
+    place: usize,
+    text: &str,
+) -> Result<bool, AllocError> {
+    let query = query(alloc, text)?;
+    let stood = stands_between(links, place, &query);
+    drop(query);
+    stood
+}
+
+fn all_go<A: Allocator + Copy>(alloc: A, links: &mut Links<A>) -> Result<bool, AllocError> {
     let [_, second, third] = RING;
     Ok(
-        comes_and_goes(&mut links, 2, &query(alloc, third.text)?)?
-            && comes_and_goes(&mut links, 3, &query(alloc, ALONE.text)?)?
-            && !comes_and_goes(&mut links, 1, &query(alloc, second.text)?)?
-            && comes(alloc, &mut links, 2, third)?
-            && comes(alloc, &mut links, 3, ALONE)?,
+        comes_and_goes(alloc, links, 2, third.text)?
+            && comes_and_goes(alloc, links, 3, ALONE.text)?
+            && !comes_and_goes(alloc, links, 1, second.text)?
+            && comes(alloc, links, 2, third)?
+            && comes(alloc, links, 3, ALONE)?,
     )
+}
+
+fn removals_hold<A: Allocator + Copy>(alloc: A) -> Result<bool, AllocError> {
+    let mut links = two_of_ring(alloc)?;
+    let held = all_go(alloc, &mut links);
+    drop(links);
+    held
 }
 
 #[test]
@@ -71,12 +92,40 @@ fn removed_queries_are_gone(rt: HostRuntime) -> Result<(), Fail> {
     Ok(())
 }
 
+/// Whether the last query of the ring closes it in each of two copies, and the original has it in neither case.
+fn are_apart<A: Allocator + Copy>(
+    alloc: A,
+    links: &Links<A>,
+    one: &mut Links<A>,
+    other: &mut Links<A>,
+) -> Result<bool, AllocError> {
+    let [_, _, third] = RING;
+    Ok(comes(alloc, one, 2, third)? && comes(alloc, other, 2, third)? && !links.has(2))
+}
+
+fn second_is_apart<A: Allocator + Copy>(
+    alloc: A,
+    links: &Links<A>,
+    one: &mut Links<A>,
+) -> Result<bool, AllocError> {
+    let mut other = links.copy()?;
+    let held = are_apart(alloc, links, one, &mut other);
+    drop(other);
+    held
+}
+
+fn both_are_apart<A: Allocator + Copy>(alloc: A, links: &Links<A>) -> Result<bool, AllocError> {
+    let mut one = links.copy()?;
+    let held = second_is_apart(alloc, links, &mut one);
+    drop(one);
+    held
+}
+
 fn copies_hold<A: Allocator + Copy>(alloc: A) -> Result<bool, AllocError> {
     let links = two_of_ring(alloc)?;
-    let mut one = links.copy()?;
-    let mut other = links.copy()?;
-    let [_, _, third] = RING;
-    Ok(comes(alloc, &mut one, 2, third)? && comes(alloc, &mut other, 2, third)? && !links.has(2))
+    let held = both_are_apart(alloc, &links);
+    drop(links);
+    held
 }
 
 #[test]

@@ -3,7 +3,7 @@ use Rattle.std.specs.Ordering.{nat_cmp}
 use Rattle.std.specs.FinMap.{FinMap, get, insert, get-insert}
 use Rattle.std.proofs.lemmas.Cmp.{nat_cmp_total, eq_by_cmp_equiv}
 use Rattle.cq_links.specs.Links.{ends_of}
-use Rattle.cq_tests_links.proofs.rows.comes_and_goes.Goals as goal
+use Rattle.cq_tests_links.proofs.rows.stands_between.Goals as goal
 
 -- what was inserted is there
 got : {X : Type 0} (m n : FinMap nat_cmp X) (k : ℕ) (v : X) → n ≡ insert m k v → get n k ≡ Some v
