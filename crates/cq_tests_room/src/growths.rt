@@ -1,144 +1,223 @@
-//! Each growth of a submit in a room refused in turn, and then an empty submit of another session.
+//! Each growth of a room, from its beginning to the end of a submit, refused in turn, and then an empty submit of
+//! another session.
 
 ghost use Rattle.std.specs.Prelude.{◌≡◌, ◌∷◌, []};
 
+use crate::grown::{Grown, both_edits};
+use crate::met::{Attempt, Counts, Met, counted, met_by};
 use crate::tally::Tally;
-use cq_desk::NoMemory;
-use cq_refusing::Refusing;
-use cq_room::{Front, Pair, Parts, Room, RoomName, Session};
-use cq_tests_growths::{ENOUGH, Outcome};
-use std::alloc::{Allocator, Global};
+use cq_board::Board;
+use cq_desk::End;
+use cq_room::{Front, Pair, Parts, Receipt, Room, RoomFault, RoomName, Session};
+use std::alloc::Allocator;
 use std::marker::Brand;
 use std::sync::Wait;
 
-type GrowingRoom<N, R, A> = Room<Tally<A>, N, Pair<Tally<A>, N, R, A>, A>;
+pub type GrowingRoom<L, N, R, A> = Room<L, N, Pair<L, N, R, A>, A>;
 
-type GrowingSession<N, A> = Session<Tally<A>, N, A>;
-
-/// Two bytes.
-fn two<A: Allocator + Copy>(alloc: A) -> Result<Vec<u8, A>, NoMemory> {
-    let mut list = Vec::new(alloc);
-    list.extend_from_slice(&[1, 2])?;
-    Ok(list)
-}
-
-/// How many entries a submit of two bytes made, and whether it was published.
-fn asks<N: RoomName<[u8; 0]>, R: Wait + Drop, A: Allocator + Copy>(
-    rt: &R,
-    alloc: A,
-    room: &GrowingRoom<N, R, A>,
-    first: &mut GrowingSession<N, A>,
-) -> Option<(u64, bool)> {
-    let asked = two(alloc).ok()?;
-    match first.submit(rt, room, asked) {
-        Ok(receipt) => Some((
-            receipt.submitted.replies.len() as u64,
-            receipt.front.is_some(),
-        )),
-        Err(_) => Some((0, false)),
+/// In what a submit of two edits met the refusal. It tells of a front exactly where both are published.
+fn met_in<L: Grown<A>, N: RoomName<L::Content>, A: Allocator + Copy>(
+    receipt: &Receipt<L, N, A>,
+) -> Met {
+    let met = met_by(&receipt.submitted);
+    match &receipt.front {
+        Some(front) => met.if_right(met == Met::Nothing && front.count() == 2),
+        None => met.if_right(met != Met::Nothing),
     }
 }
 
-/// The session after a look that so many entries left.
-fn sees<N: RoomName<[u8; 0]>, A: Allocator + Copy>(
-    session: GrowingSession<N, A>,
-    count: u64,
-) -> Option<GrowingSession<N, A>> {
+/// What comes of a submit of the two edits.
+fn asks<L: Grown<A>, N: RoomName<L::Content>, R: Wait + Drop, A: Allocator + Copy>(
+    rt: &R,
+    alloc: A,
+    room: &GrowingRoom<L, N, R, A>,
+    session: &mut Session<L, N, A>,
+) -> Met {
+    let Some(asked) = both_edits::<L, A>(alloc) else {
+        return Met::Setup;
+    };
+    match session.submit(rt, room, asked) {
+        Ok(receipt) => met_in(&receipt),
+        Err(_) => Met::Replies,
+    }
+}
+
+/// The session after a look at what so many entries left.
+pub fn sees<L: Grown<A>, N: RoomName<L::Content>, A: Allocator + Copy>(
+    session: Session<L, N, A>,
+    entries: u64,
+) -> Option<Session<L, N, A>> {
     let look = session.watch().ok()?;
-    if look.count() != count || look.state().bytes().len() as u64 != count {
+    if look.count() != entries || !look.state().is_left_by(entries) {
         return None;
     }
     Some(look.leave())
 }
 
-/// The front of an empty submit. Where a growth of it is refused, that of the next one.
-fn publishes<N: RoomName<[u8; 0]>, R: Wait + Drop, A: Allocator + Copy>(
+/// The front of an empty submit, by which so many entries are published.
+fn publishes<L: Grown<A>, N: RoomName<L::Content>, R: Wait + Drop, A: Allocator + Copy>(
     rt: &R,
     alloc: A,
-    room: &GrowingRoom<N, R, A>,
-    session: &mut GrowingSession<N, A>,
-) -> Option<Front<Tally<A>, N>> {
-    let first = session.submit(rt, room, Vec::new(alloc)).ok()?;
-    if first.front.is_some() {
-        return first.front;
+    room: &GrowingRoom<L, N, R, A>,
+    session: &mut Session<L, N, A>,
+    entries: u64,
+) -> Option<Front<L, N>> {
+    let receipt = session.submit(rt, room, Vec::new(alloc)).ok()?;
+    let Receipt { submitted, front } = receipt;
+    let front = front?;
+    if submitted.replies.is_empty()
+        && submitted.end == End::Published(entries)
+        && front.count() == entries
+    {
+        Some(front)
+    } else {
+        None
     }
-    let second = session.submit(rt, room, Vec::new(alloc)).ok()?;
-    second.front
 }
 
-/// The second session sees nothing that was not published. Its empty submit publishes all that was
+/// The second session sees nothing of a submit that was refused a growth. Its empty submit publishes all that was
 /// entered, which both sessions see then.
-fn agrees<N: RoomName<[u8; 0]>, R: Wait + Drop, A: Allocator + Copy>(
+fn goes_on<L: Grown<A>, N: RoomName<L::Content>, R: Wait + Drop, A: Allocator + Copy>(
     rt: &R,
     alloc: A,
-    room: &GrowingRoom<N, R, A>,
-    mut first: GrowingSession<N, A>,
-    second: GrowingSession<N, A>,
+    room: &GrowingRoom<L, N, R, A>,
+    mut first: Session<L, N, A>,
+    second: Session<L, N, A>,
     entries: u64,
-    published: bool,
 ) -> Option<()> {
-    let mut second = sees(second, if published { entries } else { 0 })?;
-    let front = publishes(rt, alloc, room, &mut second)?;
+    if first.seen() != 0 {
+        return None;
+    }
+    let mut second = sees(second, 0)?;
+    let front = publishes(rt, alloc, room, &mut second, entries)?;
     first.hear(&front);
     let _first = sees(first, entries)?;
     let _second = sees(second, entries)?;
     Some(())
 }
 
-/// What comes of it between two sessions.
-fn between<N: RoomName<[u8; 0]>, R: Wait + Drop, A: Allocator + Copy>(
-    rt: &R,
-    alloc: A,
-    room: &GrowingRoom<N, R, A>,
-    mut first: GrowingSession<N, A>,
-    second: GrowingSession<N, A>,
-) -> Outcome {
-    let Some((entries, published)) = asks(rt, alloc, room, &mut first) else {
-        return Outcome::Unready;
-    };
-    match agrees(rt, alloc, room, first, second, entries, published) {
-        Some(()) if published => Outcome::Done,
-        Some(()) => Outcome::Refused,
-        None => Outcome::Wrong,
+/// Both sessions see both edits.
+fn both_see<L: Grown<A>, N: RoomName<L::Content>, A: Allocator + Copy>(
+    first: Session<L, N, A>,
+    second: Session<L, N, A>,
+) -> Option<()> {
+    if first.seen() != 2 {
+        return None;
     }
+    let _first = sees(first, 2)?;
+    let _second = sees(second, 2)?;
+    Some(())
 }
 
-fn tried<N: RoomName<[u8; 0]>, R: Wait + Drop, A: Allocator + Copy>(
+/// What comes of it between two sessions.
+fn between<L: Grown<A>, N: RoomName<L::Content>, R: Wait + Drop, A: Allocator + Copy>(
     rt: &R,
     alloc: A,
-    parts: Parts<Tally<A>, R, A>,
-) -> Outcome
+    room: &GrowingRoom<L, N, R, A>,
+    mut first: Session<L, N, A>,
+    second: Session<L, N, A>,
+) -> Met {
+    let met = asks(rt, alloc, room, &mut first);
+    let agreed = if met == Met::Nothing {
+        both_see(first, second)
+    } else {
+        goes_on(rt, alloc, room, first, second, met.entries())
+    };
+    met.if_right(agreed.is_some())
+}
+
+fn tried<L: Grown<A>, N: RoomName<L::Content>, R: Wait + Drop, A: Allocator + Copy>(
+    rt: &R,
+    alloc: A,
+    parts: Parts<L, R, A>,
+) -> Met
     requires book { parts.book ≡ N.book }
     requires opening { N.opening ≡ parts.opening ∷ [] }
     requires limit { N.limit ≡ parts.limit }
 {
-    let Ok((room, mut sessions)) = parts.open::<N>() else {
-        return Outcome::Unready;
+    let (room, mut sessions) = match parts.open::<N>() {
+        Ok(opened) => opened,
+        Err(fault) => return Met::Open.if_right(fault == RoomFault::NoMemory),
     };
     match (sessions.pop(), sessions.pop()) {
         (Some(second), Some(first)) => between(rt, alloc, &room, first, second),
-        _ => Outcome::Wrong,
+        _ => Met::Wrong,
     }
 }
 
-fn attempt<R: Wait + Drop + Copy>(rt: R, heap: &Refusing<Global>) -> Outcome {
-    match Room::begin(rt, heap, Tally::empty(heap), 9, 2) {
-        Ok(parts) => tried::<Brand, _, _>(&rt, heap, parts),
-        Err(_) => Outcome::Unready,
+/// The parts of a room for two sessions.
+pub fn parts_of<L: Grown<A>, R: Wait + Drop, A: Allocator + Copy>(
+    rt: R,
+    alloc: A,
+) -> Result<Parts<L, R, A>, Met> {
+    let Some(state) = L::begun(alloc) else {
+        return Err(Met::Setup);
+    };
+    match Room::begin(rt, alloc, state, 9, 2) {
+        Ok(parts) => Ok(parts),
+        Err(fault) => Err(Met::Begin.if_right(fault == RoomFault::NoMemory)),
     }
+}
+
+fn attempted<L: Grown<A>, R: Wait + Drop + Copy, A: Allocator + Copy>(rt: R, alloc: A) -> Met {
+    match parts_of::<L, R, A>(rt, alloc) {
+        Ok(parts) => tried::<L, Brand, R, A>(&rt, alloc, parts),
+        Err(met) => met,
+    }
+}
+
+/// Two bytes are submitted in a room over a tally.
+struct Bytes;
+
+impl Attempt for Bytes {
+    fn attempt<R: Wait + Drop + Copy, A: Allocator + Copy>(rt: R, alloc: A) -> Met {
+        attempted::<Tally<A>, R, A>(rt, alloc)
+    }
+}
+
+/// A flight and a query are submitted in a room over a board.
+struct Flights;
+
+impl Attempt for Flights {
+    fn attempt<R: Wait + Drop + Copy, A: Allocator + Copy>(rt: R, alloc: A) -> Met {
+        attempted::<Board<A>, R, A>(rt, alloc)
+    }
+}
+
+/// Whether refusals were met in beginning and opening a room, and a submit ended in each way.
+fn are_met(counts: Result<Counts, u64>) -> bool {
+    matches!(
+        counts,
+        Ok(Counts {
+            begin: 1..,
+            open: 1..,
+            replies: 1..,
+            stopped: 1..,
+            unpublished: 1..,
+            ..
+        })
+    )
+}
+
+/// Whether a submit was stopped behind an entry.
+pub fn are_stopped_behind(counts: Result<Counts, u64>) -> bool {
+    matches!(
+        counts,
+        Ok(Counts {
+            stopped_behind: 1..,
+            ..
+        })
+    )
 }
 
 #[test]
 fn refused_growth_in_a_room(rt: HostRuntime) {
-    let mut refused = 0u64;
-    for left in 0..ENOUGH {
-        let heap = Refusing::new(rt.alloc(), left);
-        match (attempt(&rt, &heap), heap.has_refused()) {
-            (Outcome::Done, false) => break,
-            (Outcome::Refused, true) => refused = refused.saturating_add(1),
-            (Outcome::Done | Outcome::Unready, true) => {}
-            _ => assert!(rt; false),
-        }
-    }
-    assert!(rt; refused >= 3);
+    let counts = counted::<Bytes, _>(&rt, rt.alloc());
+    assert!(rt; are_met(counts), "{counts:?}");
+}
+
+#[test]
+fn refused_growth_in_a_room_over_a_board(rt: HostRuntime) {
+    let counts = counted::<Flights, _>(&rt, rt.alloc());
+    assert!(rt; are_met(counts) && are_stopped_behind(counts), "{counts:?}");
 }

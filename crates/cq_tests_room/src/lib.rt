@@ -5,9 +5,13 @@
 #[cfg(test)]
 mod boards;
 #[cfg(test)]
+mod grown;
+#[cfg(test)]
 mod growths;
 #[cfg(test)]
 mod jobs;
+#[cfg(test)]
+mod met;
 #[cfg(test)]
 mod rooms;
 #[cfg(test)]

@@ -1,0 +1,106 @@
+//! States that grow under two edits.
+
+use crate::tally::Tally;
+use cq_board::{Board, Edit, EditKind, Limits};
+use cq_desk::Live;
+use cq_rel::Catalog;
+use cq_text::{CommandKind, read_command};
+use std::alloc::Allocator;
+
+/// A state whose growths are refused in turn.
+pub trait Grown<A: Allocator + Copy>: Live {
+    /// The state before the first edit.
+    fn begun(alloc: A) -> Option<Self>;
+
+    /// The edit that becomes the first entry or the second one.
+    fn edit(alloc: A, number: u64) -> Option<Self::Edit>;
+
+    /// Whether the state is what so many of the two edits leave.
+    fn is_left_by(&self, entries: u64) -> bool;
+}
+
+/// Both edits.
+pub fn both_edits<L: Grown<A>, A: Allocator + Copy>(alloc: A) -> Option<Vec<L::Edit, A>> {
+    let mut edits = Vec::new(alloc);
+    edits.push(L::edit(alloc, 1)?).ok()?;
+    edits.push(L::edit(alloc, 2)?).ok()?;
+    Some(edits)
+}
+
+/// The bytes 1 and 2 come behind 7.
+impl<A: Allocator + Copy> Grown<A> for Tally<A> {
+    fn begun(alloc: A) -> Option<Tally<A>> {
+        let mut tally = Tally::empty(alloc);
+        match tally.admit(&7) {
+            // A copy has no room to spare.
+            Ok(None) => tally.copy().ok(),
+            _ => None,
+        }
+    }
+
+    fn edit(_alloc: A, number: u64) -> Option<u8> {
+        u8::try_from(number).ok()
+    }
+
+    fn is_left_by(&self, entries: u64) -> bool {
+        match self.bytes() {
+            [7] => entries == 0,
+            [7, 1] => entries == 1,
+            [7, 1, 2] => entries == 2,
+            _ => false,
+        }
+    }
+}
+
+/// The edit of the line.
+fn edit_of<A: Allocator + Copy>(alloc: A, line: &str) -> Option<Edit<A>> {
+    match read_command(alloc, line.as_bytes()) {
+        Ok(CommandKind::Post { name, query }) => Some(EditKind::Post { name, query }),
+        Ok(CommandKind::Insert { row }) => Some(EditKind::Insert { row }),
+        _ => None,
+    }
+}
+
+/// Whether the first query is matched, and the one flight is its one grounding.
+fn is_grounded<A: Allocator + Copy>(board: &Board<A>) -> bool {
+    let Some(name) = board.name_at(0) else {
+        return false;
+    };
+    board.is_matched(name) == Some(true)
+        && match board.groundings(name) {
+            Some(found) => found.count() == 1,
+            None => false,
+        }
+}
+
+/// A flight comes, and then a query for one.
+impl<A: Allocator + Copy> Grown<A> for Board<A> {
+    fn begun(alloc: A) -> Option<Board<A>> {
+        let mut catalog = Catalog::empty(alloc);
+        if catalog.declare("Flights", 2).is_err() {
+            return None;
+        }
+        let limits = Limits {
+            pool: 9,
+            journal: 9,
+        };
+        Board::begin(alloc, catalog, limits).ok()
+    }
+
+    fn edit(alloc: A, number: u64) -> Option<Edit<A>> {
+        match number {
+            1 => edit_of(alloc, "insert Flights(122, Paris)"),
+            2 => edit_of(alloc, "post k {} R(x) <- Flights(x, Paris)"),
+            _ => None,
+        }
+    }
+
+    fn is_left_by(&self, entries: u64) -> bool {
+        match (self.tables().count("Flights"), self.len()) {
+            (Some(0), 0) => entries == 0,
+            (Some(1), 0) => entries == 1,
+            (Some(1), 1) => entries == 2 && is_grounded(self),
+            _ => false,
+        }
+    }
+}
