@@ -4,7 +4,7 @@ use cq_atom::{Atom, Bad, Name, Query, Term, Value};
 use cq_board::{Board, Edit, EditKind, Limits, Why};
 use cq_desk::{End, Reply};
 use cq_rel::Catalog;
-use cq_room::{Front, Pair, Receipt, Room, RoomName, Session};
+use cq_room::{Front, Pair, Parts, Receipt, Room, RoomName, Session};
 use std::alloc::Global;
 use std::sync::Wait;
 
@@ -12,17 +12,18 @@ pub type BoardRoom<N, R> = Room<Board, N, Pair<Board, N, R>>;
 
 pub type BoardSession<N> = Session<Board, N>;
 
-/// A board with no relations that may hold nine queries.
-pub fn board(alloc: Global) -> Option<Board> {
+/// The parts of a room for two sessions, over a board with that catalog that may hold nine queries.
+pub fn opened<R: Wait + Drop>(rt: R, alloc: Global, catalog: Catalog) -> Option<Parts<Board, R>> {
     let limits = Limits {
         pool: 9,
         journal: 9,
     };
-    Board::begin(alloc, Catalog::empty(alloc), limits).ok()
+    let board = Board::begin(alloc, catalog, limits).ok()?;
+    Room::begin(rt, alloc, board, 9, 2).ok()
 }
 
 /// The list of that one.
-fn one<T: Drop>(alloc: Global, item: T) -> Result<Vec<T>, Bad> {
+pub fn one<T: Drop>(alloc: Global, item: T) -> Result<Vec<T>, Bad> {
     let mut list = Vec::new(alloc);
     list.push(item)?;
     Ok(list)

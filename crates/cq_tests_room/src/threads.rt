@@ -2,11 +2,12 @@
 
 ghost use Rattle.std.specs.Prelude.{◌≡◌, ◌∷◌, []};
 
-use crate::boards::{BoardRoom, BoardSession, board, looks, posting, posts, published};
+use crate::boards::{BoardRoom, BoardSession, looks, opened, posting, posts, published};
 use crate::jobs::{Idle, Job, both};
 use cq_board::{Board, Why};
 use cq_desk::Reply;
-use cq_room::{Front, Parts, Room, RoomName};
+use cq_rel::Catalog;
+use cq_room::{Front, Parts, RoomName};
 use std::alloc::Global;
 use std::marker::Brand;
 use std::sync::Wait;
@@ -93,15 +94,10 @@ fn told<N: RoomName<Board> + Send + Sync, R: Wait + Drop + Send + Sync, T: Threa
     Some(last.count())
 }
 
-fn opened<R: Wait + Drop>(rt: R, alloc: Global) -> Option<Parts<Board, R>> {
-    let board = board(alloc)?;
-    Room::begin(rt, alloc, board, 9, 2).ok()
-}
-
 #[test]
 fn told_and_seen(rt: HostRuntime) {
     let handle = &rt;
-    match opened(handle, rt.alloc()) {
+    match opened(handle, rt.alloc(), Catalog::empty(rt.alloc())) {
         Some(parts) => {
             let last = told::<Brand, _, _>(&rt, &handle, rt.alloc(), parts, false);
             assert!(rt; last == Some(1));
@@ -113,7 +109,7 @@ fn told_and_seen(rt: HostRuntime) {
 #[test]
 fn told_and_seen_by_an_equal_edit(rt: HostRuntime) {
     let handle = &rt;
-    match opened(handle, rt.alloc()) {
+    match opened(handle, rt.alloc(), Catalog::empty(rt.alloc())) {
         Some(parts) => {
             let last = told::<Brand, _, _>(&rt, &handle, rt.alloc(), parts, true);
             assert!(rt; last == Some(1));
