@@ -1,9 +1,12 @@
 //! Tests of `cq_room` over a tally and over a board: each public call with ample memory, a session in a thread, and each
-//! growth of a submit refused in turn. Nothing but tests is here, and no crate stands on this one.
+//! growth of a room, and of a desk over its two copies, refused in turn. Nothing but tests is here, and no crate stands
+//! on this one.
 #![tactic(auto)]
 
 #[cfg(test)]
 mod boards;
+#[cfg(test)]
+mod desk_growths;
 #[cfg(test)]
 mod grown;
 #[cfg(test)]
