@@ -1,10 +1,12 @@
-//! Tests of `cq_room` over a tally and over a board: each public call with ample memory, a session in a thread, a submit
-//! that takes a grounding away, and each growth of a submit refused in turn. Nothing but tests is here, and no crate stands
-//! on this one.
+//! Tests of `cq_room` over a tally and over a board: each public call with ample memory, sessions in threads, a submit that
+//! takes a grounding away, and each growth of a room, and of a desk over its two copies, refused in turn. Nothing but
+//! tests is here, and no crate stands on this one.
 #![tactic(auto)]
 
 #[cfg(test)]
 mod boards;
+#[cfg(test)]
+mod desk_growths;
 #[cfg(test)]
 mod groundings;
 #[cfg(test)]
