@@ -2,11 +2,12 @@
 
 ghost use Rattle.std.specs.Prelude.{◌≡◌, ◌∷◌, []};
 
-use crate::boards::{BoardRoom, BoardSession, board, looks, posting, published};
-use crate::jobs::{Job, both};
+use crate::boards::{BoardRoom, BoardSession, looks, opened, posting, published};
+use crate::jobs::{Job, all};
 use cq_board::Board;
 use cq_desk::Reply;
-use cq_room::{Front, Gate, Parts, Room, RoomName};
+use cq_rel::Catalog;
+use cq_room::{Front, Gate, Parts, RoomName};
 use std::alloc::Global;
 use std::marker::Brand;
 use std::sync::Wait;
@@ -22,6 +23,16 @@ struct Held {
     reached: AtomicBool,
     open: AtomicBool,
     passed: AtomicBool,
+}
+
+impl Held {
+    fn closed() -> Held {
+        Held {
+            reached: AtomicBool::new(false),
+            open: AtomicBool::new(false),
+            passed: AtomicBool::new(false),
+        }
+    }
 }
 
 /// Whether another thread says so within so many turns.
@@ -42,55 +53,106 @@ impl Gate for Held {
     }
 }
 
-/// The first session posts past the gate.
+/// A session after its thread, and the front of its submit.
 #[derive(Drop)]
-struct Posting<'a, N: RoomName<Board>, R: Wait + Drop> {
+struct Told<N: RoomName<Board>> {
+    session: BoardSession<N>,
+    front: Option<Front<Board, N>>,
+}
+
+/// The first session posts past the gate.
+fn posts_past<N: RoomName<Board>, R: Wait + Drop>(
+    rt: &R,
+    alloc: Global,
+    room: &BoardRoom<N, R>,
+    mut session: BoardSession<N>,
+    gate: &Held,
+) -> Option<Told<N>> {
+    let asked = posting(alloc)?;
+    let receipt = session.submit_past(rt, room, asked, gate).ok()?;
+    let front = published(receipt, &[Reply::Entered(1)], 1);
+    Some(Told { session, front })
+}
+
+/// The second session looks while the gate holds, and opens it.
+fn looks_meanwhile<N: RoomName<Board>>(session: BoardSession<N>, gate: &Held) -> Option<Told<N>> {
+    if !is_told(&gate.reached) {
+        return None;
+    }
+    let session = looks(session, 0, 0);
+    gate.open.store(true, Ordering::SeqCst);
+    let session = session?;
+    Some(Told {
+        session,
+        front: None,
+    })
+}
+
+/// A session in its thread. One type for both, since two are more than the check of a call takes.
+#[derive(Drop)]
+struct Client<'a, N: RoomName<Board>, R: Wait + Drop> {
+    rt: &'a R,
+    alloc: Global,
+    room: &'a BoardRoom<N, R>,
+    session: BoardSession<N>,
+    gate: &'a Held,
+}
+
+impl<'a, N: RoomName<Board> + Send + Sync, R: Wait + Drop + Send + Sync> Job for Client<'a, N, R> {
+    type Told = Option<Told<N>>;
+
+    fn run(self) -> Option<Told<N>> {
+        let Client {
+            rt,
+            alloc,
+            room,
+            session,
+            gate,
+        } = self;
+        if session.number() == 0 {
+            posts_past(rt, alloc, room, session, gate)
+        } else {
+            looks_meanwhile(session, gate)
+        }
+    }
+}
+
+fn clients<'a, N: RoomName<Board>, R: Wait + Drop>(
     rt: &'a R,
     alloc: Global,
     room: &'a BoardRoom<N, R>,
     first: BoardSession<N>,
-    gate: &'a Held,
-}
-
-impl<'a, N: RoomName<Board> + Send + Sync, R: Wait + Drop + Send + Sync> Job for Posting<'a, N, R> {
-    type Told = Option<Front<Board, N>>;
-
-    fn run(self) -> Option<Front<Board, N>> {
-        let Posting {
-            rt,
-            alloc,
-            room,
-            mut first,
-            gate,
-        } = self;
-        let asked = posting(alloc)?;
-        let receipt = first.submit_past(rt, room, asked, gate).ok()?;
-        published(receipt, &[Reply::Entered(1)], 1)
-    }
-}
-
-/// The second session looks while the gate holds, and opens it.
-#[derive(Drop)]
-struct Looking<'a, N: RoomName<Board>> {
     second: BoardSession<N>,
     gate: &'a Held,
+) -> Option<Vec<Client<'a, N, R>>> {
+    let first = Client {
+        rt,
+        alloc,
+        room,
+        session: first,
+        gate,
+    };
+    let second = Client {
+        rt,
+        alloc,
+        room,
+        session: second,
+        gate,
+    };
+    Vec::from_array(alloc, [first, second]).ok()
 }
 
-impl<'a, N: RoomName<Board> + Send + Sync> Job for Looking<'a, N> {
-    type Told = Option<BoardSession<N>>;
-
-    fn run(self) -> Option<BoardSession<N>> {
-        let Looking { second, gate } = self;
-        if !is_told(&gate.reached) {
-            return None;
-        }
-        let second = looks(second, 0, 0);
-        gate.open.store(true, Ordering::SeqCst);
-        second
-    }
+/// The second session sees what the first one posted, once it has heard of it.
+fn hears<N: RoomName<Board>>(mut told: Vec<Option<Told<N>>>) -> Option<()> {
+    let mut second = told.pop()??.session;
+    let front = told.pop()??.front?;
+    second.hear(&front);
+    let _second = looks(second, 1, 1)?;
+    Some(())
 }
 
-fn watches<N: RoomName<Board> + Send + Sync, R: Wait + Drop + Send + Sync, T: Threads>(
+/// Whether the gate was opened by the second session.
+fn watches<N: RoomName<Board> + Send + Sync, R: Wait + Drop + Send + Sync, T: Threads + Sync>(
     threads: &T,
     rt: &R,
     alloc: Global,
@@ -103,39 +165,17 @@ fn watches<N: RoomName<Board> + Send + Sync, R: Wait + Drop + Send + Sync, T: Th
     let (room, mut sessions) = parts.open::<N>().ok()?;
     let second = sessions.pop()?;
     let first = sessions.pop()?;
-    let gate = Held {
-        reached: AtomicBool::new(false),
-        open: AtomicBool::new(false),
-        passed: AtomicBool::new(false),
-    };
-    let posting = Posting {
-        rt,
-        alloc,
-        room: &room,
-        first,
-        gate: &gate,
-    };
-    let looking = Looking {
-        second,
-        gate: &gate,
-    };
-    let (front, second) = both(threads, posting, looking);
-    let front = front?;
-    let mut second = second?;
-    second.hear(&front);
-    let _second = looks(second, 1, 1)?;
+    let gate = Held::closed();
+    let clients = clients(rt, alloc, &room, first, second, &gate)?;
+    let told = all(threads, clients)?;
+    hears(told)?;
     Some(gate.passed.load(Ordering::SeqCst))
-}
-
-fn opened<R: Wait + Drop>(rt: R, alloc: Global) -> Option<Parts<Board, R>> {
-    let board = board(alloc)?;
-    Room::begin(rt, alloc, board, 9, 2).ok()
 }
 
 #[test]
 fn watch_past_a_gate(rt: HostRuntime) {
     let handle = &rt;
-    match opened(handle, rt.alloc()) {
+    match opened(handle, rt.alloc(), Catalog::empty(rt.alloc())) {
         Some(parts) => {
             let passed = watches::<Brand, _, _>(&rt, &handle, rt.alloc(), parts);
             assert!(rt; passed == Some(true));
