@@ -1,7 +1,7 @@
 //! Desks over a tally.
 
-use crate::tally::{Full, Tally};
 use cq_desk::{Desk, NoMemory, Plain, Refused};
+use cq_tests_tally::{Full, Tally};
 use std::alloc::{Allocator, Global};
 
 /// A desk over a tally that is published by one state.

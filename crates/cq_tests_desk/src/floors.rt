@@ -1,9 +1,9 @@
 //! Floors over a tally.
 
 use crate::growths::is_borne;
-use crate::tally::{Full, Tally};
 use cq_desk::{Answer, Event, Floor, FloorFault, NoMemory, StepFault};
 use cq_tests_growths::{Outcome, Tried, refusals};
+use cq_tests_tally::{Full, Tally};
 use std::alloc::{Allocator, Global};
 
 type TallyFloor<A = Global> = Floor<Tally<A>, A>;

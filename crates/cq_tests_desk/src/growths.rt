@@ -2,10 +2,10 @@
 
 use crate::desks::{TallyDesk, desk, stands};
 use crate::submits::list;
-use crate::tally::Full;
 use cq_desk::{End, NoMemory, Refused, Submitted};
 use cq_refusing::Refusing;
 use cq_tests_growths::{ENOUGH, Outcome, Tried, refusals};
+use cq_tests_tally::Full;
 use std::alloc::{Allocator, Global};
 
 struct Enter;

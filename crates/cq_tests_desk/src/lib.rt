@@ -16,5 +16,3 @@ mod floors;
 mod growths;
 #[cfg(test)]
 mod submits;
-#[cfg(test)]
-mod tally;

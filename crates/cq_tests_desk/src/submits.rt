@@ -1,8 +1,8 @@
 //! Submits.
 
 use crate::desks::{TallyDesk, desk, stands};
-use crate::tally::Full;
 use cq_desk::{End, NoMemory, Reply, Submitted};
+use cq_tests_tally::Full;
 use std::alloc::{Allocator, Global};
 
 /// A list of these bytes.

@@ -2,9 +2,9 @@
 
 ghost use Rattle.std.specs.Prelude.{◌≡◌, ◌∷◌, []};
 
-use crate::tally::{Full, Tally};
 use cq_desk::{End, NoMemory, Reply};
 use cq_room::{Front, Pair, Room, RoomName, Session};
+use cq_tests_tally::{Full, Tally};
 use std::alloc::Global;
 use std::sync::Wait;
 

@@ -3,9 +3,9 @@
 ghost use Rattle.std.specs.Prelude.{◌≡◌, ◌∷◌, []};
 
 use crate::rooms::{TallyRoom, TallySession, looks, submits};
-use crate::tally::{Full, Tally};
 use cq_desk::Reply;
 use cq_room::{Parts, Room, RoomFault, RoomName};
+use cq_tests_tally::{Full, Tally};
 use std::alloc::Global;
 use std::marker::Brand;
 use std::sync::Wait;

@@ -5,10 +5,10 @@ ghost use Rattle.std.specs.Prelude.{◌≡◌, ◌∷◌, []};
 
 use crate::grown::{Grown, both_edits};
 use crate::met::{Attempt, Counts, Met, counted, met_by};
-use crate::tally::Tally;
 use cq_board::Board;
 use cq_desk::End;
 use cq_room::{Front, Pair, Parts, Receipt, Room, RoomFault, RoomName, Session};
+use cq_tests_tally::Tally;
 use std::alloc::Allocator;
 use std::marker::Brand;
 use std::sync::Wait;

@@ -1,7 +1,8 @@
-//! Tallies: a second live state, so that a desk is seen to need nothing of a board.
+//! Tallies: a second live state, so that a desk or a room is seen to need nothing of a board. Nothing but tests uses it.
+#![tactic(auto)]
 
 ghost use Rattle.std.specs.Prelude.{◌≡◌, []};
-ghost use Rattle.cq_tests_desk.specs.Tally.{full_of, pushed, full_keeps};
+ghost use Rattle.cq_tests_tally.specs.Tally.{full_of, pushed, full_keeps};
 
 use cq_desk::{Live, NoMemory};
 use std::alloc::{Allocator, Global};

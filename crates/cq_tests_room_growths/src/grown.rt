@@ -1,9 +1,9 @@
 //! States that grow under two edits.
 
-use crate::tally::Tally;
 use cq_board::{Board, Edit, EditKind, Limits};
 use cq_desk::Live;
 use cq_rel::Catalog;
+use cq_tests_tally::Tally;
 use cq_text::{CommandKind, read_command};
 use std::alloc::Allocator;
 
