@@ -15,5 +15,3 @@ mod left;
 mod record;
 #[cfg(test)]
 mod seats;
-#[cfg(test)]
-mod sixteen;

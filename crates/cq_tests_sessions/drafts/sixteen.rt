@@ -20,20 +20,17 @@ fn seats<'a, N: RoomName<Board>, R: Wait + Drop>(
     sessions: Vec<BoardSession<N>>,
 ) -> Result<Vec<Seat<'a, N, R>>, AllocError> {
     let mut seats = Vec::new(hall.alloc);
-    seats.reserve(sessions.len())?;
     for session in sessions {
-        seats.push_reserved(Seat { hall, session });
+        seats.push(Seat { hall, session })?;
     }
     Ok(seats)
 }
 
 /// What the sessions told, each of which ran in a thread of its own.
-fn run_all<N: RoomName<Board> + Send + Sync, R: Wait + Drop + Send + Sync, T: Threads + Sync>(
+fn run_all<'a, N: RoomName<Board> + Send + Sync, R: Wait + Drop + Send + Sync, T: Threads + Sync>(
     threads: &T,
-    hall: &Hall<N, R>,
-    sessions: Vec<BoardSession<N>>,
+    seats: Vec<Seat<'a, N, R>>,
 ) -> Result<Vec<Told<N>>, AllocError> {
-    let seats = seats(hall, sessions)?;
     map_vec(threads, seats, &|seat| seat.run())
 }
 
@@ -52,7 +49,7 @@ fn run_in<N: RoomName<Board> + Send + Sync, R: Wait + Drop + Send + Sync, T: Thr
         room,
         notice: &notice,
     };
-    run_all(threads, &hall, sessions)
+    run_all(threads, seats(&hall, sessions)?)
 }
 
 /// The sessions and their records.
@@ -62,11 +59,9 @@ fn split<N: RoomName<Board>>(
 ) -> Result<(Vec<BoardSession<N>>, Vec<Record>), AllocError> {
     let mut sessions = Vec::new(alloc);
     let mut records = Vec::new(alloc);
-    sessions.reserve(told.len())?;
-    records.reserve(told.len())?;
     for Told { session, record } in told {
-        sessions.push_reserved(session);
-        records.push_reserved(record);
+        sessions.push(session)?;
+        records.push(record)?;
     }
     Ok((sessions, records))
 }
