@@ -8,6 +8,8 @@ mod asked;
 #[cfg(test)]
 mod boards;
 #[cfg(test)]
+mod jobs;
+#[cfg(test)]
 mod judged;
 #[cfg(test)]
 mod left;

@@ -2,6 +2,7 @@
 
 use crate::asked::{TURNS, WRITERS, edits};
 use crate::boards::{BoardRoom, BoardSession};
+use crate::jobs::Job;
 use crate::record::Record;
 use cq_board::Board;
 use cq_room::{Front, RoomName};
@@ -126,22 +127,18 @@ pub struct Seat<'a, N: RoomName<Board>, R: Wait + Drop> {
     pub session: BoardSession<N>,
 }
 
-/// A session that has run, and its record.
-#[derive(Drop)]
-pub struct Told<N: RoomName<Board>> {
-    pub session: BoardSession<N>,
-    pub record: Record,
-}
+impl<'a, N: RoomName<Board> + Send + Sync, R: Wait + Drop + Send + Sync> Job for Seat<'a, N, R> {
+    type Told = Record;
 
-impl<'a, N: RoomName<Board>, R: Wait + Drop> Seat<'a, N, R> {
-    pub fn run(self) -> Told<N> {
+    /// The record of the session, which goes with its thread.
+    fn run(self) -> Record {
         let Seat { hall, session } = self;
         let mut record = Record::begin(hall.alloc);
-        let session = if session.number() < WRITERS {
+        let _session = if session.number() < WRITERS {
             hall.writer(session, &mut record)
         } else {
             hall.reader(session, &mut record)
         };
-        Told { session, record }
+        record
     }
 }

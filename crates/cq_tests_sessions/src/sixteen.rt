@@ -3,16 +3,17 @@
 ghost use Rattle.std.specs.Prelude.{◌≡◌, ◌∷◌, []};
 
 use crate::boards::{BoardRoom, BoardSession, LIMITS, board};
+use crate::jobs::run_all;
 use crate::judged::{Finding, judge};
 use crate::record::Record;
-use crate::seats::{Hall, Notice, Seat, Told};
+use crate::seats::{Hall, Notice, Seat};
 use cq_board::Board;
 use cq_room::{Parts, Room, RoomName};
 use std::alloc::{AllocError, Global};
 use std::marker::Brand;
 use std::mem::drop;
 use std::sync::Wait;
-use std::thread::{Threads, map_vec};
+use std::thread::Threads;
 
 /// A seat for each session.
 fn seats<'a, N: RoomName<Board>, R: Wait + Drop>(
@@ -20,31 +21,20 @@ fn seats<'a, N: RoomName<Board>, R: Wait + Drop>(
     sessions: Vec<BoardSession<N>>,
 ) -> Result<Vec<Seat<'a, N, R>>, AllocError> {
     let mut seats = Vec::new(hall.alloc);
-    seats.reserve(sessions.len())?;
     for session in sessions {
-        seats.push_reserved(Seat { hall, session });
+        seats.push(Seat { hall, session })?;
     }
     Ok(seats)
 }
 
-/// What the sessions told, each of which ran in a thread of its own.
-fn run_all<N: RoomName<Board> + Send + Sync, R: Wait + Drop + Send + Sync, T: Threads + Sync>(
-    threads: &T,
-    hall: &Hall<N, R>,
-    sessions: Vec<BoardSession<N>>,
-) -> Result<Vec<Told<N>>, AllocError> {
-    let seats = seats(hall, sessions)?;
-    map_vec(threads, seats, &|seat| seat.run())
-}
-
-/// The same in the room.
+/// The records of the sessions, each of which ran in a thread of its own.
 fn run_in<N: RoomName<Board> + Send + Sync, R: Wait + Drop + Send + Sync, T: Threads + Sync>(
     threads: &T,
     rt: &R,
     alloc: Global,
     room: &BoardRoom<N, R>,
     sessions: Vec<BoardSession<N>>,
-) -> Result<Vec<Told<N>>, AllocError> {
+) -> Result<Vec<Record>, AllocError> {
     let notice = Notice::empty();
     let hall = Hall {
         rt,
@@ -52,23 +42,7 @@ fn run_in<N: RoomName<Board> + Send + Sync, R: Wait + Drop + Send + Sync, T: Thr
         room,
         notice: &notice,
     };
-    run_all(threads, &hall, sessions)
-}
-
-/// The sessions and their records.
-fn split<N: RoomName<Board>>(
-    alloc: Global,
-    told: Vec<Told<N>>,
-) -> Result<(Vec<BoardSession<N>>, Vec<Record>), AllocError> {
-    let mut sessions = Vec::new(alloc);
-    let mut records = Vec::new(alloc);
-    sessions.reserve(told.len())?;
-    records.reserve(told.len())?;
-    for Told { session, record } in told {
-        sessions.push_reserved(session);
-        records.push_reserved(record);
-    }
-    Ok((sessions, records))
+    run_all(threads, seats(&hall, sessions)?)
 }
 
 /// What is found where the room is closed.
@@ -76,10 +50,9 @@ fn closes<N: RoomName<Board>, R: Wait + Drop>(
     rt: &R,
     alloc: Global,
     room: BoardRoom<N, R>,
-    sessions: Vec<BoardSession<N>>,
     records: &[Record],
 ) -> Finding {
-    let desk = room.close(rt, sessions);
+    let desk = room.close(rt, Vec::new(alloc));
     let finding = judge(alloc, desk.journal(), records);
     drop(desk);
     finding
@@ -96,9 +69,8 @@ fn runs<N: RoomName<Board> + Send + Sync, R: Wait + Drop + Send + Sync, T: Threa
     requires limit { N.limit ≡ parts.limit }
 {
     let (room, sessions) = parts.open::<N>().ok()?;
-    let told = run_in(threads, rt, alloc, &room, sessions).ok()?;
-    let (sessions, records) = split(alloc, told).ok()?;
-    Some(closes(rt, alloc, room, sessions, &records))
+    let records = run_in(threads, rt, alloc, &room, sessions).ok()?;
+    Some(closes(rt, alloc, room, &records))
 }
 
 fn opened<R: Wait + Drop>(rt: R, alloc: Global) -> Option<Parts<Board, R>> {
