@@ -3,15 +3,16 @@
 ghost use Rattle.std.specs.Prelude.{◌≡◌, ◌∷◌, []};
 
 use crate::boards::{BoardRoom, BoardSession, looks, opened, posting, published};
+use crate::jobs::{Job, both};
 use cq_board::Board;
 use cq_desk::Reply;
 use cq_rel::Catalog;
 use cq_room::{Front, Gate, Parts, RoomName};
-use std::alloc::{AllocError, Global};
+use std::alloc::Global;
 use std::marker::Brand;
-use std::sync::Wait;
 use std::sync::atomic::{AtomicBool, Ordering};
-use std::thread::{Threads, map_vec};
+use std::sync::{Mutex, Wait};
+use std::thread::Threads;
 
 /// More turns than it takes a thread to look.
 const TURNS: u64 = 100_000_000;
@@ -52,117 +53,116 @@ impl Gate for Held {
     }
 }
 
-/// What both threads share.
+/// The first session posts past the gate.
 #[derive(Drop)]
-struct Hall<'a, N: RoomName<Board>, R: Wait + Drop> {
+struct Posting<'a, N: RoomName<Board>, R: Wait + Drop> {
     rt: &'a R,
     alloc: Global,
     room: &'a BoardRoom<N, R>,
+    first: BoardSession<N>,
     gate: &'a Held,
 }
 
-impl<'a, N: RoomName<Board>, R: Wait + Drop> Hall<'a, N, R> {
-    /// The front of the posting of `a` past the gate.
-    fn posts(&self, session: &mut BoardSession<N>) -> Option<Front<Board, N>> {
-        let asked = posting(self.alloc)?;
-        let receipt = session
-            .submit_past(self.rt, self.room, asked, self.gate)
-            .ok()?;
-        published(receipt, &[Reply::Entered(1)], 1)
-    }
+/// The front of the posting of `a` past the gate.
+fn posts_past<N: RoomName<Board>, R: Wait + Drop>(
+    rt: &R,
+    alloc: Global,
+    room: &BoardRoom<N, R>,
+    session: &mut BoardSession<N>,
+    gate: &Held,
+) -> Option<Front<Board, N>> {
+    let asked = posting(alloc)?;
+    let receipt = session.submit_past(rt, room, asked, gate).ok()?;
+    published(receipt, &[Reply::Entered(1)], 1)
+}
 
-    /// The session after a look while the gate holds. The gate opens then.
-    fn looks(&self, session: BoardSession<N>) -> Option<BoardSession<N>> {
-        let reached = is_told(&self.gate.reached);
-        let session = looks(session, 0, 0);
-        self.gate.open.store(reached, Ordering::SeqCst);
-        session
+impl<'a, N: RoomName<Board> + Send + Sync, R: Wait + Drop + Send + Sync> Job for Posting<'a, N, R> {
+    type Told = Option<Front<Board, N>>;
+
+    fn run(self) -> Option<Front<Board, N>> {
+        let Posting {
+            rt,
+            alloc,
+            room,
+            mut first,
+            gate,
+        } = self;
+        posts_past(rt, alloc, room, &mut first, gate)
     }
 }
 
-/// What a session's thread leaves: the front of the first session, and the second session.
+/// The second session looks while the gate holds, and opens it. It is taken from its seat for the look.
 #[derive(Drop)]
-struct Told<N: RoomName<Board>> {
-    front: Option<Front<Board, N>>,
-    session: Option<BoardSession<N>>,
+struct Looking<'a, N: RoomName<Board>, R: Wait + Drop> {
+    rt: &'a R,
+    seat: &'a Mutex<Option<BoardSession<N>>>,
+    gate: &'a Held,
 }
 
-/// A session that is to run in a thread.
-#[derive(Drop)]
-struct Seat<'a, N: RoomName<Board>, R: Wait + Drop> {
-    hall: &'a Hall<'a, N, R>,
+/// The session after a look while the gate holds. The gate opens then.
+fn looks_meanwhile<N: RoomName<Board>>(
     session: BoardSession<N>,
+    gate: &Held,
+) -> Option<BoardSession<N>> {
+    let reached = is_told(&gate.reached);
+    let session = looks(session, 0, 0);
+    gate.open.store(reached, Ordering::SeqCst);
+    session
 }
 
-impl<'a, N: RoomName<Board>, R: Wait + Drop> Seat<'a, N, R> {
-    /// The first session posts, and the second one looks.
-    fn run(self) -> Told<N> {
-        let Seat { hall, mut session } = self;
-        if session.number() == 0 {
-            Told {
-                front: hall.posts(&mut session),
-                session: None,
-            }
-        } else {
-            Told {
-                front: None,
-                session: hall.looks(session),
-            }
+impl<'a, N: RoomName<Board> + Send + Sync, R: Wait + Drop + Send + Sync> Job for Looking<'a, N, R> {
+    type Told = ();
+
+    fn run(self) {
+        let Looking { rt, seat, gate } = self;
+        let taken = seat.lock(rt).take();
+        if let Some(session) = taken {
+            let session = looks_meanwhile(session, gate);
+            *seat.lock(rt) = session;
         }
     }
 }
 
-/// A seat for each session.
-fn seats<'a, N: RoomName<Board>, R: Wait + Drop>(
-    hall: &'a Hall<'a, N, R>,
-    sessions: Vec<BoardSession<N>>,
-) -> Result<Vec<Seat<'a, N, R>>, AllocError> {
-    let mut seats = Vec::new(hall.alloc);
-    seats.reserve(sessions.len())?;
-    for session in sessions {
-        seats.push_reserved(Seat { hall, session });
-    }
-    Ok(seats)
-}
-
-/// What the threads leave.
-fn run_all<N: RoomName<Board> + Send + Sync, R: Wait + Drop + Send + Sync, T: Threads + Sync>(
+/// The front of the posting, beside another job. That one stands as a parameter, since two types that hold a session are
+/// more than the check of one call takes.
+fn posts_beside<N: RoomName<Board> + Send + Sync, R: Wait + Drop + Send + Sync, J: Job, T: Threads>(
     threads: &T,
-    hall: &Hall<N, R>,
-    sessions: Vec<BoardSession<N>>,
-) -> Result<Vec<Told<N>>, AllocError> {
-    let seats = seats(hall, sessions)?;
-    map_vec(threads, seats, &|seat| seat.run())
+    posting: Posting<'_, N, R>,
+    other: J,
+) -> Option<Front<Board, N>> {
+    let (front, _) = both(threads, posting, other);
+    front
 }
 
 /// Whether the second session sees what the first one posted, once it has heard of it.
-fn hears<N: RoomName<Board>>(mut told: Vec<Told<N>>) -> bool {
-    match (told.pop(), told.pop()) {
-        (
-            Some(
-                Told {
-                    session: Some(second),
-                    ..
-                },
-            ),
-            Some(
-                Told {
-                    front: Some(front),
-                    ..
-                },
-            ),
-        ) => sees(second, &front),
-        _ => false,
-    }
-}
-
 fn sees<N: RoomName<Board>>(mut session: BoardSession<N>, front: &Front<Board, N>) -> bool {
     session.hear(front);
     looks(session, 1, 1).is_some()
 }
 
+/// The front of the first session's posting, where the second one looks from its seat.
+fn run_both<N: RoomName<Board> + Send + Sync, R: Wait + Drop + Send + Sync, T: Threads>(
+    threads: &T,
+    rt: &R,
+    alloc: Global,
+    room: &BoardRoom<N, R>,
+    first: BoardSession<N>,
+    seat: &Mutex<Option<BoardSession<N>>>,
+    gate: &Held,
+) -> Option<Front<Board, N>> {
+    let looking = Looking { rt, seat, gate };
+    let posting = Posting {
+        rt,
+        alloc,
+        room,
+        first,
+        gate,
+    };
+    posts_beside(threads, posting, looking)
+}
+
 /// Whether the second session opened the gate, and saw nothing before it opened.
-fn watches<N: RoomName<Board> + Send + Sync, R: Wait + Drop + Send + Sync, T: Threads + Sync>(
+fn watches<N: RoomName<Board> + Send + Sync, R: Wait + Drop + Send + Sync, T: Threads>(
     threads: &T,
     rt: &R,
     alloc: Global,
@@ -172,17 +172,14 @@ fn watches<N: RoomName<Board> + Send + Sync, R: Wait + Drop + Send + Sync, T: Th
     requires opening { N.opening ≡ parts.opening ∷ [] }
     requires limit { N.limit ≡ parts.limit }
 {
-    let (room, sessions) = parts.open::<N>().ok()?;
+    let (room, mut sessions) = parts.open::<N>().ok()?;
+    let second = sessions.pop()?;
+    let first = sessions.pop()?;
     let gate = Held::closed();
-    let hall = Hall {
-        rt,
-        alloc,
-        room: &room,
-        gate: &gate,
-    };
-    let told = run_all(threads, &hall, sessions).ok()?;
-    let heard = hears(told);
-    Some(heard && gate.passed.load(Ordering::SeqCst))
+    let seat = Mutex::new(Some(second));
+    let front = run_both(threads, rt, alloc, &room, first, &seat, &gate)?;
+    let second = seat.into_inner()?;
+    Some(sees(second, &front) && gate.passed.load(Ordering::SeqCst))
 }
 
 #[test]
