@@ -9,6 +9,7 @@ use cq_desk::Reply;
 use cq_rel::Catalog;
 use cq_room::{Front, Gate, Parts, RoomName};
 use std::alloc::Global;
+use std::hint::spin_loop;
 use std::marker::Brand;
 use std::sync::atomic::{AtomicBool, Ordering};
 use std::sync::{Mutex, Wait};
@@ -41,6 +42,7 @@ fn is_told(flag: &AtomicBool) -> bool {
         if flag.load(Ordering::SeqCst) {
             return true;
         }
+        spin_loop();
     }
     false
 }
