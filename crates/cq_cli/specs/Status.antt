@@ -5,22 +5,35 @@ use Rattle.cq_report.specs.declared.fault.RunFault.{RunFault}
 use Rattle.cq_report.specs.declared.fault.RunFault.TheVariants as runs
 use Rattle.cq_cli.specs.declared.rows.RowsFault.{RowsFault}
 use Rattle.cq_cli.specs.declared.rows.RowsFault.TheVariants as rows
+use Rattle.cq_cli.specs.declared.sessions.SessionsFault.{SessionsFault}
+use Rattle.cq_cli.specs.declared.sessions.SessionsFault.TheVariants as sessions
 use Rattle.cq_cli.specs.declared.status.Status.{Status}
-use Rattle.cq_cli.specs.declared.status.Status.TheVariants.{Done, Failed, Usage, NoMemory, BadRecord}
+use Rattle.cq_cli.specs.declared.status.Status.TheVariants.{Done, Failed, Usage, NoMemory, BadRecord, Unserved}
 
--- Done is 0, a device that failed is 1, a fault of usage is 2, want of memory is 3, a record at fault is 4.
+-- Done is 0, a device that failed is 1, and so are sessions that were not served, a fault of usage is 2, want of memory is 3, a record at fault is 4.
 abbrev pub code_of : Status → ℕ
 code_of Done = 0
 code_of Failed = 1
 code_of Usage = 2
 code_of NoMemory = 3
 code_of BadRecord = 4
+code_of Unserved = 1
 
 -- A fault of reading or writing is a device that failed.
 abbrev pub status_of_run : RunFault → Status
 status_of_run (runs.Read turn) = Failed
 status_of_run runs.Write = Failed
+status_of_run runs.Places = Unserved
+status_of_run runs.Thread = Unserved
 status_of_run runs.NoMemory = NoMemory
+
+-- No file and too many are a fault of usage; a file that does not open or whose reading fails is none of the standard devices.
+abbrev pub status_of_sessions : SessionsFault → Status
+status_of_sessions sessions.NoFile = Usage
+status_of_sessions sessions.TooMany = Usage
+status_of_sessions (sessions.Open path) = Unserved
+status_of_sessions (sessions.Run (runs.Read turn)) = Unserved
+status_of_sessions (sessions.Run fault) = status_of_run fault
 
 -- A relation's name and an arity are words, so they are a fault of usage; a record at fault is neither.
 abbrev pub status_of_rows : RowsFault → Status
@@ -38,10 +51,11 @@ DeviceFailed reads reads' read_failures read_failures' write_failures write_fail
     (write_failures < write_failures')
     ⊎ ((turn : ℕ) × FailedAtTurn turn reads reads' read_failures read_failures')
 
--- What was asked for was refused before anything of it was done: for its words, or for a record of CSV.
+-- What was asked for was refused before anything of it was written: for its words, for a record of CSV, or for what sessions want.
 abbrev pub IsRefused : Status → Type 0
 IsRefused Done = ⊥
 IsRefused Failed = ⊥
 IsRefused Usage = Unit {0}
 IsRefused NoMemory = ⊥
 IsRefused BadRecord = Unit {0}
+IsRefused Unserved = Unit {0}

@@ -5,6 +5,7 @@ ghost use Rattle.cq_cli.specs.declared.status.Status.{Status};
 ghost use Rattle.cq_cli.specs.Status.{DeviceFailed, IsRefused};
 
 use crate::rows::write_rows;
+use crate::sessions::serve_files;
 use crate::status::Status;
 use crate::wanted::{Wanted, read_words};
 use crate::writing::{tell, tell_fault, write_text};
@@ -14,6 +15,9 @@ use cq_report::{RunFault, run};
 use cq_text::{Sink, Source};
 use std::alloc::{Allocator, Global};
 use std::convert::AsStr;
+use std::fs::Files;
+use std::sync::Wait;
+use std::thread::Threads;
 
 /// Tells what is wrong with the words on the sink of errors, or writes the help or the version that they ask for
 /// to the other.
@@ -97,9 +101,39 @@ fn answer_rows<A: Allocator + Copy, R: Source, W: Sink, E: Sink>(
     Status::of_rows(fault)
 }
 
+/// Serves the files, and tells a fault of it.
+fn answer_sessions<H: Files + Threads + Wait + Sync, W: Sink, E: Sink>(
+    host: &H,
+    alloc: Global,
+    setup: &str,
+    files: &[&str],
+    sink: &mut W,
+    errors: &mut E,
+) -> Status
+    requires sink { W.write_failures sink.old < 2 ^ 62 }
+    requires errors { E.write_failures errors.old < 2 ^ 62 }
+    ensures write { W.write_failures sink.old < W.write_failures sink.new → result ≡ Status.Failed }
+    ensures failed { result ≡ Status.Failed → W.write_failures sink.old < W.write_failures sink.new }
+    ensures refused { IsRefused result → (sink.new ≡ sink.old) }
+{
+    let Err(fault) = serve_files(host, alloc, setup, files, sink) else {
+        return Status::Done;
+    };
+    tell_fault(alloc, &fault, errors);
+    Status::of_sessions(fault)
+}
+
 /// Does what the words say. Texts of faults go to the sink of errors, each one line; help goes to the other.
 /// The words and the texts use `alloc`, since the reader of words knows no other allocator; the run uses `heap`.
-pub(crate) fn answer<S: AsStr, A: Allocator + Copy, R: Source, W: Sink, E: Sink>(
+pub(crate) fn answer<
+    H: Files + Threads + Wait + Sync,
+    S: AsStr,
+    A: Allocator + Copy,
+    R: Source,
+    W: Sink,
+    E: Sink,
+>(
+    host: &H,
     alloc: Global,
     heap: A,
     words: &[S],
@@ -126,6 +160,9 @@ pub(crate) fn answer<S: AsStr, A: Allocator + Copy, R: Source, W: Sink, E: Sink>
         Ok(Wanted::Replay) => answer_replay(alloc, heap, source, sink, errors),
         Ok(Wanted::Rows { relation, arity }) => {
             answer_rows(alloc, heap, relation, arity, source, sink, errors)
+        }
+        Ok(Wanted::Sessions { setup, files }) => {
+            answer_sessions(host, alloc, setup, &files, sink, errors)
         }
     }
 }

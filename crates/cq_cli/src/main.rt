@@ -7,6 +7,7 @@
 
 mod answering;
 mod rows;
+mod sessions;
 mod status;
 mod wanted;
 mod writing;
@@ -51,6 +52,7 @@ fn main(rt: HostRuntime) -> ExitCode {
     let mut source = Counted::new(rt.stdin());
     let mut sink = Counted::new(rt.stdout());
     let status = answer(
+        &rt,
         rt.alloc(),
         rt.alloc(),
         &words,

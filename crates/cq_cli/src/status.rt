@@ -1,9 +1,10 @@
 //! How the program ends.
 
 ghost use Rattle.std.specs.Prelude.{◌≡◌};
-ghost use Rattle.cq_cli.specs.Status.{code_of, status_of_run, status_of_rows};
+ghost use Rattle.cq_cli.specs.Status.{code_of, status_of_run, status_of_rows, status_of_sessions};
 
 use crate::rows::RowsFault;
+use crate::sessions::SessionsFault;
 use cq_report::RunFault;
 
 /// How the program ends.
@@ -19,6 +20,8 @@ pub(crate) enum Status {
     NoMemory,
     /// A record of CSV is at fault.
     BadRecord,
+    /// Sessions were not served: a file failed, or no thread or place was had.
+    Unserved,
 }
 
 impl Status {
@@ -32,6 +35,7 @@ impl Status {
             Status::Usage => 2,
             Status::NoMemory => 3,
             Status::BadRecord => 4,
+            Status::Unserved => 1,
         }
     }
 
@@ -41,7 +45,21 @@ impl Status {
     {
         match fault {
             RunFault::Read { turn: _ } | RunFault::Write => Status::Failed,
+            RunFault::Places | RunFault::Thread => Status::Unserved,
             RunFault::NoMemory => Status::NoMemory,
+        }
+    }
+
+    /// How the program ends after sessions that ended so.
+    pub(crate) fn of_sessions(fault: SessionsFault<'_>) -> Status
+        ensures { result ≡ status_of_sessions fault.entry }
+    {
+        match fault {
+            SessionsFault::NoFile | SessionsFault::TooMany => Status::Usage,
+            SessionsFault::Open { path: _ } | SessionsFault::Run(RunFault::Read { turn: _ }) => {
+                Status::Unserved
+            }
+            SessionsFault::Run(fault) => Status::of_run(fault),
         }
     }
 

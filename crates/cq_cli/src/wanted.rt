@@ -5,7 +5,7 @@ use std::alloc::{AllocError, Global};
 use std::convert::AsStr;
 
 /// The number that `--version` tells; CHANGELOG.md says what came with each.
-const VERSION: &str = "0.3.0";
+const VERSION: &str = "0.4.0";
 
 const ABOUT: &str = "A live coordination board for entangled queries.";
 
@@ -15,12 +15,12 @@ const BEHIND: &str = "Commands of a script:
 
 Exit status:
   0  done: refused lines of a script included, and help and version
-  1  standard input or standard output failed
-  2  words that are no command, a bad relation name, a bad arity
+  1  standard input or standard output failed, or a file or a thread of sessions
+  2  words that are no command, a bad relation name, a bad arity, too many files
   3  out of memory
   4  a record of CSV at fault; then nothing is written to standard output
 
-docs/formats.md describes the language, its replies, the report and CSV.";
+docs/formats.md describes the language, its replies, the report, CSV and sessions.";
 
 const ABOUT_REPLAY: &str = "Reads a script on standard input, and writes its replies and reports.";
 
@@ -61,8 +61,25 @@ writes
 Exit status: 0 done, 1 a device failed, 2 usage, 3 out of memory, 4 a record at fault.
 docs/formats.md describes values and CSV.";
 
+const ABOUT_SESSIONS: &str =
+    "Serves files over one board, each by a thread of its own, and writes a script of what came of it.";
+
+const BEHIND_SESSIONS: &str =
+    "SETUP and the files are scripts. SETUP is served first; its relation and limits lines count. Then each file, of
+which there are 1 to 16, is served by a thread, as one session: what it enters is published by its publish lines and at its
+end, and show tells how many entries are published.
+
+What is written is a script: the relations and limits, each entry under a comment with its number and session, a publish
+and a show, and the replies to all lines as comments. Replayed, it shows the same board.
+
+Example:
+  board sessions setup.board kramer.board jerry.board
+
+Exit status: 0 done (refused lines included), 1 a device failed, 2 usage, 3 out of memory.
+docs/formats.md describes sessions.";
+
 /// What the words ask for.
-#[derive(Clone, Copy, Debug)]
+#[derive(Drop, Debug)]
 pub(crate) enum Wanted<'a> {
     /// A script is replayed.
     Replay,
@@ -72,6 +89,13 @@ pub(crate) enum Wanted<'a> {
         relation: &'a str,
         /// The word that stands for its arity.
         arity: &'a str,
+    },
+    /// Files are served over one board.
+    Sessions {
+        /// The path of the setup.
+        setup: &'a str,
+        /// The paths of the files.
+        files: Vec<&'a str>,
     },
 }
 
@@ -105,6 +129,19 @@ fn rows_command<'a>(alloc: Global) -> Result<Command<'a>, AllocError> {
         ))
 }
 
+fn sessions_command<'a>(alloc: Global) -> Result<Command<'a>, AllocError> {
+    Command::new(alloc, "sessions")
+        .about(ABOUT_SESSIONS)
+        .after_help(BEHIND_SESSIONS)
+        .arg(word(alloc, "SETUP", "The script that is served first"))?
+        .arg(word(
+            alloc,
+            "FILE",
+            "The scripts that are served in threads, 1 to 16",
+        )
+        .num_args(1..))
+}
+
 fn board_command<'a>(alloc: Global) -> Result<Command<'a>, AllocError> {
     Command::new(alloc, "board")
         .version(VERSION)
@@ -114,7 +151,8 @@ fn board_command<'a>(alloc: Global) -> Result<Command<'a>, AllocError> {
         .arg_required_else_help(true)
         .bin_name("board")?
         .subcommand(replay_command(alloc))?
-        .subcommand(rows_command(alloc)?)
+        .subcommand(rows_command(alloc)?)?
+        .subcommand(sessions_command(alloc)?)
 }
 
 /// What the words ask for, of which the first is the program's name.
@@ -124,11 +162,19 @@ fn board_command<'a>(alloc: Global) -> Result<Command<'a>, AllocError> {
 /// growth was refused.
 pub(crate) fn read_words<'a, S: AsStr>(alloc: Global, words: &'a [S]) -> Result<Wanted<'a>, Error> {
     let matches = board_command(alloc)?.try_get_matches_from(words)?;
-    let Some(("rows", rows)) = matches.subcommand() else {
-        return Ok(Wanted::Replay);
-    };
-    Ok(Wanted::Rows {
-        relation: rows.get_str("RELATION").unwrap_or(""),
-        arity: rows.get_str("ARITY").unwrap_or(""),
-    })
+    match matches.subcommand() {
+        Some(("rows", rows)) => Ok(Wanted::Rows {
+            relation: rows.get_str("RELATION").unwrap_or(""),
+            arity: rows.get_str("ARITY").unwrap_or(""),
+        }),
+        Some(("sessions", sessions)) => {
+            let mut files = Vec::new(alloc);
+            files.extend_from_slice(sessions.get_strs("FILE").unwrap_or(&[]))?;
+            Ok(Wanted::Sessions {
+                setup: sessions.get_str("SETUP").unwrap_or(""),
+                files,
+            })
+        }
+        _ => Ok(Wanted::Replay),
+    }
 }

@@ -1,6 +1,6 @@
 //! Reads CSV from a source.
 
-ghost use Rattle.std.specs.Prelude.{◌≡◌, ◌<◌, ◌≤◌, ◌+◌, ◌^◌, [], None, Some, length, map, OnOk, IfOk, IfErr, IfSome, MatchResult};
+ghost use Rattle.std.specs.Prelude.{◌≡◌, ◌<◌, ◌≤◌, ◌+◌, ◌^◌, None, Some, map, IfOk, IfErr, IfSome, MatchResult};
 ghost use Rattle.std.specs.Io.KnownBytes.{IsAtEnd};
 ghost use Rattle.cq_text.specs.Device.{FailedAtTurn, ReadWhole};
 ghost use Rattle.cq_rel.specs.Csv.{IfOfCall, IfOfDevice, IfOfRecord, IsOfDevice, call_fault, csv_records, records_fault, row_of_record};
@@ -8,45 +8,11 @@ ghost use Rattle.cq_rel.specs.Csv.{IfOfCall, IfOfDevice, IfOfRecord, IsOfDevice,
 use crate::fault::CsvFault;
 use crate::records::rows_of;
 use cq_atom::{MAX_ARITY, Row, is_relation_text};
-use cq_text::{MAX_PIECE, MAX_READS, Source};
+use cq_text::{MAX_READS, Source, WholeFault, read_whole};
 use std::alloc::{Allocator, Global};
 
-/// Reads pieces to the end, and adds them to the bytes. All that it works with is lent, so that no exit has
-/// anything to let go.
-fn read_pieces<A: Allocator, R: Source>(
-    piece: &mut [u8],
-    source: &mut R,
-    bytes: &mut Vec<u8, A>,
-) -> Result<(), CsvFault>
-    requires piece { 0 < length piece.old }
-    requires bytes { bytes.old.items ≡ [] }
-    requires reads { R.reads_made source.old < 2 ^ 62 }
-    requires failures { R.failures_met source.old < 2 ^ 62 }
-    ensures whole { OnOk result (ReadWhole (R.left source.old) (R.left source.new) bytes.new.items) }
-    ensures call { IfErr result (λ fault. IfOfCall fault ⊥) }
-    ensures record { IfErr result (λ fault. IfOfRecord fault ⊥) }
-    ensures turn { IfErr result (λ fault. IfOfDevice fault (λ turn. FailedAtTurn turn (R.reads_made source.old) (R.reads_made source.new) (R.failures_met source.old) (R.failures_met source.new))) }
-    ensures reads { R.reads_made source.new ≤ R.reads_made source.old + MAX_READS }
-    ensures failures { MatchResult result (λ _. R.failures_met source.new ≡ R.failures_met source.old) (λ fault. (IsOfDevice fault → ⊥) → R.failures_met source.new ≡ R.failures_met source.old) }
-{
-    for i in 0..MAX_READS {
-        let Ok(len) = source.read(piece) else {
-            return Err(CsvFault::Device {
-                turn: u64::from(i) + 1,
-            });
-        };
-        if len == 0 {
-            return Ok(());
-        }
-        bytes.extend_from_slice(&piece[..len])?;
-    }
-    Err(CsvFault::Device {
-        turn: u64::from(MAX_READS) + 1,
-    })
-}
-
 /// All bytes that the source has left.
-fn read_whole<A: Allocator, R: Source>(alloc: A, source: &mut R) -> Result<Vec<u8, A>, CsvFault>
+fn read_bytes<A: Allocator, R: Source>(alloc: A, source: &mut R) -> Result<Vec<u8, A>, CsvFault>
     requires reads { R.reads_made source.old < 2 ^ 62 }
     requires failures { R.failures_met source.old < 2 ^ 62 }
     ensures whole { IfOk result (λ bytes. ReadWhole (R.left source.old) (R.left source.new) bytes.items) }
@@ -56,10 +22,13 @@ fn read_whole<A: Allocator, R: Source>(alloc: A, source: &mut R) -> Result<Vec<u
     ensures reads { R.reads_made source.new ≤ R.reads_made source.old + MAX_READS }
     ensures failures { MatchResult result (λ _. R.failures_met source.new ≡ R.failures_met source.old) (λ fault. (IsOfDevice fault → ⊥) → R.failures_met source.new ≡ R.failures_met source.old) }
 {
-    let mut bytes = Vec::new(alloc);
-    let mut piece = [0u8; MAX_PIECE];
-    read_pieces(&mut piece, source, &mut bytes)?;
-    Ok(bytes)
+    match read_whole(alloc, source) {
+        Ok(bytes) => Ok(bytes),
+        Err(WholeFault::Read { turn }) => Err(CsvFault::Device {
+            turn: u64::from(turn),
+        }),
+        Err(WholeFault::NoMemory) => Err(CsvFault::NoMemory),
+    }
 }
 
 /// Why nothing is read.
@@ -118,6 +87,6 @@ pub fn read_csv<A: Allocator + Copy, R: Source>(
     if let Some(fault) = call_fault(relation, arity) {
         return Err(fault);
     }
-    let bytes = read_whole(alloc, source)?;
+    let bytes = read_bytes(alloc, source)?;
     rows_of(alloc, heap, bytes.as_slice(), relation, arity)
 }

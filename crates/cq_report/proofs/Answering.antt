@@ -48,8 +48,10 @@ module _ {W A : Type 0} (taken : W → Option (List ℕ)) (failures : W → ℕ)
   pub Put-from : (bytes : List ℕ) (r : Result (Unit {0}) RunFault) → OnOk r (Puts taken failures first now bytes) → IfErr r (λ fault. Breaks taken failures first now bytes fault) → IfErr r (λ fault. fault ≡ faults.Write)
       → Put taken failures first now bytes r
   Put-from bytes (Ok done) ok err is = ok
-  Put-from bytes (Err faults.Write) ok err is = (err, λ h. h)
-  Put-from bytes (Err faults.NoMemory) ok err is = (err, λ h. h)
+  Put-from bytes (Err faults.Write) ok err is = (err, (λ h. h), tt)
+  Put-from bytes (Err faults.NoMemory) ok err is = (err, (λ h. h), tt)
+  Put-from bytes (Err faults.Places) ok err is = cc
+  Put-from bytes (Err faults.Thread) ok err is = cc
   Put-from bytes (Err (faults.Read turn)) ok err is = cc
 
   module _ (old new : State) (line : List ℕ) (reading : Reading) (only : (other : Reading) → IsReading line other → other ≡ reading) where
@@ -67,7 +69,7 @@ module _ {W A : Type 0} (taken : W → Option (List ℕ)) (failures : W → ℕ)
 
   pub put_fails : (bytes : List ℕ) (r : Result (Unit {0}) RunFault) → Put taken failures first now bytes r → IfErr r (λ fault. Fails failures first now fault)
   put_fails bytes (Ok done) p = tt
-  put_fails bytes (Err fault) p = record { writer = p.0.writer; failed = p.0.failed; no_read = p.1 }
+  put_fails bytes (Err fault) p = record { writer = p.0.writer; failed = p.0.failed; no_read = p.1; of_output = p.2 }
 
 -- memory was wanting before anything was put
 pub starved : {W A : Type 0} (taken : W → Option (List ℕ)) (failures : W → ℕ) (output : Output W A) (bytes : List ℕ) → Breaks taken failures output output bytes faults.NoMemory

@@ -26,6 +26,8 @@ Passes-all taken taken' held bytes held' p none none' =
 pub IfRead-weaker : (fault : RunFault) (P Q : ℕ → Type 0) → ((turn : ℕ) → P turn → Q turn) → IfRead fault P → IfRead fault Q
 IfRead-weaker (faults.Read turn) P Q f h = f turn h
 IfRead-weaker faults.Write P Q f h = tt
+IfRead-weaker faults.Places P Q f h = tt
+IfRead-weaker faults.Thread P Q f h = tt
 IfRead-weaker faults.NoMemory P Q f h = tt
 
 module _ {W A : Type 0} (taken : W → Option (List ℕ)) (failures : W → ℕ) (left left' : Option (List ℕ)) (first now : Output W A) where

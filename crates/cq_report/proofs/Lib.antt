@@ -10,3 +10,10 @@ pub mod Cutting
 pub mod Kept
 pub mod Served
 pub mod Ending
+pub mod Turns
+pub mod Sheets
+pub mod Clients
+pub mod Settings
+pub mod Rooms
+pub mod Threads
+pub mod Pages

@@ -41,7 +41,7 @@ got_of_map f (y ∷ xs) (suc i) x got = got_of_map f xs i x got
 pub nothing_left : {X : Type 0} (xs : List X) (i : ℕ) → length xs ≡ i → drop i xs ≡ []
 nothing_left xs i e = drop_all i xs (omega arith)
 
-ahead_at : {X : Type 0} (xs : List X) (i : ℕ) (x : X) → slice_get xs i ≡ Some x → drop i xs ≡ x ∷ drop (suc i) xs
+pub ahead_at : {X : Type 0} (xs : List X) (i : ℕ) (x : X) → slice_get xs i ≡ Some x → drop i xs ≡ x ∷ drop (suc i) xs
 ahead_at [] i x got = cc
 ahead_at (y ∷ xs) zero x got = let same : y ≡ x = cc in ap (λ z. z ∷ xs) same
 ahead_at (y ∷ xs) (suc i) x got = ahead_at xs i x got

@@ -40,11 +40,11 @@ module _ {W A : Type 0} (taken : W → Option (List ℕ)) (failures : W → ℕ)
   pub Putting-last : (first now next : Output W A) (whole rest : List ℕ) (r : Result (Unit {0}) RunFault) → Putting taken failures first now whole rest → Put taken failures now next rest r → Put taken failures first next whole r
   Putting-last first now next whole rest (Ok done) p q = subst (Puts taken failures first next) p.all (Puts-then taken failures first now next p.done rest p.puts q)
   Putting-last first now next whole rest (Err fault) p q =
-      (subst (λ (bytes : List ℕ). Breaks taken failures first next bytes fault) p.all (Puts-breaks taken failures first now next p.done rest fault p.puts q.0), q.1)
+      (subst (λ (bytes : List ℕ). Breaks taken failures first next bytes fault) p.all (Puts-breaks taken failures first now next p.done rest fault p.puts q.0), q.1, q.2)
 
   -- a piece that was not put
   pub Putting-broken : (first now next : Output W A) (whole x rest : List ℕ) (fault : RunFault) → Putting taken failures first now whole (x ++ rest) → Put taken failures now next x (Err fault) → Put taken failures first next whole (Err fault)
-  Putting-broken first now next whole x rest fault p q = (Putting-stops first now next whole x rest fault p q.0, q.1)
+  Putting-broken first now next whole x rest fault p q = (Putting-stops first now next whole x rest fault p q.0, q.1, q.2)
 
   pub Put-starved : (first now : Output W A) (whole rest : List ℕ) → Putting taken failures first now whole rest → Put taken failures first now whole (Err faults.NoMemory)
-  Put-starved first now whole rest p = (Putting-starved first now whole rest p, λ h. h)
+  Put-starved first now whole rest p = (Putting-starved first now whole rest p, (λ h. h), tt)

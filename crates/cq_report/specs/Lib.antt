@@ -5,4 +5,6 @@ pub mod Reply
 pub mod Machine
 pub mod Output
 pub mod Run
+pub mod Script
+pub mod Sessions
 pub mod Steps

@@ -7,3 +7,7 @@ pub mod Laws
 pub mod Kept
 pub mod Serving
 pub mod Replay
+pub mod Sheets
+pub mod Clients
+pub mod Settings
+pub mod Rooms

@@ -15,6 +15,12 @@ pub enum RunFault {
     /// The writer failed.
     #[error("write failed")]
     Write,
+    /// A session got no place among the readers, or a look was refused.
+    #[error("no reader place")]
+    Places,
+    /// A thread was not started.
+    #[error("no thread")]
+    Thread,
     /// A growth was refused.
     #[error("out of memory")]
     NoMemory,

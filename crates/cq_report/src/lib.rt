@@ -20,10 +20,14 @@ mod page;
 mod reply;
 mod reporting;
 mod running;
+mod sessions;
 mod setup;
 mod stage;
+mod whole;
 
 pub use fault::RunFault;
 pub use limits::{JOURNAL_LIMIT, POOL_LIMIT};
 pub use reporting::report;
 pub use running::run;
+pub use sessions::{run_sessions, run_sessions_past};
+pub use whole::read_whole;

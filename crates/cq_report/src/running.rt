@@ -7,7 +7,7 @@ ghost use Rattle.cq_report.specs.Reading.{Reading};
 ghost use Rattle.cq_report.specs.Output.{AreReadings, output};
 ghost use Rattle.cq_report.specs.Machine.{State, begin_state};
 ghost use Rattle.cq_text.specs.Device.{FailedAtTurn};
-ghost use Rattle.cq_report.specs.Run.{IfRead, IsOfRead, failures_of, WroteWholeLines, WroteFront};
+ghost use Rattle.cq_report.specs.Run.{IfRead, IsOfRead, IsOfRun, failures_of, WroteWholeLines, WroteFront};
 ghost use Rattle.cq_report.specs.Steps.Written.{Fails};
 ghost use Rattle.cq_report.specs.Steps.Replay.{Replayed, BrokeOff, Ended};
 ghost use Rattle.cq_report.specs.Steps.Serving.{HasNoEnd, ServesOn, StopsOn, Finishes, IsSound};
@@ -28,7 +28,7 @@ fn first_end(bytes: &[u8]) -> Option<usize>
 }
 
 /// The first line of the bytes without its LF, and what stands behind that, where there is an LF.
-fn first_line(bytes: &[u8]) -> Option<(&[u8], &[u8])>
+pub(crate) fn first_line(bytes: &[u8]) -> Option<(&[u8], &[u8])>
     ensures cut { IfSome result (λ parts. bytes.now ≡ parts.0.now ++ (10 ∷ parts.1.now)) }
     ensures line { IfSome result (λ parts. HasNoEnd parts.0.now) }
     ensures none { IfNone result (HasNoEnd bytes.now) }
@@ -126,6 +126,7 @@ fn serve_all<A: Allocator + Copy, R: Source, W: Sink>(
     requires held { output.old.held.now.items ≡ [] }
     ensures ok { OnOk result (Replayed W.taken W.write_failures (R.left reader.old) (R.left reader.new) output.old output.new) }
     ensures read { IfErr result (λ fault. IfRead fault (λ turn. BrokeOff W.taken W.write_failures (R.left reader.old) (R.left reader.new) output.old output.new)) }
+    ensures kind { IfErr result IsOfRun }
     ensures turn { IfErr result (λ fault. IfRead fault (λ turn. FailedAtTurn turn (R.reads_made reader.old) (R.reads_made reader.new) (R.failures_met reader.old) (R.failures_met reader.new))) }
     ensures err { IfErr result (λ fault. Ended W.taken W.write_failures (R.left reader.old) (R.left reader.new) output.old output.new fault) }
     ensures writer { output.new.sink.ghost_name ≡ output.old.sink.ghost_name }
@@ -161,6 +162,7 @@ fn replay<A: Allocator + Copy, R: Source, W: Sink>(
     requires held { output.old.held.now.items ≡ [] }
     ensures ok { OnOk result (Replayed W.taken W.write_failures (R.left reader.old) (R.left reader.new) output.old output.new) }
     ensures read { IfErr result (λ fault. IfRead fault (λ turn. BrokeOff W.taken W.write_failures (R.left reader.old) (R.left reader.new) output.old output.new)) }
+    ensures kind { IfErr result IsOfRun }
     ensures turn { IfErr result (λ fault. IfRead fault (λ turn. FailedAtTurn turn (R.reads_made reader.old) (R.reads_made reader.new) (R.failures_met reader.old) (R.failures_met reader.new))) }
     ensures err { IfErr result (λ fault. Ended W.taken W.write_failures (R.left reader.old) (R.left reader.new) output.old output.new fault) }
     ensures writer { output.new.sink.ghost_name ≡ output.old.sink.ghost_name }
@@ -208,6 +210,7 @@ pub fn run<A: Allocator + Copy, R: Source, W: Sink>(
     ensures front { IfErr result (λ fault. WroteFront (R.left reader.old) (R.left reader.new) (W.taken writer.old) (W.taken writer.new)) }
 
     // Whose fault it was.
+    ensures kind { IfErr result IsOfRun }
     ensures turn { IfErr result (λ fault. IfRead fault (λ turn. FailedAtTurn turn (R.reads_made reader.old) (R.reads_made reader.new) (R.failures_met reader.old) (R.failures_met reader.new))) }
     ensures reads { R.reads_made reader.new ≤ R.reads_made reader.old + MAX_READS }
     ensures read_failures { MatchResult result (λ _. R.failures_met reader.new ≡ R.failures_met reader.old) (λ fault. (IsOfRead fault → ⊥) → R.failures_met reader.new ≡ R.failures_met reader.old) }

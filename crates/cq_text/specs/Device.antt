@@ -2,6 +2,8 @@
 use Rattle.std.specs.Prelude.{◌≡◌, ℕ, ◌+◌, List, ◌++◌, Option, ◌⊎◌}
 use Rattle.std.specs.Io.KnownBytes.{Appends, Consumes, IsAtEnd}
 use Rattle.cq_text.specs.declared.limits.TheConstants.{MAX_READS}
+use Rattle.cq_text.specs.declared.fault.WholeFault.{WholeFault}
+use Rattle.cq_text.specs.declared.fault.WholeFault.TheVariants.{Read, NoMemory}
 
 -- the device itself, the number of reads made of it, and the number of its calls that failed
 pub record CountedRecord (D : Type 0) : Type 0 where
@@ -26,3 +28,13 @@ abbrev pub FailedAtTurn : (turn reads reads' failures failures' : ℕ) → Type 
 FailedAtTurn turn reads reads' failures failures' =
     ((reads' ≡ reads + turn) × (failures' ≡ failures + 1))
     ⊎ ((turn ≡ MAX_READS + 1) × (reads' ≡ reads + MAX_READS) × (failures' ≡ failures))
+
+-- What is known of the turn of a fault of reading.
+abbrev pub IfAtTurn : WholeFault → (ℕ → Type 0) → Type 0
+IfAtTurn (Read turn) P = P turn
+IfAtTurn NoMemory P = Unit {0}
+
+-- The fault is that of a read.
+abbrev pub IsAtTurn : WholeFault → Type 0
+IsAtTurn (Read turn) = Unit {0}
+IsAtTurn NoMemory = ⊥

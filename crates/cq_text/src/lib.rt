@@ -6,7 +6,7 @@
 //! has, `specs/Grammar` which of them stand for what, and `specs/Fault` which fault is the first.
 //! `read_field` reads a field of CSV as the value that `specs/Field` gives it.
 //! Bytes come from a `Source` and go to a `Sink`, which count their calls; `Counted` makes either of
-//! a device of std.
+//! a device of std, and `read_whole` reads all that a source has.
 //!
 //! Not here: what a command does, and cutting a script into lines.
 #![tactic(auto)]
@@ -24,14 +24,16 @@ mod reading;
 mod sink;
 mod source;
 mod token;
+mod whole;
 mod word;
 
 pub use command::{Command, CommandKind};
 pub use counted::Counted;
-pub use fault::{Kind, TextFault};
+pub use fault::{Kind, TextFault, WholeFault};
 pub use field::read_field;
 pub use limits::{MAX_COUNT, MAX_LINE, MAX_PIECE, MAX_READS};
 pub use printing::{print_atom, print_query, print_row, print_values};
 pub use reading::{one_reading, read_command, read_ground_atom, read_query};
 pub use sink::{Sink, write_all};
 pub use source::{Failed, Source};
+pub use whole::read_whole;

@@ -4,7 +4,7 @@ use Rattle.std.specs.Io.KnownBytes.{Appends}
 use Rattle.cq_text.specs.Device.{TakesFront}
 use Rattle.cq_report.specs.declared.output.Output.{Output}
 use Rattle.cq_report.specs.declared.fault.RunFault.{RunFault}
-use Rattle.cq_report.specs.Run.{failures_of, IsOfRead}
+use Rattle.cq_report.specs.Run.{failures_of, IsOfRead, IsOfOutput}
 
 -- The writer took `front`: that, and what waits now, are what waited before and then the bytes that were put.
 pub record Passes (taken taken' : Option (List ℕ)) (held bytes held' : List ℕ) : Type 0 where
@@ -29,3 +29,4 @@ pub record Fails {W A : Type 0} (failures : W → ℕ) (old new : Output W A) (f
   pub writer : new.sink.ghost_name ≡ old.sink.ghost_name
   pub failed : failures new.sink.now ≡ failures old.sink.now + failures_of fault
   pub no_read : IsOfRead fault → ⊥
+  pub of_output : IsOfOutput fault

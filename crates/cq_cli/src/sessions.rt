@@ -1,0 +1,114 @@
+//! Files served over one board.
+
+ghost use Rattle.std.specs.Prelude.{◌≡◌, ◌<◌, ◌+◌, ◌^◌, ◌⊎◌, length, Err, IfOk, IfErr, OnOk, MatchResult};
+ghost use Rattle.cq_cli.specs.Sessions.{WroteScript, IsOfFile, IsOfWriting, IsOfCount, failures_of};
+
+use cq_report::{RunFault, read_whole, run_sessions};
+use cq_text::{Counted, Sink};
+use std::alloc::Global;
+use std::fs;
+use std::fs::Files;
+use std::io::ErrorKind;
+use std::sync::Wait;
+use std::thread::Threads;
+use thiserror::Error;
+
+/// The most files.
+const MAX_FILES: usize = 16;
+
+/// Why sessions were not served, or not all was written.
+#[derive(Clone, Copy, Debug, PartialEq, Eq, Error)]
+pub(crate) enum SessionsFault<'a> {
+    /// There is no file.
+    #[error("at least 1 file")]
+    NoFile,
+    /// There are more files than sessions.
+    #[error("at most 16 files")]
+    TooMany,
+    /// A file does not open.
+    #[error("cannot open {path}")]
+    Open { path: &'a str },
+    /// A fault of reading or of the run.
+    #[error(transparent)]
+    Run(RunFault),
+}
+
+/// All bytes of the file.
+fn read_file<'a, H: Files>(
+    host: &H,
+    alloc: Global,
+    path: &'a str,
+) -> Result<Vec<u8>, SessionsFault<'a>>
+    ensures fault { IfErr result IsOfFile }
+{
+    let file = match fs::open(host, path) {
+        Ok(file) => file,
+        Err(error) if error.kind() == ErrorKind::OutOfMemory => {
+            return Err(SessionsFault::Run(RunFault::NoMemory));
+        }
+        Err(_) => return Err(SessionsFault::Open { path }),
+    };
+    let mut source = Counted::new(file);
+    match read_whole(alloc, &mut source) {
+        Ok(bytes) => Ok(bytes),
+        Err(fault) => Err(SessionsFault::Run(fault)),
+    }
+}
+
+/// All bytes of each file, which are read in order.
+fn read_files<'a, H: Files>(
+    host: &H,
+    alloc: Global,
+    paths: &[&'a str],
+) -> Result<Vec<Vec<u8>>, SessionsFault<'a>>
+    ensures count { IfOk result (λ files. length files.items ≡ length paths.now) }
+    ensures fault { IfErr result IsOfFile }
+{
+    let mut files = Vec::new(alloc);
+    for path in paths {
+        let bytes = read_file(host, alloc, *path)?;
+        if files.push(bytes).is_err() {
+            return Err(SessionsFault::Run(RunFault::NoMemory));
+        }
+    }
+    Ok(files)
+}
+
+/// Serves SETUP and the files, and writes what they leave.
+///
+/// The files are counted before any is opened; then SETUP and the files are opened and read to their ends, one after another
+/// in their order.
+pub(crate) fn serve_files<'a, H: Files + Threads + Wait + Sync, W: Sink>(
+    host: &H,
+    alloc: Global,
+    setup: &'a str,
+    paths: &[&'a str],
+    sink: &mut W,
+) -> Result<(), SessionsFault<'a>>
+    requires sink { W.write_failures sink.old < 2 ^ 62 }
+
+    // The script of what the files held is written whole, and nothing at all but where the writer failed.
+    ensures ok { OnOk result (WroteScript (length paths.now) (W.taken sink.old) (W.taken sink.new)) }
+    ensures err { IfErr result (λ fault. (IsOfWriting fault → ⊥) → sink.new ≡ sink.old) }
+
+    // No file and too many are told, and nothing else is told so.
+    ensures none { length paths.now ≡ 0 → result ≡ Err SessionsFault.NoFile }
+    ensures many { 16 < length paths.now → result ≡ Err SessionsFault.TooMany }
+    ensures count { IfErr result (λ fault. IsOfCount fault → (length paths.now ≡ 0) ⊎ (16 < length paths.now)) }
+
+    // The writer's failures rise where it is told that it failed.
+    ensures failures { MatchResult result (λ _. W.write_failures sink.new ≡ W.write_failures sink.old) (λ fault. W.write_failures sink.new ≡ W.write_failures sink.old + failures_of fault) }
+{
+    if paths.is_empty() {
+        return Err(SessionsFault::NoFile);
+    }
+    if paths.len() > MAX_FILES {
+        return Err(SessionsFault::TooMany);
+    }
+    let setup = read_file(host, alloc, setup)?;
+    let files = read_files(host, alloc, paths)?;
+    match run_sessions(host, alloc, &setup, &files, sink) {
+        Ok(()) => Ok(()),
+        Err(fault) => Err(SessionsFault::Run(fault)),
+    }
+}

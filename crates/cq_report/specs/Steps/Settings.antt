@@ -1,0 +1,47 @@
+-- The lines of a setup, one after another.
+use Rattle.std.specs.Prelude.{◌≡◌, ℕ, Bool, true, false, List, [], ◌∷◌, ◌++◌, map}
+use Rattle.cq_report.specs.declared.sessions.sheet.Line.TheVariants.{Told}
+use Rattle.cq_report.specs.declared.stage.Stage.TheVariants as stages
+use Rattle.cq_report.specs.Lines.{lines_of}
+use Rattle.cq_report.specs.Reading.{Reading, IsReading}
+use Rattle.cq_report.specs.Machine.{SetupRecord, begin_state, next, reply}
+use Rattle.cq_report.specs.Output.{AreReadings}
+use Rattle.cq_report.specs.Sessions.{is_of_setup, IsSetBy, BeginsBoard, setup_sheet, told_or_none}
+use Rattle.cq_report.specs.Steps.Sheets.{SheetRecord}
+
+-- A command of a setup is answered as a replay answers it.
+pub record Sets (setup : SetupRecord) (sheet : SheetRecord) (setup' : SetupRecord) (sheet' : SheetRecord) (reading : Reading) : Type 0 where
+  pub of_setup : is_of_setup reading ≡ true
+  pub state : next (stages.Setup setup) reading ≡ stages.Setup setup'
+  pub told : sheet' ≡ record sheet { batch = sheet.batch ++ Told (told_or_none (reply (stages.Setup setup) reading)) ∷ [] }
+
+-- The command is none of a setup, and nothing was done.
+pub record Stays (setup : SetupRecord) (sheet : SheetRecord) (setup' : SetupRecord) (sheet' : SheetRecord) (reading : Reading) : Type 0 where
+  pub other : is_of_setup reading ≡ false
+  pub setup_stays : setup' ≡ setup
+  pub sheet_stays : sheet' ≡ sheet
+
+-- A line of a setup is answered.
+pub record SetsLine (setup : SetupRecord) (sheet : SheetRecord) (setup' : SetupRecord) (sheet' : SheetRecord) (line : List ℕ) : Type 0 where
+  pub reading : Reading
+  pub is : IsReading line reading
+  pub sets : Sets setup sheet setup' sheet' reading
+
+-- The line is none of a setup, and nothing was done.
+pub record IsBehind (setup : SetupRecord) (sheet : SheetRecord) (setup' : SetupRecord) (sheet' : SheetRecord) (line : List ℕ) : Type 0 where
+  pub other : (reading : Reading) → IsReading line reading → is_of_setup reading ≡ false
+  pub setup_stays : setup' ≡ setup
+  pub sheet_stays : sheet' ≡ sheet
+
+-- The bytes up to the rest are lines of a setup, all of which are answered.
+pub record SetTo (bytes rest : List ℕ) (setup : SetupRecord) (sheet : SheetRecord) : Type 0 where
+  pub lines : List (List ℕ)
+  pub cut : lines_of bytes ≡ lines ++ lines_of rest
+  pub front : List Reading
+  pub are : AreReadings lines front
+  pub set : IsSetBy begin_state front setup
+  pub told : sheet ≡ record { replies = []; batch = map Told (setup_sheet begin_state front); asked = [] }
+
+-- The rest has no line of a setup first.
+abbrev pub RestBegins : List ℕ → Type 0
+RestBegins rest = (behind : List Reading) → AreReadings (lines_of rest) behind → BeginsBoard behind

@@ -1,0 +1,421 @@
+//! Sessions from files: a thread for each file, over one board.
+
+ghost use Rattle.std.specs.Prelude.{◌≡◌, ◌<◌, ◌≤◌, ◌+◌, ◌^◌, ◌∷◌, ◌++◌, [], length, map, codes, string_bytes, IfOk, IfErr, IfNone, OnOk, MatchResult};
+ghost use Rattle.std.specs.List.{flat_map};
+ghost use Rattle.std.specs.Io.KnownBytes.{Appends};
+ghost use Rattle.cq_text.specs.Device.{TakesFront};
+ghost use Rattle.cq_desk.specs.History.{edits_of};
+ghost use Rattle.cq_report.specs.Run.{IsOfSessions, failures_of};
+ghost use Rattle.cq_report.specs.Script.{declaration_line, limits_line, replies_from, sheets_from};
+ghost use Rattle.cq_report.specs.Sessions.{FilesServed, Ran, IfWritten, Wrote, WroteFrontOf, pool_of};
+ghost use Rattle.cq_report.specs.Steps.Sheets.{IsEven};
+ghost use Rattle.cq_report.specs.Steps.Clients.{IsOpened, opened_pool};
+ghost use Rattle.cq_report.specs.Steps.Rooms.{AreDone, FirstServes, AllServed, PutEntries, RoomServed};
+
+mod client;
+mod fault;
+mod script;
+mod seat;
+mod serving;
+mod setting;
+mod sheet;
+mod threads;
+
+use crate::fault::RunFault;
+use crate::sessions::client::{BoardClient, BoardRoom, BoardSession, Client, Hall};
+use crate::sessions::fault::ServeFault;
+use crate::sessions::script::{put_entries, put_replies, put_setup, put_sheets};
+use crate::sessions::seat::{Done, Seat};
+use crate::sessions::serving::serve_bytes;
+use crate::sessions::setting::{Setting, read_setting};
+use crate::sessions::sheet::Sheet;
+use crate::sessions::threads::run_all;
+use crate::setup::Setup;
+use cq_board::Board;
+use cq_room::{Gate, OpenGate, Parts, Room, RoomName};
+use cq_text::{Sink, write_all};
+use std::alloc::{AllocError, Global};
+use std::marker::Brand;
+use std::mem;
+use std::sync::Wait;
+use std::thread::Threads;
+
+/// The first of the faults that ended threads. A thread that was not started left nothing.
+fn first_fault<C>(count: usize, lefts: &[Result<Done<C>, ServeFault>]) -> Option<ServeFault>
+    ensures { IfNone result (count ≤ length lefts.now) }
+{
+    let mut first = if lefts.len() < count {
+        Some(ServeFault::Thread)
+    } else {
+        None
+    };
+    for left in lefts {
+        if let Err(fault) = left {
+            first = Some(fault.or_before(first));
+        }
+    }
+    first
+}
+
+/// What served the files, and what came of it, each in the files' order.
+#[derive(Drop)]
+struct Served<C> {
+    clients: Vec<C>,
+    sheets: Vec<Sheet<Global>>,
+}
+
+/// Takes apart what the threads left.
+fn take_apart<C: Drop>(
+    alloc: Global,
+    lefts: Vec<Result<Done<C>, ServeFault>>,
+) -> Result<Served<C>, ServeFault>
+    ensures { IfOk result (λ served. AreDone lefts.items served.clients.items served.sheets.items) }
+{
+    let mut clients = Vec::new(alloc);
+    let mut sheets = Vec::new(alloc);
+    for left in lefts {
+        let Done { client, sheet } = left?;
+        clients.push(client)?;
+        sheets.push(sheet)?;
+    }
+    Ok(Served { clients, sheets })
+}
+
+/// A seat for each file.
+fn seats<'a, C: Client, G: Gate>(
+    alloc: Global,
+    clients: Vec<C>,
+    files: &'a [Vec<u8>],
+    gate: &'a G,
+) -> Result<Vec<Seat<'a, C, G>>, AllocError>
+    requires { length clients.items ≡ length files.now }
+    ensures clients { IfOk result (λ seats. map (λ seat. seat.client) seats.items ≡ clients.items) }
+    ensures files { IfOk result (λ seats. map (λ seat. seat.file.now) seats.items ≡ map (λ file. file.items) files.now) }
+{
+    let mut seats = Vec::new(alloc);
+    let mut place = 0usize;
+    for client in clients {
+        seats.push(Seat {
+            alloc,
+            client,
+            file: files[place].as_slice(),
+            gate,
+        })?;
+        place += 1;
+    }
+    Ok(seats)
+}
+
+/// Serves each file by a thread of its own.
+fn serve_files<T: Threads + Wait + Sync, C: Client + Send, G: Gate>(
+    rt: &T,
+    alloc: Global,
+    clients: Vec<C>,
+    files: &[Vec<u8>],
+    gate: &G,
+) -> Result<Served<C>, ServeFault>
+    requires { length clients.items ≡ length files.now }
+    ensures { IfOk result (λ served. FilesServed C.opening C.limit (map C.known clients.items) (map (λ file. file.items) files.now) (map (λ sheet. sheet.replies) served.sheets.items) (map C.known served.clients.items)) }
+{
+    let count = clients.len();
+    let lefts = run_all(rt, alloc, seats(alloc, clients, files, gate)?)?;
+    match first_fault(count, &lefts) {
+        Some(fault) => Err(fault),
+        None => take_apart(alloc, lefts),
+    }
+}
+
+/// Serves what stands behind SETUP's setup, by the first of the clients.
+fn serve_setup<C: Client>(
+    alloc: Global,
+    clients: &mut Vec<C>,
+    sheet: &mut Sheet<Global>,
+    rest: &[u8],
+) -> Result<(), ServeFault>
+    requires even { IsEven sheet.old }
+    requires asked { sheet.old.asked ≡ [] }
+    requires first { 0 < length clients.old.items }
+    ensures { OnOk result (FirstServes C.opening C.limit (map C.known clients.old.items) sheet.old (map C.known clients.new.items) sheet.new.replies rest.now) }
+{
+    let Some(first) = clients.first_mut() else {
+        unreachable!()
+    };
+    serve_bytes(alloc, first, sheet, rest)
+}
+
+/// Serves SETUP's rest by the first client, and then each file by a thread of its own.
+fn serve_all<T: Threads + Wait + Sync, C: Client + Send, G: Gate>(
+    rt: &T,
+    alloc: Global,
+    clients: Vec<C>,
+    sheet: &mut Sheet<Global>,
+    rest: &[u8],
+    files: &[Vec<u8>],
+    gate: &G,
+) -> Result<Served<C>, ServeFault>
+    requires even { IsEven sheet.old }
+    requires asked { sheet.old.asked ≡ [] }
+    requires files { 0 < length files.now }
+    requires fresh { map C.known clients.items ≡ map (λ _. []) files.now }
+    ensures { IfOk result (λ served. AllServed C.opening C.limit sheet.old rest.now sheet.new.replies (map (λ file. file.items) files.now) (map (λ sheet. sheet.replies) served.sheets.items) (map C.known served.clients.items)) }
+{
+    let mut clients = clients;
+    serve_setup(alloc, &mut clients, sheet, rest)?;
+    serve_files(rt, alloc, clients, files, gate)
+}
+
+/// A client for each session.
+fn clients<'a, N: RoomName<Board>, R: Wait + Drop>(
+    alloc: Global,
+    hall: &'a Hall<'a, N, R>,
+    sessions: Vec<BoardSession<N>>,
+) -> Result<Vec<BoardClient<'a, N, R>>, AllocError>
+    requires { IsOpened N.opening }
+    ensures { IfOk result (λ clients. clients.items ≡ map (λ session. edits_of session.history) sessions.items) }
+{
+    let mut clients = Vec::new(alloc);
+    for session in sessions {
+        clients.push(BoardClient::new(hall, session))?;
+    }
+    Ok(clients)
+}
+
+/// The session of each client.
+fn sessions_of<N: RoomName<Board>, R: Wait + Drop>(
+    alloc: Global,
+    clients: Vec<BoardClient<'_, N, R>>,
+) -> Result<Vec<BoardSession<N>>, AllocError>
+    ensures { IfOk result (λ sessions. map (λ session. edits_of session.history) sessions.items ≡ clients.entry.items) }
+{
+    let mut sessions = Vec::new(alloc);
+    for client in clients {
+        sessions.push(client.into_session())?;
+    }
+    Ok(sessions)
+}
+
+/// Serves SETUP's rest and the files in a room, by its sessions.
+fn serve_in<
+    T: Threads + Wait + Sync,
+    N: RoomName<Board> + Send + Sync,
+    R: Wait + Drop + Send + Sync,
+    G: Gate,
+>(
+    rt: &T,
+    alloc: Global,
+    hall: &Hall<'_, N, R>,
+    sessions: Vec<BoardSession<N>>,
+    sheet: &mut Sheet<Global>,
+    rest: &[u8],
+    files: &[Vec<u8>],
+    gate: &G,
+) -> Result<Served<BoardSession<N>>, ServeFault>
+    requires opened { IsOpened N.opening }
+    requires even { IsEven sheet.old }
+    requires asked { sheet.old.asked ≡ [] }
+    requires files { 0 < length files.now }
+    requires fresh { map (λ session. edits_of session.history) sessions.items ≡ map (λ _. []) files.now }
+    ensures { IfOk result (λ served. AllServed (opened_pool N.opening) N.limit sheet.old rest.now sheet.new.replies (map (λ file. file.items) files.now) (map (λ sheet. sheet.replies) served.sheets.items) (map (λ session. edits_of session.history) served.clients.items)) }
+{
+    let clients = clients(alloc, hall, sessions)?;
+    let Served { clients, sheets } = serve_all(rt, alloc, clients, sheet, rest, files, gate)?;
+    Ok(Served {
+        clients: sessions_of(alloc, clients)?,
+        sheets,
+    })
+}
+
+/// Closes the room, and puts its entries.
+fn close<N: RoomName<Board>, R: Wait + Drop>(
+    rt: &R,
+    alloc: Global,
+    room: BoardRoom<N, R>,
+    sessions: Vec<BoardSession<N>>,
+    page: &mut String,
+) -> Result<(), AllocError>
+    ensures { OnOk result (PutEntries (map (λ session. edits_of session.history) sessions.items) (string_bytes page.old) (string_bytes page.new)) }
+{
+    let desk = room.close(rt, sessions);
+    let put = put_entries(alloc, desk.journal(), page);
+    mem::drop(desk);
+    put
+}
+
+/// Puts what stands behind the entries: a publish and a look, and all replies.
+fn put_behind(
+    alloc: Global,
+    setup: &Sheet<Global>,
+    sheets: &[Sheet<Global>],
+    page: &mut String,
+) -> Result<(), AllocError>
+    ensures { OnOk result (string_bytes page.new ≡ string_bytes page.old ++ (codes "publish\nshow\n" ++ replies_from (codes "setup") 1 setup.now.replies ++ sheets_from 0 (map (λ sheet. sheet.replies) sheets.now))) }
+{
+    page.push_str("publish\nshow\n")?;
+    put_replies(alloc, "setup", setup, page)?;
+    put_sheets(alloc, sheets, page)
+}
+
+/// Serves SETUP's rest and the files in the room that the parts make, and puts what came of it.
+fn serve_room<
+    T: Threads + Wait + Sync,
+    N: RoomName<Board> + Send + Sync,
+    R: Wait + Drop + Send + Sync,
+    G: Gate,
+>(
+    threads: &T,
+    rt: &R,
+    alloc: Global,
+    parts: Parts<Board, R>,
+    sheet: &mut Sheet<Global>,
+    rest: &[u8],
+    files: &[Vec<u8>],
+    gate: &G,
+    page: &mut String,
+) -> Result<(), ServeFault>
+    requires book { parts.book ≡ N.book }
+    requires opening { N.opening ≡ parts.opening ∷ [] }
+    requires limit { N.limit ≡ parts.limit }
+    requires even { IsEven sheet.old }
+    requires asked { sheet.old.asked ≡ [] }
+    requires files { 0 < length files.now }
+    requires seats { parts.sessions ≡ length files.now }
+    ensures { OnOk result (RoomServed parts.opening parts.limit sheet.old rest.now (map (λ file. file.items) files.now) (string_bytes page.old) (string_bytes page.new)) }
+{
+    let (room, sessions) = match parts.open::<N>() {
+        Ok(opened) => opened,
+        Err(fault) => return Err(ServeFault::of_room(fault)),
+    };
+    let hall = Hall { rt, room: &room };
+    let Served { clients, sheets } = serve_in(
+        threads, alloc, &hall, sessions, sheet, rest, files, gate,
+    )?;
+    close(rt, alloc, room, clients, page)?;
+    put_behind(alloc, sheet, &sheets, page)?;
+    Ok(())
+}
+
+/// The parts of a room over the setup's board, with a session for each file; what sets the board up is put.
+fn begin<R: Wait + Drop>(
+    rt: R,
+    alloc: Global,
+    setup: Setup<Global>,
+    files: usize,
+    page: &mut String,
+) -> Result<Parts<Board, R>, ServeFault>
+    ensures opening { IfOk result (λ parts. parts.opening ≡ pool_of setup) }
+    ensures limit { IfOk result (λ parts. parts.limit ≡ setup.limits.journal) }
+    ensures sessions { IfOk result (λ parts. parts.sessions ≡ files) }
+    ensures put { OnOk result (string_bytes page.new ≡ string_bytes page.old ++ (flat_map declaration_line setup.catalog ++ limits_line setup.limits)) }
+{
+    let (catalog, limits) = setup.into_parts();
+    put_setup(alloc, &catalog, limits, page)?;
+    let board = Board::begin(alloc, catalog, limits)?;
+    match Room::begin(rt, alloc, board, limits.journal, files) {
+        Ok(parts) => Ok(parts),
+        Err(fault) => Err(ServeFault::of_room(fault)),
+    }
+}
+
+/// The script that SETUP and the files leave.
+fn script_of<T: Threads + Wait + Sync, G: Gate>(
+    rt: &T,
+    alloc: Global,
+    setup: &[u8],
+    files: &[Vec<u8>],
+    gate: &G,
+) -> Result<String, ServeFault>
+    requires { 0 < length files.now }
+    ensures { IfOk result (λ text. Ran setup.now (map (λ file. file.items) files.now) (string_bytes text)) }
+{
+    let Setting {
+        setup,
+        mut sheet,
+        rest,
+    } = read_setting(alloc, setup)?;
+    let mut page = String::new(alloc);
+    let parts = begin(rt, alloc, setup, files.len(), &mut page)?;
+    serve_room::<T, Brand, &T, G>(
+        rt, &rt, alloc, parts, &mut sheet, rest, files, gate, &mut page,
+    )?;
+    Ok(page)
+}
+
+/// Writes the text, and passes it on.
+fn write_out<W: Sink>(writer: &mut W, text: &str) -> Result<(), RunFault>
+    requires { W.write_failures writer.old < 2 ^ 62 }
+    ensures ok { OnOk result (Appends (W.taken writer.old) (W.taken writer.new) text.now) }
+    ensures err { IfErr result (λ fault. (fault ≡ RunFault.Write) × TakesFront (W.taken writer.old) (W.taken writer.new) text.now) }
+    ensures failures { MatchResult result (λ _. W.write_failures writer.new ≡ W.write_failures writer.old) (λ _. W.write_failures writer.new ≡ W.write_failures writer.old + 1) }
+{
+    let Ok(()) = write_all(writer, text.as_bytes()) else {
+        return Err(RunFault::Write);
+    };
+    let Ok(()) = writer.flush() else {
+        return Err(RunFault::Write);
+    };
+    Ok(())
+}
+
+/// Serves SETUP and the files over one board, and writes the script that they leave; each file's thread passes the gate
+/// before its first line.
+///
+/// SETUP is served first, by session 0, before any thread starts. Its `relation` and `limits` lines count up to the first line
+/// of another command. Then file k, counted from 0, is served by a thread of its own as session k. Edits wait for
+/// the next `publish` line, which submits them, and what waits at a file's end is submitted there. All threads are
+/// joined before anything is written. The script has the relations and limits, each entry of the journal under a comment
+/// with its number and session, `publish`, `show`, and the replies to all lines as comments, by file and line.
+///
+/// It waits for others: for threads, and for the room's lock. The time is that of the edits, and of the script's bytes, all of which are
+/// in memory before the first is written.
+///
+/// # Errors
+/// `Places` where a session got no place or a look was refused, which never happens; `Thread` where a thread was not started: those that
+/// were are joined; `NoMemory` where a growth was refused. Of these the first in this order is answered, and nothing is written. `Write`
+/// where the writer failed: a front of the script is written then.
+pub fn run_sessions_past<T: Threads + Wait + Sync, W: Sink, G: Gate>(
+    rt: &T,
+    alloc: Global,
+    setup: &[u8],
+    files: &[Vec<u8>],
+    writer: &mut W,
+    gate: &G,
+) -> Result<(), RunFault>
+    requires files { (0 < length files.now) × (length files.now ≤ 16) }
+    requires failures { W.write_failures writer.old < 2 ^ 62 }
+
+    // A script of a room in which SETUP and the files were served is written whole; or a front of one, where the writer failed.
+    ensures ok { OnOk result (Wrote setup.now (map (λ file. file.items) files.now) (W.taken writer.old) (W.taken writer.new)) }
+    ensures write { IfErr result (λ fault. IfWritten fault (WroteFrontOf setup.now (map (λ file. file.items) files.now) (W.taken writer.old) (W.taken writer.new)) (writer.new ≡ writer.old)) }
+
+    // Whose fault it was.
+    ensures kind { IfErr result IsOfSessions }
+    ensures write_failures { MatchResult result (λ _. W.write_failures writer.new ≡ W.write_failures writer.old) (λ fault. W.write_failures writer.new ≡ W.write_failures writer.old + failures_of fault) }
+{
+    let text = script_of(rt, alloc, setup, files, gate)?;
+    write_out(writer, text.as_str())
+}
+
+/// Serves SETUP and the files over one board, and writes the script that they leave: `run_sessions_past` with a gate that holds nobody.
+///
+/// # Errors
+/// As those of `run_sessions_past`.
+pub fn run_sessions<T: Threads + Wait + Sync, W: Sink>(
+    rt: &T,
+    alloc: Global,
+    setup: &[u8],
+    files: &[Vec<u8>],
+    writer: &mut W,
+) -> Result<(), RunFault>
+    requires files { (0 < length files.now) × (length files.now ≤ 16) }
+    requires failures { W.write_failures writer.old < 2 ^ 62 }
+
+    // A script of a room in which SETUP and the files were served is written whole; or a front of one, where the writer failed.
+    ensures ok { OnOk result (Wrote setup.now (map (λ file. file.items) files.now) (W.taken writer.old) (W.taken writer.new)) }
+    ensures write { IfErr result (λ fault. IfWritten fault (WroteFrontOf setup.now (map (λ file. file.items) files.now) (W.taken writer.old) (W.taken writer.new)) (writer.new ≡ writer.old)) }
+
+    // Whose fault it was.
+    ensures kind { IfErr result IsOfSessions }
+    ensures write_failures { MatchResult result (λ _. W.write_failures writer.new ≡ W.write_failures writer.old) (λ fault. W.write_failures writer.new ≡ W.write_failures writer.old + failures_of fault) }
+{
+    run_sessions_past(rt, alloc, setup, files, writer, &OpenGate)
+}

@@ -1,0 +1,47 @@
+//! A file's thread.
+
+ghost use Rattle.std.specs.Prelude.{IfOk};
+ghost use Rattle.cq_report.specs.Sessions.{FileServed};
+
+use crate::sessions::client::Client;
+use crate::sessions::fault::ServeFault;
+use crate::sessions::serving::serve_bytes;
+use crate::sessions::sheet::Sheet;
+use crate::sessions::threads::Job;
+use cq_room::Gate;
+use std::alloc::Global;
+
+/// What serves a file is done with it.
+#[derive(Drop)]
+pub(crate) struct Done<C> {
+    pub(crate) client: C,
+    pub(crate) sheet: Sheet<Global>,
+}
+
+/// A file that is to be served in a thread.
+#[derive(Drop)]
+pub(crate) struct Seat<'a, C, G> {
+    pub(crate) alloc: Global,
+    pub(crate) client: C,
+    pub(crate) file: &'a [u8],
+    pub(crate) gate: &'a G,
+}
+
+impl<'a, C: Client + Send, G: Gate> Job for Seat<'a, C, G> {
+    type Left = Result<Done<C>, ServeFault>;
+
+    ghost leaves = { λ seat left. IfOk left (λ done. FileServed C.opening C.limit (C.known seat.client) seat.file.now done.sheet.replies (C.known done.client)) };
+
+    fn run(self) -> Result<Done<C>, ServeFault> {
+        let Seat {
+            alloc,
+            mut client,
+            file,
+            gate,
+        } = self;
+        gate.pass();
+        let mut sheet = Sheet::begin(alloc);
+        serve_bytes(alloc, &mut client, &mut sheet, file)?;
+        Ok(Done { client, sheet })
+    }
+}

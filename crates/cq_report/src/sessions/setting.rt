@@ -1,0 +1,165 @@
+//! The lines of SETUP before the board is begun.
+
+ghost use Rattle.std.specs.Prelude.{◌≡◌, [], IfOk, OnOk, MatchBool};
+ghost use Rattle.cq_report.specs.Machine.{begin_setup};
+ghost use Rattle.cq_report.specs.Reading.{Reads};
+ghost use Rattle.cq_text.specs.declared.command.CommandKind.TheVariants as commands;
+ghost use Rattle.cq_report.specs.Steps.Settings.{Sets, Stays, SetsLine, IsBehind, SetTo, RestBegins};
+
+use crate::reply::{catalog_line, fault_line, ok_line};
+use crate::running::first_line;
+use crate::sessions::fault::ServeFault;
+use crate::sessions::sheet::Sheet;
+use crate::setup::Setup;
+use cq_board::Limits;
+use cq_rel::CatalogFault;
+use cq_text::{Command, CommandKind, TextFault, read_command};
+use std::alloc::Allocator;
+
+/// What the first lines of SETUP set, what they were answered, and what stands behind them.
+#[derive(Drop)]
+pub(crate) struct Setting<'a, A: Allocator> {
+    pub(crate) setup: Setup<A>,
+    pub(crate) sheet: Sheet<A>,
+    pub(crate) rest: &'a [u8],
+}
+
+/// Answers a line that declares a relation.
+fn declare<A: Allocator + Copy>(
+    alloc: A,
+    setup: &mut Setup<A>,
+    sheet: &mut Sheet<A>,
+    name: &str,
+    arity: usize,
+) -> Result<(), ServeFault>
+    ensures { OnOk result (Sets setup.old sheet.old setup.new sheet.new (Reads (commands.Relation name.now arity))) }
+{
+    let text = match setup.declare(name, arity) {
+        Ok(()) => ok_line(),
+        Err(CatalogFault::NoMemory) => return Err(ServeFault::NoMemory),
+        Err(fault) => catalog_line(fault),
+    };
+    sheet.tell(Some(String::from_str(alloc, text)?))?;
+    Ok(())
+}
+
+/// Answers a line of limits.
+fn limit<A: Allocator + Copy>(
+    alloc: A,
+    setup: &mut Setup<A>,
+    sheet: &mut Sheet<A>,
+    limits: Limits,
+) -> Result<(), ServeFault>
+    ensures { OnOk result (Sets setup.old sheet.old setup.new sheet.new (Reads (commands.Limits limits.pool limits.journal))) }
+{
+    setup.limit(limits);
+    sheet.tell(Some(String::from_str(alloc, ok_line())?))?;
+    Ok(())
+}
+
+/// Answers a command of the setup, and says whether it was one; another command ends the setup.
+fn set_command<A: Allocator + Copy>(
+    alloc: A,
+    setup: &mut Setup<A>,
+    sheet: &mut Sheet<A>,
+    command: Command<A>,
+) -> Result<bool, ServeFault>
+    ensures { IfOk result (λ is_set. MatchBool is_set (Sets setup.old sheet.old setup.new sheet.new (Reads command)) (Stays setup.old sheet.old setup.new sheet.new (Reads command))) }
+{
+    match command {
+        CommandKind::Blank => sheet.tell(None)?,
+        CommandKind::Relation { name, arity } => declare(
+            alloc,
+            setup,
+            sheet,
+            name.as_str(),
+            arity,
+        )?,
+        CommandKind::Limits { pool, journal } => limit(
+            alloc,
+            setup,
+            sheet,
+            Limits { pool, journal },
+        )?,
+        CommandKind::Post {
+            name: _name,
+            query: _query,
+        } => return Ok(false),
+        CommandKind::Withdraw { name: _name } => return Ok(false),
+        CommandKind::Insert { row: _row } => return Ok(false),
+        CommandKind::Delete { row: _row } => return Ok(false),
+        CommandKind::Publish | CommandKind::Show => return Ok(false),
+    }
+    Ok(true)
+}
+
+/// Answers a line of the setup, and says whether it was one.
+fn set<A: Allocator + Copy>(
+    alloc: A,
+    setup: &mut Setup<A>,
+    sheet: &mut Sheet<A>,
+    line: &[u8],
+) -> Result<bool, ServeFault>
+    ensures { IfOk result (λ is_set. MatchBool is_set (SetsLine setup.old sheet.old setup.new sheet.new line.now) (IsBehind setup.old sheet.old setup.new sheet.new line.now)) }
+{
+    match read_command(alloc, line) {
+        Ok(command) => set_command(alloc, setup, sheet, command),
+        Err(TextFault::At { kind, offset }) => {
+            sheet.tell(Some(fault_line(alloc, kind, offset)?))?;
+            Ok(true)
+        }
+        Err(TextFault::NoMemory) => Err(ServeFault::NoMemory),
+    }
+}
+
+/// The end of the bytes.
+fn end_of(bytes: &[u8]) -> &[u8]
+    ensures { result.now ≡ [] }
+{
+    let (_, end) = bytes.split_at(bytes.len());
+    end
+}
+
+/// Answers the lines of the setup, and answers what stands behind them.
+fn set_all<'a, A: Allocator + Copy>(
+    alloc: A,
+    setup: &mut Setup<A>,
+    sheet: &mut Sheet<A>,
+    bytes: &'a [u8],
+) -> Result<&'a [u8], ServeFault>
+    requires setup { setup.old ≡ begin_setup }
+    requires sheet { sheet.old ≡ record { replies = []; batch = []; asked = [] } }
+    ensures set { IfOk result (λ rest. SetTo bytes.now rest.now setup.new sheet.new) }
+    ensures behind { IfOk result (λ rest. RestBegins rest.now) }
+{
+    let mut rest = bytes;
+    while let Some((line, behind)) = first_line(rest) {
+        let is_set = set(alloc, setup, sheet, line)?;
+        if !is_set {
+            return Ok(rest);
+        }
+        rest = behind;
+    }
+    if rest.is_empty() {
+        return Ok(rest);
+    }
+    let is_set = set(alloc, setup, sheet, rest)?;
+    if is_set {
+        return Ok(end_of(rest));
+    }
+    Ok(rest)
+}
+
+/// Answers the lines of SETUP up to the first other one.
+pub(crate) fn read_setting<A: Allocator + Copy>(
+    alloc: A,
+    bytes: &[u8],
+) -> Result<Setting<'_, A>, ServeFault>
+    ensures set { IfOk result (λ setting. SetTo bytes.now setting.rest.now setting.setup setting.sheet) }
+    ensures behind { IfOk result (λ setting. RestBegins setting.rest.now) }
+{
+    let mut setup = Setup::begin(alloc);
+    let mut sheet = Sheet::begin(alloc);
+    let rest = set_all(alloc, &mut setup, &mut sheet, bytes)?;
+    Ok(Setting { setup, sheet, rest })
+}
