@@ -5,9 +5,12 @@ use super::answer;
 use cq_refusing::Refusing;
 use cq_text::Counted;
 use std::alloc::Global;
+use std::fs::Files;
 use std::io;
 use std::io::{Read, Write};
+use std::sync::Wait;
 use std::test::Fail;
+use std::thread::Threads;
 
 /// Gives its bytes, and then fails.
 #[derive(Drop)]
@@ -39,7 +42,8 @@ impl Write for Shut {
 }
 
 /// Whether the words over a source write that text, tell that line, and end with that status.
-fn ends_so<R: Read + Drop>(
+fn ends_so<H: Files + Threads + Wait + Sync, R: Read + Drop>(
+    host: &H,
     alloc: Global,
     words: &[&str],
     source: R,
@@ -50,7 +54,15 @@ fn ends_so<R: Read + Drop>(
     let mut source = Counted::new(source);
     let mut sink = Counted::new(Vec::new(alloc));
     let mut errors = Counted::new(Vec::new(alloc));
-    let status = answer(alloc, alloc, words, &mut source, &mut sink, &mut errors);
+    let status = answer(
+        host,
+        alloc,
+        alloc,
+        words,
+        &mut source,
+        &mut sink,
+        &mut errors,
+    );
     status.code() == code
         && sink.into_inner().as_slice() == written.as_bytes()
         && errors.into_inner().as_slice() == told.as_bytes()
@@ -82,7 +94,7 @@ fn all_is_read(rt: HostRuntime) -> Result<(), Fail> {
         ),
     ] {
         assert!(rt;
-            ends_so(rt.alloc(), words, input, written, told, code),
+            ends_so(&rt, rt.alloc(), words, input, written, told, code),
             "{told}"
         );
     }
@@ -106,7 +118,7 @@ fn a_read_fails(rt: HostRuntime) -> Result<(), Fail> {
         let told = "board: read failed at turn 2\n";
         let source = Cut { left: input };
         assert!(rt;
-            ends_so(rt.alloc(), words, source, written, told, 1),
+            ends_so(&rt, rt.alloc(), words, source, written, told, 1),
             "{written}"
         );
     }
@@ -127,6 +139,7 @@ fn a_write_fails(rt: HostRuntime) -> Result<(), Fail> {
         let mut sink = Counted::new(Shut);
         let mut errors = Counted::new(Vec::new(rt.alloc()));
         let status = answer(
+            &rt,
             rt.alloc(),
             rt.alloc(),
             words,
@@ -152,6 +165,7 @@ fn nobody_hears(rt: HostRuntime) -> Result<(), Fail> {
         let mut sink = Counted::new(Vec::new(rt.alloc()));
         let mut errors = Counted::new(Shut);
         let status = answer(
+            &rt,
             rt.alloc(),
             rt.alloc(),
             words,
@@ -167,12 +181,25 @@ fn nobody_hears(rt: HostRuntime) -> Result<(), Fail> {
 
 /// Whether the words with that growth refused write nothing, tell it and end so; or, where they do not come to
 /// that growth, end well.
-fn wants_memory(alloc: Global, words: &[&str], growth: u64) -> bool {
+fn wants_memory<H: Files + Threads + Wait + Sync>(
+    host: &H,
+    alloc: Global,
+    words: &[&str],
+    growth: u64,
+) -> bool {
     let heap = Refusing::new(alloc, growth);
     let mut source = Counted::new(b"1\n2\n".as_slice());
     let mut sink = Counted::new(Vec::new(alloc));
     let mut errors = Counted::new(Vec::new(alloc));
-    let status = answer(alloc, &heap, words, &mut source, &mut sink, &mut errors);
+    let status = answer(
+        host,
+        alloc,
+        &heap,
+        words,
+        &mut source,
+        &mut sink,
+        &mut errors,
+    );
     if heap.has_refused() {
         return status.code() == 3
             && sink.into_inner().is_empty()
@@ -183,10 +210,10 @@ fn wants_memory(alloc: Global, words: &[&str], growth: u64) -> bool {
 
 #[test]
 fn memory_runs_out(rt: HostRuntime) -> Result<(), Fail> {
-    assert!(rt; wants_memory(rt.alloc(), &["board", "replay"], 0));
+    assert!(rt; wants_memory(&rt, rt.alloc(), &["board", "replay"], 0));
     for growth in 0..40 {
         assert!(rt;
-            wants_memory(rt.alloc(), &["board", "rows", "T", "1"], growth),
+            wants_memory(&rt, rt.alloc(), &["board", "rows", "T", "1"], growth),
             "{growth}"
         );
     }
