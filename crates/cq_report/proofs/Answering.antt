@@ -13,6 +13,7 @@ use Rattle.cq_report.specs.declared.fault.RunFault.TheVariants as faults
 use Rattle.cq_report.specs.Steps.Written.{Puts, Breaks, Fails}
 use Rattle.cq_report.specs.Reading.{Reading, Reads, Faulty, IsReading}
 use Rattle.cq_report.specs.Machine.{State, next, reply}
+use Rattle.cq_report.specs.Run.{IfMemory}
 use Rattle.cq_report.specs.Steps.Put.{Put}
 use Rattle.cq_report.specs.Steps.Writing.{Puts-nothing, Puts-starved}
 
@@ -48,8 +49,8 @@ module _ {W A : Type 0} (taken : W → Option (List ℕ)) (failures : W → ℕ)
   pub Put-from : (bytes : List ℕ) (r : Result (Unit {0}) RunFault) → OnOk r (Puts taken failures first now bytes) → IfErr r (λ fault. Breaks taken failures first now bytes fault) → IfErr r (λ fault. fault ≡ faults.Write)
       → Put taken failures first now bytes r
   Put-from bytes (Ok done) ok err is = ok
-  Put-from bytes (Err faults.Write) ok err is = (err, (λ h. h), tt)
-  Put-from bytes (Err faults.NoMemory) ok err is = (err, (λ h. h), tt)
+  Put-from bytes (Err faults.Write) ok err is = (err, (λ h. h), tt, tt)
+  Put-from bytes (Err faults.NoMemory) ok err is = cc
   Put-from bytes (Err faults.Places) ok err is = cc
   Put-from bytes (Err faults.Thread) ok err is = cc
   Put-from bytes (Err (faults.Read turn)) ok err is = cc
@@ -71,6 +72,14 @@ module _ {W A : Type 0} (taken : W → Option (List ℕ)) (failures : W → ℕ)
   put_fails bytes (Ok done) p = tt
   put_fails bytes (Err fault) p = record { writer = p.0.writer; failed = p.0.failed; no_read = p.1; of_output = p.2 }
 
+  -- nothing was put where memory was wanting
+  pub put_nothing : (bytes : List ℕ) (r : Result (Unit {0}) RunFault) → Put taken failures first now bytes r → IfErr r (λ fault. IfMemory fault (Puts taken failures first now []))
+  put_nothing bytes (Ok done) p = tt
+  put_nothing bytes (Err fault) p = p.3
+
 -- memory was wanting before anything was put
 pub starved : {W A : Type 0} (taken : W → Option (List ℕ)) (failures : W → ℕ) (output : Output W A) (bytes : List ℕ) → Breaks taken failures output output bytes faults.NoMemory
 starved taken failures output bytes = Puts-starved taken failures output output [] bytes (Puts-nothing taken failures output)
+
+pub Put-starved : {W A : Type 0} (taken : W → Option (List ℕ)) (failures : W → ℕ) (output : Output W A) (bytes : List ℕ) → Put taken failures output output bytes (Err faults.NoMemory)
+Put-starved taken failures output bytes = (starved taken failures output bytes, (λ h. h), tt, Puts-nothing taken failures output)

@@ -18,7 +18,7 @@ pub Consumes-none : (a b c : Option (List ℕ)) (bytes : List ℕ) → Consumes 
 Consumes-none a b c bytes p q = subst (λ (bs : List ℕ). Consumes a c bs) (append-nil bytes) (Consumes-trans a b c bytes [] p q)
 
 -- nothing waited before, and nothing waits now
-Passes-all : (taken taken' : Option (List ℕ)) (held bytes held' : List ℕ) → Passes taken taken' held bytes held' → held ≡ [] → held' ≡ [] → Appends taken taken' bytes
+pub Passes-all : (taken taken' : Option (List ℕ)) (held bytes held' : List ℕ) → Passes taken taken' held bytes held' → held ≡ [] → held' ≡ [] → Appends taken taken' bytes
 Passes-all taken taken' held bytes held' p none none' =
     let e : p.front ≡ bytes = sym (append-nil p.front) ∙ ap (λ (l : List ℕ). p.front ++ l) (sym none') ∙ p.whole ∙ ap (λ (l : List ℕ). l ++ bytes) none in
     subst (Appends taken taken') e p.took

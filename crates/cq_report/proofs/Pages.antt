@@ -1,6 +1,6 @@
 -- What is put on a page piece by piece.
 use Rattle.std.proofs.Common.{◌≡◌, ◌==◌, ℕ, suc, ◌+◌, ◌<◌, List, [], ◌∷◌, ◌++◌, Option, Some, None, true, false, length, map, drop, refl, sym, ap, ◌∙◌, append_assoc, append-nil, arith, add-one}
-use Rattle.std.specs.Prelude.{codes, decimal}
+use Rattle.std.specs.Prelude.{Result, Ok, Err, OnOk, codes, decimal}
 use Rattle.std.proofs.lemmas.Bool.{eqb-true}
 use Rattle.std.specs.List.{slice_get}
 use Rattle.cq_desk.specs.declared.journal.Entry.{Entry}
@@ -47,3 +47,12 @@ replies_step words sheet i reply got = ap (replies_from words (i + 1)) (ahead sh
 
 pub sheets_step : {S : Type 0} (f : S → Sheet) (sheets : List S) (i : ℕ) (sheet : S) → slice_get sheets i ≡ Some sheet → sheets_from i (map f (drop i sheets)) ≡ sheets_from i (f sheet ∷ []) ++ sheets_from (i + 1) (map f (drop (i + 1) sheets))
 sheets_step f sheets i sheet got = ap (λ z. sheets_from i (map f z)) (ahead sheets i sheet got) ∙ ap (λ (z : List ℕ). z ++ sheets_from (i + 1) (map f (drop (i + 1) sheets))) (sym (append-nil (replies_from (codes "session " ++ decimal i) 1 (f sheet))))
+
+-- a piece behind another, where the last may be refused
+pub put_then : {E : Type 0} (page page1 page2 one two : List ℕ) (r : Result (Unit {0}) E) → page1 ≡ page ++ one → OnOk r (page2 ≡ page1 ++ two) → OnOk r (page2 ≡ page ++ (one ++ two))
+put_then page page1 page2 one two (Ok done) h k = put_both page page1 page2 one two h k
+put_then page page1 page2 one two (Err fault) h k = tt
+
+-- nothing is left to be put
+pub put_end : (page rest all : List ℕ) → rest ≡ [] → page ++ rest ≡ all → page ≡ all
+put_end page rest all none inv = sym (append-nil page) ∙ ap (λ (z : List ℕ). page ++ z) (sym none) ∙ inv

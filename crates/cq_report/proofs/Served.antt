@@ -246,11 +246,16 @@ module _ {W A : Type 0} (taken : W → Option (List ℕ)) (failures : W → ℕ)
       subst (λ (l : List ℕ). Stopped taken failures first opening now l (faults.Read turn)) (append-nil bytes)
       (stopped_between now now state line bytes [] (faults.Read turn) s (λ x y p. Puts-cut taken failures first now x y (faults.Read turn) refl p))
 
+  -- what waited was not passed on, behind which bytes more were read
+  pub Stopped-passing-more : (now now' : Output W A) (state : State) (line bytes rest : List ℕ) (fault : RunFault) → Served taken failures first opening now state line bytes → Breaks taken failures now now' [] fault → Stopped taken failures first opening now' (bytes ++ rest) fault
+  Stopped-passing-more now now' state line bytes rest fault s b =
+      stopped_between now now' state line bytes rest fault s (λ x y p. subst (λ (l : List ℕ). Breaks taken failures first now' l fault) (ap (λ (l : List ℕ). l ++ y) (append-nil x)) (Breaks-more taken failures first now' (x ++ []) y fault (Puts-breaks taken failures first now now' x [] fault p b)))
+
   -- what waited was not passed on
   pub Stopped-passing : (now now' : Output W A) (state : State) (line bytes : List ℕ) (fault : RunFault) → Served taken failures first opening now state line bytes → Breaks taken failures now now' [] fault → Stopped taken failures first opening now' bytes fault
   Stopped-passing now now' state line bytes fault s b =
       subst (λ (l : List ℕ). Stopped taken failures first opening now' l fault) (append-nil bytes)
-      (stopped_between now now' state line bytes [] fault s (λ x y p. subst (λ (l : List ℕ). Breaks taken failures first now' l fault) (ap (λ (l : List ℕ). l ++ y) (append-nil x)) (Breaks-more taken failures first now' (x ++ []) y fault (Puts-breaks taken failures first now now' x [] fault p b))))
+      (Stopped-passing-more now now' state line bytes [] fault s b)
 
   -- ---- the end
 

@@ -1,5 +1,5 @@
 -- What a run leaves behind (this project's profile).
-use Rattle.std.specs.Prelude.{ℕ, List, Option}
+use Rattle.std.specs.Prelude.{◌≡◌, ◌≤◌, ℕ, List, ◌++◌, length, Option}
 use Rattle.std.specs.Io.KnownBytes.{Consumes, Appends}
 use Rattle.cq_report.specs.declared.fault.RunFault.{RunFault}
 use Rattle.cq_report.specs.declared.fault.RunFault.TheVariants as faults
@@ -7,6 +7,7 @@ use Rattle.cq_report.specs.Lines.{lines_of, whole_lines}
 use Rattle.cq_report.specs.Reading.{Reading}
 use Rattle.cq_report.specs.Output.{AreReadings, output}
 use Rattle.cq_text.specs.Device.{TakesFront}
+use Rattle.cq_text.specs.declared.limits.TheConstants.{MAX_PIECE}
 
 -- What is known of a fault of reading, by the turn that it tells.
 abbrev pub IfRead : RunFault → (ℕ → Type 0) → Type 0
@@ -15,6 +16,14 @@ IfRead faults.Write P = Unit {0}
 IfRead faults.Places P = Unit {0}
 IfRead faults.Thread P = Unit {0}
 IfRead faults.NoMemory P = Unit {0}
+
+-- What is known of want of memory.
+abbrev pub IfMemory : RunFault → Type 0 → Type 0
+IfMemory (faults.Read turn) P = Unit {0}
+IfMemory faults.Write P = Unit {0}
+IfMemory faults.Places P = Unit {0}
+IfMemory faults.Thread P = Unit {0}
+IfMemory faults.NoMemory P = P
 
 -- The fault is that of a read.
 abbrev pub IsOfRead : RunFault → Type 0
@@ -71,6 +80,20 @@ pub record WroteWholeLines (left left' taken taken' : Option (List ℕ)) : Type 
   pub readings : List Reading
   pub are : AreReadings (whole_lines bytes) readings
   pub wrote : (rs : List Reading) → AreReadings (whole_lines bytes) rs → Appends taken taken' (output rs)
+
+-- Bytes were read, and of their whole lines the first ones have readings: all that had ended before the last piece of up to 4,096 bytes, and some
+-- that ended in it. However these are read, their output was written and nothing else.
+pub record WroteFirstLines (left left' taken taken' : Option (List ℕ)) : Type 0 where
+  pub bytes : List ℕ
+  pub piece : List ℕ
+  pub read : Consumes left left' (bytes ++ piece)
+  pub short : length piece ≤ MAX_PIECE
+  pub more : List (List ℕ)
+  pub behind : List (List ℕ)
+  pub whole : whole_lines (bytes ++ piece) ≡ (whole_lines bytes ++ more) ++ behind
+  pub readings : List Reading
+  pub are : AreReadings (whole_lines bytes ++ more) readings
+  pub wrote : (rs : List Reading) → AreReadings (whole_lines bytes ++ more) rs → Appends taken taken' (output rs)
 
 -- Bytes were read, and however their lines are read, a front of their output was written.
 pub record WroteFront (left left' taken taken' : Option (List ℕ)) : Type 0 where

@@ -3,7 +3,6 @@ pub mod Written
 pub mod Put
 pub mod Left
 pub mod Writing
-pub mod Laws
 pub mod Kept
 pub mod Serving
 pub mod Replay

@@ -1,15 +1,14 @@
 //! What happens on the floor of a script.
 
-ghost use Rattle.std.specs.Prelude.{◌≡◌, ◌<◌, ◌^◌, OnOk, IfOk};
+ghost use Rattle.std.specs.Prelude.{◌≡◌, ◌<◌, ◌^◌, string_bytes, OnOk, IfOk};
 ghost use Rattle.cq_report.specs.Machine.{opened, after, told};
 ghost use Rattle.cq_report.specs.Reply.{show_block, answer_lines};
 ghost use Rattle.cq_report.specs.Steps.Put.{Put};
 
 use crate::fault::RunFault;
-use crate::output::Output;
-use crate::page::Page;
+use crate::output::{Output, put_reply};
 use crate::reply::{end_line, entered_line, published_line, refusal_line, show_line};
-use crate::reporting::{put_line, put_report};
+use crate::reporting::put_report;
 use crate::setup::Setup;
 use cq_board::{Board, Edit};
 use cq_desk::{Answer, Event, Floor, StepFault};
@@ -38,19 +37,19 @@ pub(crate) fn open<A: Allocator + Copy>(
     }
 }
 
-/// Puts what a look shows: the count, the report on the board, and an end.
-fn put_shown<W: Sink, A: Allocator + Copy>(
+/// What a look shows: the count, the report on the board, and an end. It is made whole before any of it is put, so that want of
+/// memory leaves no part of it.
+fn shown_block<A: Allocator + Copy>(
     alloc: A,
     board: &Board<A>,
     count: u64,
-    output: &mut Output<'_, W, A>,
-) -> Result<(), RunFault>
-    requires { W.write_failures output.old.sink.now < 2 ^ 62 }
-    ensures { Put W.taken W.write_failures output.old output.new (show_block count board.now) result }
+) -> Result<String<A>, AllocError>
+    ensures { IfOk result (λ text. string_bytes text ≡ show_block count board.now) }
 {
-    put_line(show_line(alloc, count), output)?;
-    put_report(alloc, board, output)?;
-    output.put_text(end_line())
+    let mut text = show_line(alloc, count)?;
+    put_report(alloc, board, &mut text)?;
+    text.push_str(end_line())?;
+    Ok(text)
 }
 
 /// Puts an answer; a look also shows the board. Nobody is told of anything.
@@ -64,9 +63,9 @@ fn put_answer<W: Sink, A: Allocator + Copy>(
     ensures { Put W.taken W.write_failures output.old output.new (answer_lines board.now answer) result }
 {
     match answer {
-        Answer::Entered(entry) => put_line(entered_line(alloc, entry), output),
-        Answer::Published(count) => put_line(published_line(alloc, count), output),
-        Answer::Looked(count) => put_shown(alloc, board, count, output),
+        Answer::Entered(entry) => put_reply(entered_line(alloc, entry), output),
+        Answer::Published(count) => put_reply(published_line(alloc, count), output),
+        Answer::Looked(count) => put_reply(shown_block(alloc, board, count), output),
         Answer::Heard(_) => Ok(()),
     }
 }
@@ -86,7 +85,7 @@ pub(crate) fn happen<W: Sink, A: Allocator + Copy>(
         Ok(answer) => put_answer(alloc, floor.board(), answer, output),
         Err(refusal) => match refusal {
             StepFault::NoMemory => Err(RunFault::NoMemory),
-            _ => put_line(refusal_line(alloc, refusal), output),
+            _ => put_reply(refusal_line(alloc, refusal), output),
         },
     }
 }

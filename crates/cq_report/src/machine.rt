@@ -1,19 +1,18 @@
 //! The machine of a script, line by line.
 
-ghost use Rattle.std.specs.Prelude.{◌≡◌, ◌<◌, ◌^◌, OnOk, IfErr};
+ghost use Rattle.std.specs.Prelude.{◌≡◌, ◌<◌, ◌^◌, [], OnOk, IfErr};
 ghost use Rattle.cq_desk.specs.declared.event.Event.TheVariants.{Enter};
 ghost use Rattle.cq_report.specs.declared.stage.Stage.TheVariants.{Serving};
 ghost use Rattle.cq_report.specs.Reading.{Reading, Reads, IsReading};
 ghost use Rattle.cq_report.specs.Machine.{begin_state, serving_of, declare, limit, happen, next, reply};
+ghost use Rattle.cq_report.specs.Run.{IfMemory};
 ghost use Rattle.cq_report.specs.Steps.Written.{Puts, Breaks, Fails};
 ghost use Rattle.cq_report.specs.Steps.Put.{Put};
 
 use crate::fault::RunFault;
 use crate::happening::{BoardFloor, happen, open};
-use crate::output::Output;
-use crate::page::Page;
+use crate::output::{Output, put_reply};
 use crate::reply::{catalog_line, fault_line, late_line, ok_line};
-use crate::reporting::put_line;
 use crate::setup::Setup;
 use crate::stage::Stage;
 use cq_board::{Edit, EditKind, Limits};
@@ -168,8 +167,8 @@ impl<A: Allocator + Copy> Machine<A> {
     /// Reads a line, and puts the reply to it.
     ///
     /// # Errors
-    /// `Write` where the writer failed; `NoMemory` where a growth was refused. A front of the reply
-    /// may be put then, and the machine is of no use any more.
+    /// `Write` where the writer failed, and a front of the reply may be put then; `NoMemory` where a growth was
+    /// refused, and nothing is put then. The machine is of no use any more.
     pub(crate) fn answer<W: Sink>(
         &mut self,
         line: &[u8],
@@ -180,10 +179,11 @@ impl<A: Allocator + Copy> Machine<A> {
         ensures ok { OnOk result ((reading : Reading) → IsReading line.now reading → (self.new ≡ next self.old reading) × Puts W.taken W.write_failures output.old output.new (reply self.old reading)) }
         ensures err { IfErr result (λ fault. (reading : Reading) → IsReading line.now reading → Breaks W.taken W.write_failures output.old output.new (reply self.old reading) fault) }
         ensures fails { IfErr result (λ fault. Fails W.write_failures output.old output.new fault) }
+        ensures nothing { IfErr result (λ fault. IfMemory fault (Puts W.taken W.write_failures output.old output.new [])) }
     {
         match read_command(self.alloc, line) {
             Ok(command) => self.serve(command, output),
-            Err(TextFault::At { kind, offset }) => put_line(
+            Err(TextFault::At { kind, offset }) => put_reply(
                 fault_line(self.alloc, kind, offset),
                 output,
             ),

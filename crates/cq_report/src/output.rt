@@ -1,12 +1,13 @@
 //! A buffer before a writer.
 
-ghost use Rattle.std.specs.Prelude.{◌≡◌, ◌<◌, ◌+◌, ◌^◌, ℕ, List, ◌++◌, [], OnOk, OnErr, IfOk, IfErr, MatchResult};
+ghost use Rattle.std.specs.Prelude.{◌≡◌, ◌<◌, ◌+◌, ◌^◌, ℕ, List, ◌++◌, [], string_bytes, OnOk, OnErr, IfOk, IfErr, MatchResult};
 ghost use Rattle.std.specs.Io.KnownBytes.{Appends};
+ghost use Rattle.cq_report.specs.Steps.Put.{Put};
 ghost use Rattle.cq_report.specs.Steps.Written.{Puts, Breaks};
 
 use crate::fault::RunFault;
 use cq_text::{Sink, write_all};
-use std::alloc::Allocator;
+use std::alloc::{AllocError, Allocator};
 
 /// How many bytes wait at most.
 pub(crate) const ROOM: usize = 8192;
@@ -50,6 +51,14 @@ impl<'w, W: Sink, A: Allocator> Output<'w, W, A> {
         Ok(())
     }
 
+    /// Puts text behind what was put before. Its only fault is that of writing.
+    pub(crate) fn put_text(&mut self, text: &str) -> Result<(), RunFault>
+        requires { W.write_failures self.old.sink.now < 2 ^ 62 }
+        ensures { Put W.taken W.write_failures self.old self.new text.now result }
+    {
+        self.put(text.as_bytes())
+    }
+
     /// Passes on all that waits. Its only fault is that of writing.
     pub(crate) fn write_out(&mut self) -> Result<(), RunFault>
         requires { W.write_failures self.old.sink.now < 2 ^ 62 }
@@ -80,4 +89,16 @@ impl<'w, W: Sink, A: Allocator> Output<'w, W, A> {
         };
         Ok(())
     }
+}
+
+/// Puts a reply that was made; where there was no memory for it, it says so and puts nothing.
+pub(crate) fn put_reply<W: Sink, A: Allocator>(
+    reply: Result<String<A>, AllocError>,
+    output: &mut Output<'_, W, A>,
+) -> Result<(), RunFault>
+    requires { W.write_failures output.old.sink.now < 2 ^ 62 }
+    ensures { (bytes : List ℕ) → IfOk reply (λ text. string_bytes text ≡ bytes) → Put W.taken W.write_failures output.old output.new bytes result }
+{
+    let reply = reply?;
+    output.put_text(reply.as_str())
 }

@@ -1,9 +1,9 @@
-//! The report on a board, put line by line.
+//! The report on a board, put on a page line by line.
 //!
 //! The edges of a board are listed by the waiter and then by the postcondition. So each postcondition
 //! finds its edges in front of those that are left, and each edge is looked at a few times alone.
 
-ghost use Rattle.std.specs.Prelude.{◌≡◌, ◌<◌, ◌==◌, ◌++◌, ◌^◌, ℕ, List, length, string_bytes, IfOk, OnOk, map, Some};
+ghost use Rattle.std.specs.Prelude.{◌≡◌, ◌==◌, ◌++◌, ℕ, List, length, string_bytes, IfOk, OnOk, map, Some};
 ghost use Rattle.std.specs.List.{flat_map, enumerate_from, slice_get, prefix_len};
 ghost use Rattle.cq_atom.specs.Query.{variables_of};
 ghost use Rattle.cq_rel.specs.Tables.{declaration, rows_in};
@@ -11,44 +11,17 @@ ghost use Rattle.cq_board.specs.Pool.{PendingQuery};
 ghost use Rattle.cq_board.specs.Edges.{edges_of};
 ghost use Rattle.cq_board.specs.Board.{name_at, name_or_none};
 ghost use Rattle.cq_report.specs.Report.{relation_line, state_word, name_line, text_line, provider_line, crowd_word, count_line, post_lines, groundings_line, values_line, query_lines, report};
-ghost use Rattle.cq_report.specs.Steps.Put.{Put};
 ghost use Rattle.cq_report.specs.Steps.Left.{query_at, edges_to_query, edges_at};
 
-use crate::fault::RunFault;
 use crate::listing::Listing;
-use crate::output::Output;
-use crate::page::Page;
+use crate::page::put;
 use cq_atom::{Name, Query, Value};
 use cq_board::Board;
 use cq_ground::Groundings;
 use cq_match::{Edge, is_crowd};
 use cq_rel::Tables;
-use cq_text::{Sink, print_query, print_values};
+use cq_text::{print_query, print_values};
 use std::alloc::{AllocError, Allocator};
-
-/// Puts a line that was made, or tells that there was no memory for it.
-fn put_made<P: Page, A: Allocator>(
-    page: &mut P,
-    line: Result<String<A>, AllocError>,
-) -> Result<(), RunFault>
-    requires { P.is_ready page.old }
-    ensures put { (bytes : List ℕ) → IfOk line (λ text. string_bytes text ≡ bytes) → P.puts page.old page.new bytes result }
-    ensures ready { OnOk result (P.is_ready page.new) }
-{
-    let line = line?;
-    page.put_text(line.as_str())
-}
-
-/// Puts a line that was made, or tells that there was no memory for it.
-pub(crate) fn put_line<W: Sink, A: Allocator>(
-    line: Result<String<A>, AllocError>,
-    output: &mut Output<'_, W, A>,
-) -> Result<(), RunFault>
-    requires { W.write_failures output.old.sink.now < 2 ^ 62 }
-    ensures { (bytes : List ℕ) → IfOk line (λ text. string_bytes text ≡ bytes) → Put W.taken W.write_failures output.old output.new bytes result }
-{
-    put_made(output, line)
-}
 
 /// How many rows the relation has; none where it is not declared.
 fn row_count<A: Allocator>(tables: &Tables<A>, relation: &str) -> usize
@@ -169,14 +142,12 @@ fn count_to_post(edges: &[Edge], post: usize) -> usize
 }
 
 /// Puts a line for each declared relation.
-fn put_relations<P: Page, A: Allocator + Copy>(
+fn put_relations<A: Allocator + Copy>(
     alloc: A,
     tables: &Tables<A>,
-    page: &mut P,
-) -> Result<(), RunFault>
-    requires { P.is_ready page.old }
-    ensures put { P.puts page.old page.new (flat_map (relation_line tables.now) tables.now.catalog) result }
-    ensures ready { OnOk result (P.is_ready page.new) }
+    page: &mut String<A>,
+) -> Result<(), AllocError>
+    ensures { OnOk result (string_bytes page.new ≡ string_bytes page.old ++ flat_map (relation_line tables.now) tables.now.catalog) }
 {
     let catalog = tables.catalog();
     for place in 0..catalog.len() {
@@ -184,58 +155,52 @@ fn put_relations<P: Page, A: Allocator + Copy>(
             Some(entry) => entry,
             None => unreachable!(),
         };
-        put_made(page, relation_line(alloc, tables, relation, arity))?;
+        put(page, relation_line(alloc, tables, relation, arity))?;
     }
     Ok(())
 }
 
 /// Puts the providers of a postcondition.
-fn put_providers<P: Page, A: Allocator + Copy>(
+fn put_providers<A: Allocator + Copy>(
     alloc: A,
     listing: &Listing<'_, A>,
     providers: &[Edge],
-    page: &mut P,
-) -> Result<(), RunFault>
-    requires { P.is_ready page.old }
-    ensures put { P.puts page.old page.new (flat_map (provider_line listing.now.board.now.pending) providers.now) result }
-    ensures ready { OnOk result (P.is_ready page.new) }
+    page: &mut String<A>,
+) -> Result<(), AllocError>
+    ensures { OnOk result (string_bytes page.new ≡ string_bytes page.old ++ flat_map (provider_line listing.now.board.now.pending) providers.now) }
 {
     for edge in providers {
-        put_made(page, provider_line(alloc, listing, edge))?;
+        put(page, provider_line(alloc, listing, edge))?;
     }
     Ok(())
 }
 
 /// Puts how many providers a postcondition has, and each of them.
-fn put_post<P: Page, A: Allocator + Copy>(
+fn put_post<A: Allocator + Copy>(
     alloc: A,
     listing: &Listing<'_, A>,
     post: usize,
     providers: &[Edge],
-    page: &mut P,
-) -> Result<(), RunFault>
-    requires { P.is_ready page.old }
-    ensures put { P.puts page.old page.new (count_line post (length providers.now) ++ flat_map (provider_line listing.now.board.now.pending) providers.now) result }
-    ensures ready { OnOk result (P.is_ready page.new) }
+    page: &mut String<A>,
+) -> Result<(), AllocError>
+    ensures { OnOk result (string_bytes page.new ≡ string_bytes page.old ++ (count_line post (length providers.now) ++ flat_map (provider_line listing.now.board.now.pending) providers.now)) }
 {
-    put_made(page, count_line(alloc, post, providers.len()))?;
+    put(page, count_line(alloc, post, providers.len()))?;
     put_providers(alloc, listing, providers, page)
 }
 
 /// Puts what is told of each postcondition of the query of that number, to which the edges lead.
-fn put_posts<P: Page, A: Allocator + Copy>(
+fn put_posts<A: Allocator + Copy>(
     alloc: A,
     listing: &Listing<'_, A>,
     waiter: usize,
     query: &Query<A>,
     edges: &[Edge],
-    page: &mut P,
-) -> Result<(), RunFault>
-    requires ready { P.is_ready page.old }
+    page: &mut String<A>,
+) -> Result<(), AllocError>
     requires query { query_at listing.now.board.now.pending waiter ≡ Some query.now }
     requires edges { edges.now ≡ edges_to_query listing.now.board.now.pending waiter query.now }
-    ensures put { P.puts page.old page.new (flat_map (λ post. post_lines listing.now.board.now.pending waiter post.0) (enumerate_from 0 query.now.posts)) result }
-    ensures ready { OnOk result (P.is_ready page.new) }
+    ensures { OnOk result (string_bytes page.new ≡ string_bytes page.old ++ flat_map (λ post. post_lines listing.now.board.now.pending waiter post.0) (enumerate_from 0 query.now.posts)) }
 {
     let mut left = edges;
     for post in 0..query.posts().len() {
@@ -247,66 +212,58 @@ fn put_posts<P: Page, A: Allocator + Copy>(
 }
 
 /// Puts a line for each list of values.
-fn put_values<P: Page, A: Allocator + Copy>(
+fn put_values<A: Allocator + Copy>(
     alloc: A,
     lists: &[Vec<Value<A>, A>],
-    page: &mut P,
-) -> Result<(), RunFault>
-    requires { P.is_ready page.old }
-    ensures put { P.puts page.old page.new (flat_map values_line (map (λ values. values.items) lists.now)) result }
-    ensures ready { OnOk result (P.is_ready page.new) }
+    page: &mut String<A>,
+) -> Result<(), AllocError>
+    ensures { OnOk result (string_bytes page.new ≡ string_bytes page.old ++ flat_map values_line (map (λ values. values.items) lists.now)) }
 {
     for values in lists {
-        put_made(page, values_line(alloc, values))?;
+        put(page, values_line(alloc, values))?;
     }
     Ok(())
 }
 
 /// Puts the groundings of a query.
-fn put_groundings<P: Page, A: Allocator + Copy>(
+fn put_groundings<A: Allocator + Copy>(
     alloc: A,
     query: &Query<A>,
     groundings: &Groundings<A>,
-    page: &mut P,
-) -> Result<(), RunFault>
-    requires { P.is_ready page.old }
-    ensures put { P.puts page.old page.new (groundings_line (variables_of query.now.body) (length groundings.now) ++ flat_map values_line groundings.now) result }
-    ensures ready { OnOk result (P.is_ready page.new) }
+    page: &mut String<A>,
+) -> Result<(), AllocError>
+    ensures { OnOk result (string_bytes page.new ≡ string_bytes page.old ++ (groundings_line (variables_of query.now.body) (length groundings.now) ++ flat_map values_line groundings.now)) }
 {
-    put_made(page, groundings_line(alloc, query, groundings.count()))?;
+    put(page, groundings_line(alloc, query, groundings.count()))?;
     put_values(alloc, groundings.list(), page)
 }
 
 /// Puts the name of a query, whether it is matched, and its printed form.
-fn put_heading<P: Page, A: Allocator + Copy>(
+fn put_heading<A: Allocator + Copy>(
     alloc: A,
     name: &Name<A>,
     matched: bool,
     query: &Query<A>,
-    page: &mut P,
-) -> Result<(), RunFault>
-    requires { P.is_ready page.old }
-    ensures put { P.puts page.old page.new (name_line name.now matched ++ text_line query.now) result }
-    ensures ready { OnOk result (P.is_ready page.new) }
+    page: &mut String<A>,
+) -> Result<(), AllocError>
+    ensures { OnOk result (string_bytes page.new ≡ string_bytes page.old ++ (name_line name.now matched ++ text_line query.now)) }
 {
-    put_made(page, name_line(alloc, name.as_str(), matched))?;
-    put_made(page, text_line(alloc, query))
+    put(page, name_line(alloc, name.as_str(), matched))?;
+    put(page, text_line(alloc, query))
 }
 
 /// Puts what is told of the query of that number and name, to which the edges lead.
-fn put_query<P: Page, A: Allocator + Copy>(
+fn put_query<A: Allocator + Copy>(
     alloc: A,
     listing: &Listing<'_, A>,
     waiter: usize,
     name: &Name<A>,
     edges: &[Edge],
-    page: &mut P,
-) -> Result<(), RunFault>
-    requires ready { P.is_ready page.old }
+    page: &mut String<A>,
+) -> Result<(), AllocError>
     requires name { name_at listing.now.board.now.pending waiter ≡ Some name.now }
     requires edges { (posted : PendingQuery) → slice_get listing.now.board.now.pending waiter ≡ Some posted → edges.now ≡ edges_at listing.now.board.now.pending (waiter, posted) }
-    ensures put { (posted : PendingQuery) → slice_get listing.now.board.now.pending waiter ≡ Some posted → P.puts page.old page.new (query_lines listing.now.board.now (waiter, posted)) result }
-    ensures ready { OnOk result (P.is_ready page.new) }
+    ensures { (posted : PendingQuery) → slice_get listing.now.board.now.pending waiter ≡ Some posted → OnOk result (string_bytes page.new ≡ string_bytes page.old ++ query_lines listing.now.board.now (waiter, posted)) }
 {
     let board = listing.board;
     let _good = board.len();
@@ -324,16 +281,14 @@ fn put_query<P: Page, A: Allocator + Copy>(
 }
 
 /// Puts what is told of each pending query. The edges are all edges.
-fn put_each<P: Page, A: Allocator + Copy>(
+fn put_each<A: Allocator + Copy>(
     alloc: A,
     listing: &Listing<'_, A>,
     edges: &[Edge],
-    page: &mut P,
-) -> Result<(), RunFault>
-    requires ready { P.is_ready page.old }
+    page: &mut String<A>,
+) -> Result<(), AllocError>
     requires edges { edges.now ≡ edges_of listing.now.board.now.pending }
-    ensures put { P.puts page.old page.new (flat_map (query_lines listing.now.board.now) (enumerate_from 0 listing.now.board.now.pending)) result }
-    ensures ready { OnOk result (P.is_ready page.new) }
+    ensures { OnOk result (string_bytes page.new ≡ string_bytes page.old ++ flat_map (query_lines listing.now.board.now) (enumerate_from 0 listing.now.board.now.pending)) }
 {
     let mut left = edges;
     for (waiter, name) in listing.names.iter().enumerate() {
@@ -345,14 +300,12 @@ fn put_each<P: Page, A: Allocator + Copy>(
 }
 
 /// Puts what is told of each pending query.
-fn put_queries<P: Page, A: Allocator + Copy>(
+fn put_queries<A: Allocator + Copy>(
     alloc: A,
     board: &Board<A>,
-    page: &mut P,
-) -> Result<(), RunFault>
-    requires { P.is_ready page.old }
-    ensures put { P.puts page.old page.new (flat_map (query_lines board.now) (enumerate_from 0 board.now.pending)) result }
-    ensures ready { OnOk result (P.is_ready page.new) }
+    page: &mut String<A>,
+) -> Result<(), AllocError>
+    ensures { OnOk result (string_bytes page.new ≡ string_bytes page.old ++ flat_map (query_lines board.now) (enumerate_from 0 board.now.pending)) }
 {
     let names = board.names()?;
     let edges = board.edges_by_place()?;
@@ -363,33 +316,19 @@ fn put_queries<P: Page, A: Allocator + Copy>(
     put_each(alloc, &listing, &edges, page)
 }
 
-/// Puts the report.
-fn put_all<P: Page, A: Allocator + Copy>(
+/// Puts the report on a board.
+pub(crate) fn put_report<A: Allocator + Copy>(
     alloc: A,
     board: &Board<A>,
-    page: &mut P,
-) -> Result<(), RunFault>
-    requires { P.is_ready page.old }
-    ensures { P.puts page.old page.new (report board.now) result }
+    page: &mut String<A>,
+) -> Result<(), AllocError>
+    ensures { OnOk result (string_bytes page.new ≡ string_bytes page.old ++ report board.now) }
 {
     put_relations(alloc, board.tables(), page)?;
     put_queries(alloc, board, page)
 }
 
-/// Puts the report on a board. What is made in memory is the list of the names, the list of the edges,
-/// and the lines, one at a time.
-pub(crate) fn put_report<W: Sink, A: Allocator + Copy>(
-    alloc: A,
-    board: &Board<A>,
-    output: &mut Output<'_, W, A>,
-) -> Result<(), RunFault>
-    requires { W.write_failures output.old.sink.now < 2 ^ 62 }
-    ensures { Put W.taken W.write_failures output.old output.new (report board.now) result }
-{
-    put_all(alloc, board, output)
-}
-
-/// The report on a board as one text.
+/// The report on a board as one text. What is made beside it is the list of the names, the list of the edges, and the lines, one at a time.
 ///
 /// # Errors
 /// `AllocError` where a growth was refused.
@@ -397,8 +336,6 @@ pub fn report<A: Allocator + Copy>(alloc: A, board: &Board<A>) -> Result<String<
     ensures { IfOk result (λ text. string_bytes text ≡ report board.now) }
 {
     let mut text = String::new(alloc);
-    let Ok(()) = put_all(alloc, board, &mut text) else {
-        return Err(AllocError);
-    };
+    put_report(alloc, board, &mut text)?;
     Ok(text)
 }

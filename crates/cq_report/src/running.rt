@@ -7,10 +7,10 @@ ghost use Rattle.cq_report.specs.Reading.{Reading};
 ghost use Rattle.cq_report.specs.Output.{AreReadings, output};
 ghost use Rattle.cq_report.specs.Machine.{State, begin_state};
 ghost use Rattle.cq_text.specs.Device.{FailedAtTurn};
-ghost use Rattle.cq_report.specs.Run.{IfRead, IsOfRead, IsOfRun, failures_of, WroteWholeLines, WroteFront};
-ghost use Rattle.cq_report.specs.Steps.Written.{Fails};
-ghost use Rattle.cq_report.specs.Steps.Replay.{Replayed, BrokeOff, Ended};
-ghost use Rattle.cq_report.specs.Steps.Serving.{HasNoEnd, ServesOn, StopsOn, Finishes, IsSound};
+ghost use Rattle.cq_report.specs.Run.{IfRead, IfMemory, IsOfRead, IsOfRun, failures_of, WroteWholeLines, WroteFirstLines, WroteFront};
+ghost use Rattle.cq_report.specs.Steps.Written.{Fails, Puts};
+ghost use Rattle.cq_report.specs.Steps.Replay.{Replayed, BrokeOff, Ended, RanOut};
+ghost use Rattle.cq_report.specs.Steps.Serving.{HasNoEnd, ServesOn, StopsOn, StarvesOn, Finishes, IsSound};
 
 use crate::fault::RunFault;
 use crate::line::Line;
@@ -52,6 +52,7 @@ fn serve_line<W: Sink, A: Allocator + Copy>(
     ensures sound { OnOk result (IsSound W.write_failures output.old output.new) }
     ensures err { IfErr result (λ fault. (rest : List ℕ) → StopsOn W.taken W.write_failures output.old output.new machine.old line.old (last.now ++ (10 ∷ rest)) fault) }
     ensures fails { IfErr result (λ fault. Fails W.write_failures output.old output.new fault) }
+    ensures nothing { IfErr result (λ fault. IfMemory fault (Puts W.taken W.write_failures output.old output.new [])) }
 {
     if line.is_empty() {
         machine.answer(last, output)?;
@@ -75,6 +76,7 @@ fn feed<W: Sink, A: Allocator + Copy>(
     ensures sound { OnOk result (IsSound W.write_failures output.old output.new) }
     ensures err { IfErr result (λ fault. StopsOn W.taken W.write_failures output.old output.new machine.old line.old piece.now fault) }
     ensures fails { IfErr result (λ fault. Fails W.write_failures output.old output.new fault) }
+    ensures starves { IfErr result (λ fault. IfMemory fault (StarvesOn W.taken W.write_failures output.old output.new machine.old line.old piece.now)) }
 {
     let mut rest = piece;
     while let Some((last, behind)) = first_line(rest) {
@@ -97,6 +99,7 @@ fn finish<W: Sink, A: Allocator + Copy>(
     ensures sound { OnOk result (IsSound W.write_failures output.old output.new) }
     ensures err { IfErr result (λ fault. StopsOn W.taken W.write_failures output.old output.new machine.old line.now [] fault) }
     ensures fails { IfErr result (λ fault. Fails W.write_failures output.old output.new fault) }
+    ensures nothing { IfErr result (λ fault. IfMemory fault (Puts W.taken W.write_failures output.old output.new [])) }
 {
     if line.is_empty() {
         output.finish()?;
@@ -119,13 +122,14 @@ fn serve_all<A: Allocator + Copy, R: Source, W: Sink>(
 ) -> Result<(), RunFault>
     requires machine { machine.old ≡ begin_state }
     requires line { line.old ≡ [] }
-    requires piece { 0 < length piece.old }
+    requires piece { length piece.old ≡ MAX_PIECE }
     requires reads { R.reads_made reader.old < 2 ^ 62 }
     requires failures { R.failures_met reader.old < 2 ^ 62 }
     requires write_failures { W.write_failures output.old.sink.now < 2 ^ 62 }
     requires held { output.old.held.now.items ≡ [] }
     ensures ok { OnOk result (Replayed W.taken W.write_failures (R.left reader.old) (R.left reader.new) output.old output.new) }
     ensures read { IfErr result (λ fault. IfRead fault (λ turn. BrokeOff W.taken W.write_failures (R.left reader.old) (R.left reader.new) output.old output.new)) }
+    ensures memory { IfErr result (λ fault. IfMemory fault (RanOut W.taken W.write_failures (R.left reader.old) (R.left reader.new) output.old output.new)) }
     ensures kind { IfErr result IsOfRun }
     ensures turn { IfErr result (λ fault. IfRead fault (λ turn. FailedAtTurn turn (R.reads_made reader.old) (R.reads_made reader.new) (R.failures_met reader.old) (R.failures_met reader.new))) }
     ensures err { IfErr result (λ fault. Ended W.taken W.write_failures (R.left reader.old) (R.left reader.new) output.old output.new fault) }
@@ -150,7 +154,7 @@ fn serve_all<A: Allocator + Copy, R: Source, W: Sink>(
     })
 }
 
-/// Serves all that is read, from the first line on.
+/// Serves all that is read, from the first line on. Where memory is wanting in the end, what waits is passed on all the same.
 fn replay<A: Allocator + Copy, R: Source, W: Sink>(
     alloc: A,
     reader: &mut R,
@@ -162,6 +166,7 @@ fn replay<A: Allocator + Copy, R: Source, W: Sink>(
     requires held { output.old.held.now.items ≡ [] }
     ensures ok { OnOk result (Replayed W.taken W.write_failures (R.left reader.old) (R.left reader.new) output.old output.new) }
     ensures read { IfErr result (λ fault. IfRead fault (λ turn. BrokeOff W.taken W.write_failures (R.left reader.old) (R.left reader.new) output.old output.new)) }
+    ensures memory { IfErr result (λ fault. IfMemory fault (RanOut W.taken W.write_failures (R.left reader.old) (R.left reader.new) output.old output.new × (output.new.held.now.items ≡ []))) }
     ensures kind { IfErr result IsOfRun }
     ensures turn { IfErr result (λ fault. IfRead fault (λ turn. FailedAtTurn turn (R.reads_made reader.old) (R.reads_made reader.new) (R.failures_met reader.old) (R.failures_met reader.new))) }
     ensures err { IfErr result (λ fault. Ended W.taken W.write_failures (R.left reader.old) (R.left reader.new) output.old output.new fault) }
@@ -175,6 +180,10 @@ fn replay<A: Allocator + Copy, R: Source, W: Sink>(
     let mut piece = [0u8; MAX_PIECE];
     let served = serve_all(&mut machine, &mut line, &mut piece, reader, output);
     mem::drop(machine);
+    mem::drop(line);
+    if let Err(RunFault::NoMemory) = served {
+        output.write_out()?;
+    }
     served
 }
 
@@ -188,7 +197,8 @@ fn replay<A: Allocator + Copy, R: Source, W: Sink>(
 ///
 /// `Read` tells the number, from 1, of the read that failed, and 1,048,577 where no read failed and
 /// none came to the end. `Write` says that the writer failed, and `NoMemory` that a growth was
-/// refused. Lines that a fault cut off have no reply.
+/// refused: all lines before the one that met it have their replies then, and it has no part of its own. Lines
+/// that a fault cut off have no reply.
 pub fn run<A: Allocator + Copy, R: Source, W: Sink>(
     alloc: A,
     reader: &mut R,
@@ -204,9 +214,10 @@ pub fn run<A: Allocator + Copy, R: Source, W: Sink>(
     // And they can be read.
     ensures readings { OnOk result (IfSome (R.left reader.old) (λ input. (readings : List Reading) × AreReadings (lines_of input) readings)) }
 
-    // After a fault of reading the output of the whole lines was written; after any fault no more
-    // than a front of the output of what was read.
+    // After a fault of reading the output of the whole lines was written; where memory was wanting, that of the first lines, down to
+    // somewhere in the last piece that was read; after any fault no more than a front of the output of what was read.
     ensures whole_lines { IfErr result (λ fault. IfRead fault (λ turn. WroteWholeLines (R.left reader.old) (R.left reader.new) (W.taken writer.old) (W.taken writer.new))) }
+    ensures first_lines { IfErr result (λ fault. IfMemory fault (WroteFirstLines (R.left reader.old) (R.left reader.new) (W.taken writer.old) (W.taken writer.new))) }
     ensures front { IfErr result (λ fault. WroteFront (R.left reader.old) (R.left reader.new) (W.taken writer.old) (W.taken writer.new)) }
 
     // Whose fault it was.

@@ -1,11 +1,11 @@
 -- Bytes that a step puts, and what is known where a fault came first.
-use Rattle.std.specs.Prelude.{ℕ, List, Option, Result, Ok, Err}
+use Rattle.std.specs.Prelude.{ℕ, List, [], Option, Result, Ok, Err}
 use Rattle.cq_report.specs.declared.output.Output.{Output}
 use Rattle.cq_report.specs.declared.fault.RunFault.{RunFault}
-use Rattle.cq_report.specs.Run.{IsOfRead, IsOfOutput}
+use Rattle.cq_report.specs.Run.{IsOfRead, IsOfOutput, IfMemory}
 use Rattle.cq_report.specs.Steps.Written.{Puts, Breaks}
 
--- The bytes were put; or a fault came first, and it is none of reading.
+-- The bytes were put; or a fault came first, which is none of reading; and where it is want of memory, nothing was put.
 abbrev pub Put : {W A : Type 0} → (W → Option (List ℕ)) → (W → ℕ) → Output W A → Output W A → List ℕ → Result (Unit {0}) RunFault → Type 0
 Put taken failures old new bytes (Ok done) = Puts taken failures old new bytes
-Put taken failures old new bytes (Err fault) = Breaks taken failures old new bytes fault × (IsOfRead fault → ⊥) × IsOfOutput fault
+Put taken failures old new bytes (Err fault) = Breaks taken failures old new bytes fault × (IsOfRead fault → ⊥) × IsOfOutput fault × IfMemory fault (Puts taken failures old new [])

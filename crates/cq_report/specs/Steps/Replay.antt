@@ -1,10 +1,11 @@
 -- What a replay leaves behind.
-use Rattle.std.specs.Prelude.{◌≡◌, ℕ, List, [], Option}
+use Rattle.std.specs.Prelude.{◌≡◌, ◌≤◌, ℕ, List, [], ◌++◌, length, Option}
 use Rattle.std.specs.Io.KnownBytes.{Consumes, IsAtEnd}
+use Rattle.cq_text.specs.declared.limits.TheConstants.{MAX_PIECE}
 use Rattle.cq_report.specs.declared.output.Output.{Output}
 use Rattle.cq_report.specs.declared.fault.RunFault.{RunFault}
 use Rattle.cq_report.specs.Machine.{State, begin_state}
-use Rattle.cq_report.specs.Steps.Serving.{Served, Finished, Stopped}
+use Rattle.cq_report.specs.Steps.Serving.{Served, Finished, Stopped, Starved}
 
 -- All bytes were read, and all lines answered.
 pub record Replayed {W A : Type 0} (taken : W → Option (List ℕ)) (failures : W → ℕ) (left left' : Option (List ℕ)) (first now : Output W A) : Type 0 where
@@ -28,3 +29,11 @@ pub record Ended {W A : Type 0} (taken : W → Option (List ℕ)) (failures : W 
   pub bytes : List ℕ
   pub read : Consumes left left' bytes
   pub stopped : Stopped taken failures first begin_state now bytes fault
+
+-- Bytes were read; memory was wanting while the last piece of them was served.
+pub record RanOut {W A : Type 0} (taken : W → Option (List ℕ)) (failures : W → ℕ) (left left' : Option (List ℕ)) (first now : Output W A) : Type 0 where
+  pub bytes : List ℕ
+  pub piece : List ℕ
+  pub read : Consumes left left' (bytes ++ piece)
+  pub short : length piece ≤ MAX_PIECE
+  pub starved : Starved taken failures first begin_state now bytes piece

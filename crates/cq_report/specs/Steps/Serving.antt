@@ -59,6 +59,19 @@ abbrev pub StopsOn : {W A : Type 0} → (W → Option (List ℕ)) → (W → ℕ
 StopsOn {W} {A} taken failures old new state line piece fault =
     (first : Output W A) (opening : State) (bytes : List ℕ) → Served taken failures first opening old state line bytes → Stopped taken failures first opening new (bytes ++ piece) fault
 
+-- Memory was wanting while some bytes more were served, whatever was served before them: a front of them was served, and nothing else was put.
+pub record Starved {W A : Type 0} (taken : W → Option (List ℕ)) (failures : W → ℕ) (first : Output W A) (opening : State) (now : Output W A) (bytes piece : List ℕ) : Type 0 where
+  pub done : List ℕ
+  pub rest : List ℕ
+  pub cut : done ++ rest ≡ piece
+  pub state : State
+  pub line : List ℕ
+  pub served : Served taken failures first opening now state line (bytes ++ done)
+
+abbrev pub StarvesOn : {W A : Type 0} → (W → Option (List ℕ)) → (W → ℕ) → (old new : Output W A) → State → (line piece : List ℕ) → Type 0
+StarvesOn {W} {A} taken failures old new state line piece =
+    (first : Output W A) (opening : State) (bytes : List ℕ) → Served taken failures first opening old state line bytes → Starved taken failures first opening new bytes piece
+
 -- The end came, whatever was served before it.
 abbrev pub Finishes : {W A : Type 0} → (W → Option (List ℕ)) → (W → ℕ) → (old new : Output W A) → State → (line : List ℕ) → Type 0
 Finishes {W} {A} taken failures old new state line =

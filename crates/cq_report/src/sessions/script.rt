@@ -6,6 +6,7 @@ ghost use Rattle.cq_report.specs.Report.{line};
 ghost use Rattle.cq_report.specs.Script.{edit_line, entries_from, entry_lines, declaration_line, limits_line, replies_from, sheets_from};
 ghost use Rattle.cq_text.specs.Print.{printed_row};
 
+use crate::page::put;
 use crate::sessions::sheet::Sheet;
 use cq_atom::{Name, Query, Row};
 use cq_board::{Edit, EditKind, Limits};
@@ -13,17 +14,6 @@ use cq_desk::Entry;
 use cq_rel::Catalog;
 use cq_text::{print_query, print_row};
 use std::alloc::{AllocError, Allocator};
-
-/// Puts a text that was made, or tells that there was no memory for it.
-fn put<A: Allocator>(
-    page: &mut String<A>,
-    text: Result<String<A>, AllocError>,
-) -> Result<(), AllocError>
-    ensures { (bytes : List ℕ) → IfOk text (λ text. string_bytes text ≡ bytes) → OnOk result (string_bytes page.new ≡ string_bytes page.old ++ bytes) }
-{
-    page.push_str(text?.as_str())?;
-    Ok(())
-}
 
 fn post_line<A: Allocator + Copy>(
     alloc: A,

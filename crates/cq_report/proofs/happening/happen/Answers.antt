@@ -29,7 +29,7 @@ returns-in_default g c =
     let refusal = c.in-Err.refusal in
     let told : answer_to pool_after why floor.opening floor.limit floor.machine event ≡ Err refusal = told_refusal _ refusal c.in_default.not-NoMemory c.in-Err.ensures.answer in
     record {
-      state = on_ok c.put_line.result _ (c.in-Err.ensures.err ∙ sym (refused_after floor event refusal told));
-      put = subst (λ (bytes : List ℕ). Put g.W.Sink.taken g.W.Sink.write_failures c.args.output.now c.put_line.new.output bytes c.put_line.result)
-          (sym (ap (reply_lines (shown (after floor event))) told)) (c.put_line.ensures (refusal_line refusal) c.refusal_line.ensures);
+      state = on_ok c.put_reply.result _ (c.in-Err.ensures.err ∙ sym (refused_after floor event refusal told));
+      put = subst (λ (bytes : List ℕ). Put g.W.Sink.taken g.W.Sink.write_failures c.args.output.now c.put_reply.new.output bytes c.put_reply.result)
+          (sym (ap (reply_lines (shown (after floor event))) told)) (c.put_reply.ensures (refusal_line refusal) c.refusal_line.ensures);
     }

@@ -1,13 +1,13 @@
 use Rattle.std.proofs.Common.{◌+◌, ◌≤◌, ◌<◌, ◌==◌, ℕ, List, length, drop, sym, ap, subst, arith}
+use Rattle.std.specs.Prelude.{string_bytes}
 use Rattle.std.specs.List.{flat_map, enumerate_from}
 use Rattle.std.proofs.lemmas.List.Sums.{prefix_len-le-length}
-use Rattle.std.proofs.lemmas.Result.{err_from_is_err_and}
 use Rattle.cq_board.specs.Pool.{PendingQuery}
 use Rattle.cq_report.specs.Report.{query_lines}
 use Rattle.cq_report.proofs.Pieces.{item_at, numbered_at, nothing_left}
 use Rattle.cq_report.proofs.Left.{waiter_front}
 use Rattle.cq_report.proofs.Named.{name_read, as_many}
-use Rattle.cq_report.proofs.Onward.{onward-step, onward-broken, onward-end}
+use Rattle.cq_report.proofs.Pages.{put_on, put_end}
 use Rattle.cq_report.proofs.reporting.put_each.Goals as goal
 
 pub split_at-requires : goal.split_at-requires
@@ -21,18 +21,6 @@ pub put_query-requires-clause-edges : goal.put_query-requires-clause-edges
 put_query-requires-clause-edges g c = λ posted here.
     (waiter_front c.args.listing.now.board.now.pending c.loop-waiter.waiter _ posted c.loop-waiter.left.now _ _ here c.loop-waiter.invariant.left c.count_to_waiter.ensures c.split_at.ensures.front c.split_at.ensures.back).0
 
-pub returns-in_err-put_query-clause-put : goal.returns-in_err-put_query-clause-put
-returns-in_err-put_query-clause-put g c =
-    let i = c.loop-waiter.waiter in
-    let pool = c.args.listing.now.board.now in
-    let f = query_lines pool in
-    let many = as_many (λ name. name.now) c.args.listing.now.names.now pool.pending c.args.listing.now.named in
-    let low : i < length pool.pending = omega (arith, many) in
-    let waiter = item_at pool.pending i low in
-    let p = err_from_is_err_and c.from_residual.result c.from_residual.ensures.1 in
-    rw (p.1, p.2) (onward-broken g.P.Page.puts g.met.P.Page.more _ _ _ _ _ (f (i, waiter.item)) (flat_map f (enumerate_from (i + 1) (drop (i + 1) pool.pending))) _ (numbered_at f pool.pending i i waiter.item waiter.got) c.loop-waiter.invariant.onward
-    (c.in_err-put_query.ensures.put waiter.item waiter.got))
-
 pub loop-waiter-preserved : goal.loop-waiter-preserved
 loop-waiter-preserved g c =
     let i = c.loop-waiter.waiter in
@@ -44,13 +32,13 @@ loop-waiter-preserved g c =
     let front = waiter_front pool.pending i _ waiter.item c.loop-waiter.left.now _ _ waiter.got c.loop-waiter.invariant.left c.count_to_waiter.ensures c.split_at.ensures.front c.split_at.ensures.back in
     record {
       left = front.1;
-      onward = onward-step g.P.Page.puts g.met.P.Page.joins _ _ _ _ _ (f (i, waiter.item)) (flat_map f (enumerate_from (i + 1) (drop (i + 1) pool.pending))) (numbered_at f pool.pending i i waiter.item waiter.got) c.loop-waiter.invariant.onward
-          (c.in_ok-put_query.ensures.put waiter.item waiter.got);
-      ready = c.in_ok-put_query.ensures.ready;
+      put = put_on (string_bytes c.loop-waiter.page) (string_bytes c.put_query.new.page) (f (i, waiter.item)) _ (flat_map f (enumerate_from (i + 1) (drop (i + 1) pool.pending))) _
+          (numbered_at f pool.pending i i waiter.item waiter.got) c.loop-waiter.invariant.put (c.in_ok-put_query.ensures waiter.item waiter.got);
     }
 
-pub returns-clause-put : goal.returns-clause-put
-returns-clause-put g c =
+pub returns : goal.returns
+returns g c =
     let pool = c.args.listing.now.board.now in
     let many = as_many (λ name. name.now) c.args.listing.now.names.now pool.pending c.args.listing.now.named in
-    onward-end g.P.Page.puts g.met.P.Page.nothing _ _ _ _ (ap (λ (ps : List PendingQuery). flat_map (query_lines pool) (enumerate_from c.loop-waiter.waiter ps)) (nothing_left pool.pending c.loop-waiter.waiter (omega (arith, many)))) c.loop-waiter.invariant.onward
+    put_end _ (flat_map (query_lines pool) (enumerate_from c.loop-waiter.waiter (drop c.loop-waiter.waiter pool.pending))) _
+    (ap (λ (ps : List PendingQuery). flat_map (query_lines pool) (enumerate_from c.loop-waiter.waiter ps)) (nothing_left pool.pending c.loop-waiter.waiter (omega (arith, many)))) c.loop-waiter.invariant.put

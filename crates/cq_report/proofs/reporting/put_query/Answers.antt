@@ -1,12 +1,12 @@
-use Rattle.std.proofs.Common.{◌++◌, ℕ, Bool, false, List, length, ap, subst, ◌∙◌}
-use Rattle.std.specs.Prelude.{unwrap_or, Option, Err}
+use Rattle.std.proofs.Common.{◌≡◌, ◌++◌, ℕ, Bool, false, List, length, ap, subst, ◌∙◌}
+use Rattle.std.specs.Prelude.{string_bytes, unwrap_or, Option, OnOk}
 use Rattle.std.specs.List.{flat_map, enumerate_from}
-use Rattle.std.proofs.lemmas.Result.{err_from_is_err_and}
 use Rattle.cq_atom.specs.Query.{variables_of}
 use Rattle.cq_report.specs.Report.{name_line, text_line, post_lines, groundings_line, values_line}
 use Rattle.cq_report.specs.Steps.Left.{edges_to_query}
 use Rattle.cq_report.proofs.Named.{query_never, groundings_never, query_shown, told_as}
 use Rattle.cq_report.proofs.Left.{posted_at}
+use Rattle.cq_report.proofs.Pages.{put_both, put_then}
 use Rattle.cq_report.proofs.reporting.put_query.Goals as goal
 
 pub unreachable-requires : goal.unreachable-requires
@@ -14,22 +14,6 @@ unreachable-requires g c = query_never c.args.listing.now.board.now c.len-good.e
 
 pub unreachable-requires-in_default-groundings : goal.unreachable-requires-in_default-groundings
 unreachable-requires-in_default-groundings g c = groundings_never c.args.listing.now.board.now c.len-good.ensures.valid c.args.waiter c.args.name.now c.requires.name c.in_default-groundings.ensures
-
-pub returns-in_err-put_heading-clause-put : goal.returns-in_err-put_heading-clause-put
-returns-in_err-put_heading-clause-put g c =
-    let pool = c.args.listing.now.board.now in
-    let query = c.in-Some.query.now in
-    let lists = c.in-Some-groundings.groundings.now in
-    let matched = c.unwrap_or-matched.result in
-    let heading = name_line c.args.name.now matched ++ text_line query in
-    let posts = flat_map (λ post. post_lines pool.pending c.args.waiter post.0) (enumerate_from 0 query.posts) in
-    let found = groundings_line (variables_of query.body) (length lists) ++ flat_map values_line lists in
-    let p = err_from_is_err_and c.from_residual.result c.from_residual.ensures.1 in
-    rw (p.1, p.2) (λ posted here.
-    subst (λ (bytes : List ℕ). g.P.Page.puts c.args.page.now c.put_heading.new.page bytes (Err c.in_err-put_heading.field-0.0))
-    (told_as pool c.len-good.ensures.valid c.args.waiter c.args.name.now c.requires.name query matched lists posted c.in-Some.ensures
-    (c.unwrap_or-matched.ensures ∙ ap (λ (o : Option Bool). unwrap_or o false) c.is_matched.ensures) c.in-Some-groundings.ensures here)
-    (g.met.P.Page.more _ _ (heading ++ posts) found _ (g.met.P.Page.more _ _ heading posts _ c.in_err-put_heading.ensures.put)))
 
 pub put_posts-requires-clause-query : goal.put_posts-requires-clause-query
 put_posts-requires-clause-query g c = query_shown c.args.listing.now.board.now c.len-good.ensures.valid c.args.waiter c.args.name.now c.requires.name c.in-Some.query.now c.in-Some.ensures
@@ -40,24 +24,8 @@ put_posts-requires-clause-edges g c =
     let at = posted_at pool.pending c.args.waiter c.in-Some.query.now (query_shown pool c.len-good.ensures.valid c.args.waiter c.args.name.now c.requires.name c.in-Some.query.now c.in-Some.ensures) in
     c.requires.edges at.0 at.1 ∙ ap (edges_to_query pool.pending c.args.waiter) at.2
 
-pub returns-in_err-put_posts-clause-put : goal.returns-in_err-put_posts-clause-put
-returns-in_err-put_posts-clause-put g c =
-    let pool = c.args.listing.now.board.now in
-    let query = c.in-Some.query.now in
-    let lists = c.in-Some-groundings.groundings.now in
-    let matched = c.unwrap_or-matched.result in
-    let heading = name_line c.args.name.now matched ++ text_line query in
-    let posts = flat_map (λ post. post_lines pool.pending c.args.waiter post.0) (enumerate_from 0 query.posts) in
-    let found = groundings_line (variables_of query.body) (length lists) ++ flat_map values_line lists in
-    let p = err_from_is_err_and c.from_residual-in_err-put_posts.result c.from_residual-in_err-put_posts.ensures.1 in
-    rw (p.1, p.2) (λ posted here.
-    subst (λ (bytes : List ℕ). g.P.Page.puts c.args.page.now c.put_posts.new.page bytes (Err c.in_err-put_posts.field-0.0))
-    (told_as pool c.len-good.ensures.valid c.args.waiter c.args.name.now c.requires.name query matched lists posted c.in-Some.ensures
-    (c.unwrap_or-matched.ensures ∙ ap (λ (o : Option Bool). unwrap_or o false) c.is_matched.ensures) c.in-Some-groundings.ensures here)
-    (g.met.P.Page.more _ _ (heading ++ posts) found _ (g.met.P.Page.joins _ _ _ heading posts _ c.in_ok-put_heading.ensures.put c.in_err-put_posts.ensures.put)))
-
-pub returns-clause-put : goal.returns-clause-put
-returns-clause-put g c =
+pub returns : goal.returns
+returns g c =
     let pool = c.args.listing.now.board.now in
     let query = c.in-Some.query.now in
     let lists = c.in-Some-groundings.groundings.now in
@@ -66,7 +34,8 @@ returns-clause-put g c =
     let posts = flat_map (λ post. post_lines pool.pending c.args.waiter post.0) (enumerate_from 0 query.posts) in
     let found = groundings_line (variables_of query.body) (length lists) ++ flat_map values_line lists in
     λ posted here.
-    subst (λ (bytes : List ℕ). g.P.Page.puts c.args.page.now c.put_groundings.new.page bytes c.put_groundings.result)
+    subst (λ (bytes : List ℕ). OnOk c.put_groundings.result (string_bytes c.put_groundings.new.page ≡ string_bytes c.args.page.now ++ bytes))
     (told_as pool c.len-good.ensures.valid c.args.waiter c.args.name.now c.requires.name query matched lists posted c.in-Some.ensures
     (c.unwrap_or-matched.ensures ∙ ap (λ (o : Option Bool). unwrap_or o false) c.is_matched.ensures) c.in-Some-groundings.ensures here)
-    (g.met.P.Page.joins _ _ _ (heading ++ posts) found _ (g.met.P.Page.joins _ _ _ heading posts _ c.in_ok-put_heading.ensures.put c.in_ok-put_posts.ensures.put) c.put_groundings.ensures.put)
+    (put_then (string_bytes c.args.page.now) (string_bytes c.put_posts.new.page) (string_bytes c.put_groundings.new.page) (heading ++ posts) found c.put_groundings.result
+    (put_both (string_bytes c.args.page.now) (string_bytes c.put_heading.new.page) (string_bytes c.put_posts.new.page) heading posts c.in_ok-put_heading.ensures c.in_ok-put_posts.ensures) c.put_groundings.ensures)

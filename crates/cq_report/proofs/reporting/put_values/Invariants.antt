@@ -1,11 +1,8 @@
-use Rattle.std.proofs.Common.{map, drop}
+use Rattle.std.proofs.Common.{◌≡◌, ◌++◌, map, drop}
+use Rattle.std.specs.Prelude.{string_bytes}
 use Rattle.std.specs.List.{flat_map}
 use Rattle.cq_report.specs.Report.{values_line}
-use Rattle.cq_report.proofs.Onward.{Onward}
 use Rattle.cq_report.proofs.reporting.put_values.Given as goal
 
 abbrev pub invariant-loop-values : goal.invariant-loop-values
-invariant-loop-values g l = record {
-  onward : Onward g.P.Page.puts l.initial.page l.page (flat_map values_line (map (λ values. values.items) l.lists)) (flat_map values_line (map (λ values. values.items) (drop l.values-index l.lists)));
-  ready : g.P.Page.is_ready l.page;
-}
+invariant-loop-values g l = string_bytes l.page ++ flat_map values_line (map (λ values. values.items) (drop l.values-index l.lists)) ≡ string_bytes l.initial.page ++ flat_map values_line (map (λ values. values.items) l.lists)

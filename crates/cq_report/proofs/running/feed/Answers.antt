@@ -3,6 +3,8 @@ use Rattle.std.proofs.lemmas.Result.{err_from_is_err_and}
 use Rattle.cq_report.specs.declared.fault.RunFault.TheVariants.{NoMemory}
 use Rattle.cq_report.specs.Steps.Serving.{ServesOn, StopsOn}
 use Rattle.cq_report.proofs.Served.{ServesOn-nothing, ServesOn-then, ServesOn-front, StopsOn-then, StopsOn-starved, IsSound-nothing, IsSound-then}
+use Rattle.cq_report.specs.Steps.Writing.{Puts-nothing}
+use Rattle.cq_report.proofs.Starving.{IfMemory-weaker, StarvesOn-behind}
 use Rattle.cq_report.proofs.running.feed.Goals as goal
 
 -- the lines that were served, one more, and what is left
@@ -60,3 +62,15 @@ returns-clause-ok g c =
     let i = c.loop-last.invariant in
     subst (λ (k : List ℕ). ServesOn g.W.Sink.taken g.W.Sink.write_failures c.args.output.now c.loop-last.output c.args.machine.now c.loop-last.machine c.args.line.now c.extend.new.self k) i.cut
     (ServesOn-then _ _ _ _ _ _ _ _ _ _ _ i.done c.loop-last.rest.now i.on (ServesOn-front _ _ _ _ _ _ c.loop-last.rest.now c.in_default.ensures.none c.in_ok-extend.ensures.ok))
+
+pub returns-in_err-serve_line-clause-starves : goal.returns-in_err-serve_line-clause-starves
+returns-in_err-serve_line-clause-starves g c =
+    let p = err_from_is_err_and c.from_residual.result c.from_residual.ensures.1 in
+    let i = c.loop-last.invariant in
+    rw (p.1, p.2) (IfMemory-weaker _ _ _ (λ nothing. StarvesOn-behind _ _ _ c.loop-last.output c.serve_line.new.output _ _ _ _ i.done c.loop-last.rest.now c.args.piece.now i.on i.cut nothing) c.in_err-serve_line.ensures.nothing)
+
+pub returns-in_err-extend-clause-starves : goal.returns-in_err-extend-clause-starves
+returns-in_err-extend-clause-starves g c =
+    let p = err_from_is_err_and c.from_residual-in_err-extend.result c.from_residual-in_err-extend.ensures.1 in
+    let i = c.loop-last.invariant in
+    rw (p.1, p.2) (StarvesOn-behind _ _ _ c.loop-last.output c.loop-last.output _ _ _ _ i.done c.loop-last.rest.now c.args.piece.now i.on i.cut (Puts-nothing _ _ c.loop-last.output))

@@ -1,8 +1,12 @@
-use Rattle.std.proofs.Common.{◌++◌, [], ◌∙◌, arith, take, refl, inl}
+use Rattle.std.proofs.Common.{◌++◌, [], ◌∙◌, arith, take, refl, sym, subst, inl, append-nil}
+use Rattle.cq_report.specs.Machine.{begin_state}
+use Rattle.cq_report.specs.Steps.Serving.{Served}
 use Rattle.cq_report.proofs.Ending.{Consumes-none}
 use Rattle.std.proofs.KnownBytes.{Consumes-nil, Consumes-trans, Consumes-kept}
+use Rattle.std.proofs.lemmas.List.{length-take}
 use Rattle.std.proofs.lemmas.Result.{err_from_is_err_and}
 use Rattle.cq_report.proofs.Served.{Served-nothing, Served-passed, Stopped-passing, Stopped-reading, IsSound-nothing, IsSound-then, IsSound-puts}
+use Rattle.cq_report.proofs.Starving.{IfMemory-weaker, RanOut-behind, RanOut-on, of_writing}
 use Rattle.cq_report.proofs.running.serve_all.Goals as goal
 
 pub loop-i-init : goal.loop-i-init
@@ -99,3 +103,24 @@ returns-clause-err g c =
       read = i.read;
       stopped = Stopped-reading _ _ _ _ _ _ _ _ _ i.served;
     }
+
+pub returns-in_err-finish-clause-memory : goal.returns-in_err-finish-clause-memory
+returns-in_err-finish-clause-memory g c =
+    let p = err_from_is_err_and c.from_residual.result c.from_residual.ensures.1 in
+    let i = c.loop-i.invariant in
+    let none = rw c.if-len-eq0.true at c.in-Ok.ensures.bytes.0 in
+    let kept = subst (Served g.W.Sink.taken g.W.Sink.write_failures c.args.output.now begin_state c.loop-i.output c.loop-i.machine c.loop-i.line) (sym (append-nil i.bytes)) i.served in
+    rw (p.1, p.2) (IfMemory-weaker _ _ _ (RanOut-behind _ _ _ _ _ _ _ _ _ i.bytes [] [] [] refl (Consumes-trans _ _ _ i.bytes [] i.read none) (omega arith) kept) c.in_err-finish.ensures.nothing)
+
+pub returns-in_err-feed-clause-memory : goal.returns-in_err-feed-clause-memory
+returns-in_err-feed-clause-memory g c =
+    let p = err_from_is_err_and c.from_residual-in_err-feed.result c.from_residual-in_err-feed.ensures.1 in
+    let i = c.loop-i.invariant in
+    let piece = take c.in-Ok.len c.read.new.buf in
+    let long = length-take c.in-Ok.len c.read.new.buf in
+    rw (p.1, p.2) (IfMemory-weaker _ _ _ (RanOut-on _ _ _ _ _ _ _ _ _ i.bytes piece (Consumes-trans _ _ _ i.bytes piece i.read c.in-Ok.ensures.bytes.0) (omega (arith, long, i.room, c.requires.piece)) i.served) c.in_err-feed.ensures.starves)
+
+pub returns-in_err-write_out-clause-memory : goal.returns-in_err-write_out-clause-memory
+returns-in_err-write_out-clause-memory g c =
+    let p = err_from_is_err_and c.from_residual-in_err-write_out.result c.from_residual-in_err-write_out.ensures.1 in
+    rw (p.1, p.2) (of_writing _ _ c.in_err-write_out.ensures.fault)

@@ -1,6 +1,7 @@
 use Rattle.std.proofs.Common.{◌≡◌, ◌∷◌, ◌++◌, length, arith}
 use Rattle.std.proofs.lemmas.Result.{err_from_is_err_and}
 use Rattle.cq_report.proofs.Served.{Served-last, Stopped-last_bytes, Served-alone, Stopped-alone, Stopped-starved}
+use Rattle.cq_report.specs.Steps.Writing.{Puts-nothing}
 use Rattle.cq_report.proofs.running.serve_line.Goals as goal
 
 pub returns-in_err-answer-clause-err : goal.returns-in_err-answer-clause-err
@@ -32,3 +33,8 @@ returns-clause-ok g c =
     let read = rw c.as_bytes.ensures at e.read in
     let ok = rw c.as_bytes.ensures at e.ok in
     rw c.clear.ensures (λ first opening bytes s. Served-last _ _ first opening _ _ _ _ _ _ bytes c.args.last.now s c.requires.last c.in_ok-extend.ensures.ok read ok)
+
+pub returns-in_err-extend-clause-nothing : goal.returns-in_err-extend-clause-nothing
+returns-in_err-extend-clause-nothing g c =
+    let p = err_from_is_err_and c.from_residual-in_err-extend.result c.from_residual-in_err-extend.ensures.1 in
+    rw (p.1, p.2) (Puts-nothing _ _ c.args.output.now)

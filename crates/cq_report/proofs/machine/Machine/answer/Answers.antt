@@ -1,7 +1,9 @@
 use Rattle.std.proofs.Common.{refl}
+use Rattle.cq_report.specs.Machine.{reply}
+use Rattle.cq_report.specs.Steps.Writing.{Puts-nothing}
 use Rattle.cq_report.specs.Reading.{Reads, Faulty}
 use Rattle.cq_report.specs.Reply.{fault_line}
-use Rattle.cq_report.proofs.Answering.{on_ok, only_command, only_the_fault, the_fault, reads_ok, reads_err, put_fails, starved}
+use Rattle.cq_report.proofs.Answering.{on_ok, only_command, only_the_fault, the_fault, reads_ok, reads_err, put_fails, put_nothing, starved}
 use Rattle.cq_report.proofs.machine.Machine.answer.Goals as goal
 
 pub returns-in-Ok-clause-read : goal.returns-in-Ok-clause-read
@@ -18,23 +20,33 @@ returns-in-Ok-clause-err g c =
     (only_command c.args.line.now c.in-Ok.command c.in-Ok.ensures.only c.in-Ok.ensures.only_fault) c.serve.result c.serve.ensures.put
 
 pub returns-in-Err-At-clause-read : goal.returns-in-Err-At-clause-read
-returns-in-Err-At-clause-read g c = on_ok c.put_line.result _ (Faulty c.in-Err-At.kind c.in-Err-At.offset, the_fault c.args.line.now _ c.in-Err-At.kind c.in-Err-At.offset c.in-Err-At.field-0-is c.in-Err-At.ensures.fault)
+returns-in-Err-At-clause-read g c = on_ok c.put_reply.result _ (Faulty c.in-Err-At.kind c.in-Err-At.offset, the_fault c.args.line.now _ c.in-Err-At.kind c.in-Err-At.offset c.in-Err-At.field-0-is c.in-Err-At.ensures.fault)
 
 pub returns-in-Err-At-clause-ok : goal.returns-in-Err-At-clause-ok
 returns-in-Err-At-clause-ok g c =
-    reads_ok _ _ c.args.output.now c.put_line.new.output c.args.self.now c.args.self.now c.args.line.now (Faulty c.in-Err-At.kind c.in-Err-At.offset)
-    (only_the_fault c.args.line.now _ c.in-Err-At.kind c.in-Err-At.offset c.in-Err-At.field-0-is c.in-Err-At.ensures.only c.in-Err-At.ensures.only_fault) c.put_line.result
-    (on_ok c.put_line.result _ refl) (c.put_line.ensures (fault_line c.in-Err-At.kind c.in-Err-At.offset) c.fault_line.ensures)
+    reads_ok _ _ c.args.output.now c.put_reply.new.output c.args.self.now c.args.self.now c.args.line.now (Faulty c.in-Err-At.kind c.in-Err-At.offset)
+    (only_the_fault c.args.line.now _ c.in-Err-At.kind c.in-Err-At.offset c.in-Err-At.field-0-is c.in-Err-At.ensures.only c.in-Err-At.ensures.only_fault) c.put_reply.result
+    (on_ok c.put_reply.result _ refl) (c.put_reply.ensures (fault_line c.in-Err-At.kind c.in-Err-At.offset) c.fault_line.ensures)
 
 pub returns-in-Err-At-clause-err : goal.returns-in-Err-At-clause-err
 returns-in-Err-At-clause-err g c =
-    reads_err _ _ c.args.output.now c.put_line.new.output c.args.self.now c.args.self.now c.args.line.now (Faulty c.in-Err-At.kind c.in-Err-At.offset)
-    (only_the_fault c.args.line.now _ c.in-Err-At.kind c.in-Err-At.offset c.in-Err-At.field-0-is c.in-Err-At.ensures.only c.in-Err-At.ensures.only_fault) c.put_line.result
-    (c.put_line.ensures (fault_line c.in-Err-At.kind c.in-Err-At.offset) c.fault_line.ensures)
+    reads_err _ _ c.args.output.now c.put_reply.new.output c.args.self.now c.args.self.now c.args.line.now (Faulty c.in-Err-At.kind c.in-Err-At.offset)
+    (only_the_fault c.args.line.now _ c.in-Err-At.kind c.in-Err-At.offset c.in-Err-At.field-0-is c.in-Err-At.ensures.only c.in-Err-At.ensures.only_fault) c.put_reply.result
+    (c.put_reply.ensures (fault_line c.in-Err-At.kind c.in-Err-At.offset) c.fault_line.ensures)
 
 pub returns-in-Err-At-clause-fails : goal.returns-in-Err-At-clause-fails
 returns-in-Err-At-clause-fails g c =
-    put_fails _ _ c.args.output.now c.put_line.new.output (fault_line c.in-Err-At.kind c.in-Err-At.offset) c.put_line.result (c.put_line.ensures (fault_line c.in-Err-At.kind c.in-Err-At.offset) c.fault_line.ensures)
+    put_fails _ _ c.args.output.now c.put_reply.new.output (fault_line c.in-Err-At.kind c.in-Err-At.offset) c.put_reply.result (c.put_reply.ensures (fault_line c.in-Err-At.kind c.in-Err-At.offset) c.fault_line.ensures)
 
 pub returns-in-Err-NoMemory-clause-err : goal.returns-in-Err-NoMemory-clause-err
 returns-in-Err-NoMemory-clause-err g c = λ reading is. starved _ _ c.args.output.now _
+
+pub returns-in-Ok-clause-nothing : goal.returns-in-Ok-clause-nothing
+returns-in-Ok-clause-nothing g c = put_nothing _ _ c.args.output.now c.serve.new.output (reply c.args.self.now (Reads c.in-Ok.command)) c.serve.result c.serve.ensures.put
+
+pub returns-in-Err-At-clause-nothing : goal.returns-in-Err-At-clause-nothing
+returns-in-Err-At-clause-nothing g c =
+    put_nothing _ _ c.args.output.now c.put_reply.new.output (fault_line c.in-Err-At.kind c.in-Err-At.offset) c.put_reply.result (c.put_reply.ensures (fault_line c.in-Err-At.kind c.in-Err-At.offset) c.fault_line.ensures)
+
+pub returns-in-Err-NoMemory-clause-nothing : goal.returns-in-Err-NoMemory-clause-nothing
+returns-in-Err-NoMemory-clause-nothing g c = Puts-nothing _ _ c.args.output.now
