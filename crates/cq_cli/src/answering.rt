@@ -11,6 +11,7 @@ use crate::wanted::{Wanted, read_words};
 use crate::writing::{tell, tell_fault, write_text};
 use clap::Error;
 use clap::error::ErrorKind;
+use cq_budget::Budget;
 use cq_report::{RunFault, run};
 use cq_text::{Sink, Source};
 use std::alloc::{Allocator, Global};
@@ -72,6 +73,29 @@ fn answer_replay<A: Allocator + Copy, R: Source, W: Sink, E: Sink>(
     };
     tell_fault(alloc, &fault, errors);
     Status::of_run(fault)
+}
+
+/// Replays the script that the source gives with no more than so many bytes of the heap out at a time, and tells a fault of it.
+fn answer_within<A: Allocator + Copy, R: Source, W: Sink, E: Sink>(
+    alloc: Global,
+    heap: A,
+    bytes: usize,
+    source: &mut R,
+    sink: &mut W,
+    errors: &mut E,
+) -> Status
+    requires reads { R.reads_made source.old < 2 ^ 62 }
+    requires read_failures { R.failures_met source.old < 2 ^ 62 }
+    requires sink { W.write_failures sink.old < 2 ^ 62 }
+    requires errors { E.write_failures errors.old < 2 ^ 62 }
+    ensures read { R.failures_met source.old < R.failures_met source.new → result ≡ Status.Failed }
+    ensures write { W.write_failures sink.old < W.write_failures sink.new → result ≡ Status.Failed }
+    ensures failed { result ≡ Status.Failed → DeviceFailed (R.reads_made source.old) (R.reads_made source.new) (R.failures_met source.old) (R.failures_met source.new) (W.write_failures sink.old) (W.write_failures sink.new) }
+    ensures refused { IsRefused result → (sink.new ≡ sink.old) }
+    ensures unread { result ≡ Status.Usage → source.new ≡ source.old }
+{
+    let budget = Budget::new(heap, bytes);
+    answer_replay(alloc, &budget, source, sink, errors)
 }
 
 /// Writes the insert lines of the CSV that the source gives, and tells a fault of it.
@@ -157,7 +181,12 @@ pub(crate) fn answer<
 {
     match read_words(alloc, words) {
         Err(error) => answer_words(alloc, &error, sink, errors),
-        Ok(Wanted::Replay) => answer_replay(alloc, heap, source, sink, errors),
+        Ok(Wanted::Replay { memory: None }) => answer_replay(alloc, heap, source, sink, errors),
+        Ok(
+            Wanted::Replay {
+                memory: Some(bytes),
+            },
+        ) => answer_within(alloc, heap, bytes, source, sink, errors),
         Ok(Wanted::Rows { relation, arity }) => {
             answer_rows(alloc, heap, relation, arity, source, sink, errors)
         }

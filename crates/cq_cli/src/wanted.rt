@@ -1,11 +1,11 @@
 //! The words of the command line, by the kit's `clap`.
 
-use clap::{Arg, Command, Error};
+use clap::{Arg, Command, Error, value_parser};
 use std::alloc::{AllocError, Global};
 use std::convert::AsStr;
 
 /// The number that `--version` tells; CHANGELOG.md says what came with each.
-const VERSION: &str = "0.4.0";
+const VERSION: &str = "0.5.0";
 
 const ABOUT: &str = "A live coordination board for entangled queries.";
 
@@ -41,6 +41,9 @@ Example:
   post kramer {R(Jerry, x)} R(Kramer, x) <- Flights(x, Paris)
   publish
   show
+
+Where a line needs more memory than there is, or than --memory allows, the lines before it are answered, it has no
+reply, and `board: out of memory` is told.
 
 Exit status: 0 done (refused lines included), 1 a device failed, 2 usage, 3 out of memory.
 docs/formats.md describes the language.";
@@ -82,7 +85,10 @@ docs/formats.md describes sessions.";
 #[derive(Drop, Debug)]
 pub(crate) enum Wanted<'a> {
     /// A script is replayed.
-    Replay,
+    Replay {
+        /// How many bytes of memory the run may have at a time; no bound where none is told.
+        memory: Option<usize>,
+    },
     /// CSV becomes insert lines.
     Rows {
         /// The word that stands for the relation's name.
@@ -99,10 +105,17 @@ pub(crate) enum Wanted<'a> {
     },
 }
 
-fn replay_command<'a>(alloc: Global) -> Command<'a> {
+fn replay_command<'a>(alloc: Global) -> Result<Command<'a>, AllocError> {
     Command::new(alloc, "replay")
         .about(ABOUT_REPLAY)
         .after_help(BEHIND_REPLAY)
+        .arg(
+            Arg::new(alloc, "memory")
+                .long("memory")
+                .value_name("BYTES")
+                .value_parser(value_parser!(usize))
+                .help("The most bytes of memory that the script may have at a time"),
+        )
 }
 
 /// A word that has to stand there. A number below 0 is such a word too, and no option.
@@ -150,7 +163,7 @@ fn board_command<'a>(alloc: Global) -> Result<Command<'a>, AllocError> {
         .subcommand_required(true)
         .arg_required_else_help(true)
         .bin_name("board")?
-        .subcommand(replay_command(alloc))?
+        .subcommand(replay_command(alloc)?)?
         .subcommand(rows_command(alloc)?)?
         .subcommand(sessions_command(alloc)?)
 }
@@ -175,6 +188,9 @@ pub(crate) fn read_words<'a, S: AsStr>(alloc: Global, words: &'a [S]) -> Result<
                 files,
             })
         }
-        _ => Ok(Wanted::Replay),
+        Some((_, replay)) => Ok(Wanted::Replay {
+            memory: replay.get_one::<usize>("memory"),
+        }),
+        None => Ok(Wanted::Replay { memory: None }),
     }
 }

@@ -1,0 +1,3 @@
+pub mod Adding
+mod Steps
+mod Calls

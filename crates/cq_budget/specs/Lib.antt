@@ -1,0 +1,3 @@
+pub mod Counting
+pub mod Steps
+pub mod Budgets
