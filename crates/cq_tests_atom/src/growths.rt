@@ -1,9 +1,9 @@
 //! Each growth of a call refused in turn.
 
-use crate::samples::{X, Y, atom, query};
-use cq_atom::{Atom, Bad, Query, Valuation, Value};
+use crate::samples::{ONE, Sample, X, Y, atom, query, row};
+use cq_atom::{Atom, Bad, Name, Query, Row, Valuation, Value};
 use cq_tests_growths::{Outcome, Tried, refusals};
-use std::alloc::Allocator;
+use std::alloc::{AllocError, Allocator};
 
 fn is_good<A: Allocator>(made: Result<Query<A>, Bad>) -> bool {
     match made {
@@ -51,6 +51,86 @@ impl Tried for Copying {
 #[test]
 fn refused_growth_in_copies(rt: HostRuntime) {
     assert!(rt; matches!(refusals::<Copying>(rt.alloc()), Ok(11..)));
+}
+
+/// A name, a text and a row made.
+struct MakingRow;
+
+const ROME: Sample = Sample::Text("Rome");
+
+/// Whether the values are Rome and 1.
+fn are_rome<A: Allocator>(values: &[Value<A>]) -> bool {
+    match values {
+        [city, number] => city.as_text() == Some("Rome") && number.as_num() == Some(1),
+        _ => false,
+    }
+}
+
+fn makes_row<A: Allocator + Copy>(alloc: A) -> Result<bool, Bad> {
+    let name = Name::new(alloc, "kramer")?;
+    let made = row(alloc, "T", [ROME, ONE].as_slice())?;
+    Ok(name.as_str() == "kramer" && are_rome(made.values()))
+}
+
+impl Tried for MakingRow {
+    fn tried<A: Allocator + Copy>(alloc: A) -> Outcome {
+        match makes_row(alloc) {
+            Ok(right) => Outcome::done_if(right),
+            Err(bad) => Outcome::refused_if(bad == Bad::NoMemory && makes_row(alloc) == Ok(true)),
+        }
+    }
+}
+
+#[test]
+fn refused_growth_in_rows(rt: HostRuntime) {
+    assert!(rt; matches!(refusals::<MakingRow>(rt.alloc()), Ok(4..)));
+}
+
+/// Copies of a name, a row, its first value and an atom.
+struct CopyingRow;
+
+fn copies_value<A: Allocator + Clone>(values: &[Value<A>]) -> Result<bool, AllocError> {
+    match values {
+        [city, _] => Ok(city.copy()?.as_text() == Some("Rome")),
+        _ => Ok(false),
+    }
+}
+
+fn copies<A: Allocator + Clone>(
+    name: &Name<A>,
+    row: &Row<A>,
+    atom: &Atom<A>,
+) -> Result<bool, AllocError> {
+    let name_copy = name.copy()?;
+    let row_copy = row.copy()?;
+    let atom_copy = atom.copy()?;
+    Ok(
+        name_copy.as_str() == "kramer"
+            && are_rome(row_copy.values())
+            && atom_copy.terms().len() == 2
+            && copies_value(row.values())?,
+    )
+}
+
+impl Tried for CopyingRow {
+    fn tried<A: Allocator + Copy>(alloc: A) -> Outcome {
+        let (Ok(name), Ok(row), Ok(atom)) = (
+            Name::new(alloc, "kramer"),
+            row(alloc, "T", [ROME, ONE].as_slice()),
+            atom(alloc, "R", [X, Y].as_slice()),
+        ) else {
+            return Outcome::Unready;
+        };
+        match copies(&name, &row, &atom) {
+            Ok(right) => Outcome::done_if(right),
+            Err(_) => Outcome::refused_if(copies(&name, &row, &atom) == Ok(true)),
+        }
+    }
+}
+
+#[test]
+fn refused_growth_in_copies_of_rows(rt: HostRuntime) {
+    assert!(rt; matches!(refusals::<CopyingRow>(rt.alloc()), Ok(9..)));
 }
 
 /// An atom under a valuation.

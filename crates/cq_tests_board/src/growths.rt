@@ -1,7 +1,9 @@
 //! Each growth of a call refused in turn, and calls that ask for none.
 
 use crate::same::are_same;
-use crate::samples::{JERRY, KRAMER, TRAVEL, admit_all, edit, kramer_and_jerry, made};
+use crate::samples::{
+    JERRY, KRAMER, LIMITS, TRAVEL, admit_all, catalog, edit, kramer_and_jerry, made,
+};
 use cq_board::{Board, Edit};
 use cq_tests_growths::{Outcome, Refusing, Tried, refusals};
 use std::alloc::{AllocError, Allocator, Global};
@@ -87,6 +89,37 @@ pub fn tried<A: Allocator + Copy>(alloc: A, call: Call) -> Outcome {
         (Ok(mut board), Ok(edit)) => admitted(alloc, &mut board, &edit, call),
         _ => Outcome::Unready,
     }
+}
+
+/// A board begun.
+struct Beginning;
+
+fn is_begun<A: Allocator + Copy>(board: &Board<A>) -> bool {
+    board.len() == 0 && board.limits() == LIMITS && board.tables().count("Flights") == Some(0)
+}
+
+fn begins<A: Allocator + Copy>(alloc: A) -> bool {
+    match made(alloc, [].as_slice()) {
+        Ok(board) => is_begun(&board),
+        Err(_) => false,
+    }
+}
+
+impl Tried for Beginning {
+    fn tried<A: Allocator + Copy>(alloc: A) -> Outcome {
+        let Ok(catalog) = catalog(alloc) else {
+            return Outcome::Unready;
+        };
+        match Board::begin(alloc, catalog, LIMITS) {
+            Ok(board) => Outcome::done_if(is_begun(&board)),
+            Err(_) => Outcome::refused_if(begins(alloc)),
+        }
+    }
+}
+
+#[test]
+fn refused_growth_in_begin(rt: HostRuntime) {
+    assert!(rt; matches!(refusals::<Beginning>(rt.alloc()), Ok(1..)));
 }
 
 /// A query posted, which coordinates with the one that waits.

@@ -4,7 +4,8 @@ use crate::samples::{LIMITS, WORKED, kramer_and_jerry, made, shape_of};
 use cq_atom::Name;
 use cq_board::{Board, Crowd, Link};
 use cq_match::Edge;
-use std::alloc::{AllocError, Global};
+use cq_tests_growths::{Outcome, Tried, refusals};
+use std::alloc::{AllocError, Allocator, Global};
 use std::test::Fail;
 
 /// Whether the query of that name is matched, how many groundings it has, and of how many atoms its body is.
@@ -59,7 +60,7 @@ const fn edge(provider: usize, waiter: usize) -> Edge {
 }
 
 /// Whether these are the names, in this order.
-fn are_called(names: &[&Name], wanted: &[&str]) -> bool {
+fn are_called<A: Allocator>(names: &[&Name<A>], wanted: &[&str]) -> bool {
     for (name, wanted) in names.iter().zip(wanted) {
         if name.as_str() != *wanted {
             return false;
@@ -69,13 +70,16 @@ fn are_called(names: &[&Name], wanted: &[&str]) -> bool {
 }
 
 /// Whether these are the names of the pending queries, in this order.
-fn are_names(board: &Board, wanted: &[&str]) -> Result<bool, AllocError> {
+fn are_names<A: Allocator + Copy>(board: &Board<A>, wanted: &[&str]) -> Result<bool, AllocError> {
     let names = board.names()?;
     Ok(are_called(&names, wanted))
 }
 
 /// Whether these are the edges by the numbers of the queries, in this order.
-fn are_numbered(board: &Board, wanted: &[Edge]) -> Result<bool, AllocError> {
+fn are_numbered<A: Allocator + Copy>(
+    board: &Board<A>,
+    wanted: &[Edge],
+) -> Result<bool, AllocError> {
     let edges = board.edges_by_place()?;
     Ok(edges.as_slice() == wanted)
 }
@@ -99,7 +103,7 @@ fn counts(rt: HostRuntime) -> Result<(), Fail> {
     Ok(())
 }
 
-fn is_link(link: &Link<&Name>, wanted: (&str, u8, &str, u8)) -> bool {
+fn is_link<A: Allocator>(link: &Link<&Name<A>>, wanted: (&str, u8, &str, u8)) -> bool {
     (
         link.provider.as_str(),
         link.head,
@@ -109,7 +113,10 @@ fn is_link(link: &Link<&Name>, wanted: (&str, u8, &str, u8)) -> bool {
 }
 
 /// Whether these are the edges by names, in this order.
-fn are_edges(board: &Board, wanted: &[(&str, u8, &str, u8)]) -> Result<bool, AllocError> {
+fn are_edges<A: Allocator + Copy>(
+    board: &Board<A>,
+    wanted: &[(&str, u8, &str, u8)],
+) -> Result<bool, AllocError> {
     let links = board.edges()?;
     for (link, wanted) in links.iter().zip(wanted) {
         if !is_link(link, *wanted) {
@@ -119,12 +126,15 @@ fn are_edges(board: &Board, wanted: &[(&str, u8, &str, u8)]) -> Result<bool, All
     Ok(links.len() == wanted.len())
 }
 
-fn is_crowd(crowd: &Crowd<&Name>, wanted: (&str, u8, usize)) -> bool {
+fn is_crowd<A: Allocator>(crowd: &Crowd<&Name<A>>, wanted: (&str, u8, usize)) -> bool {
     (crowd.waiter.as_str(), crowd.post, crowd.providers) == wanted
 }
 
 /// Whether these are the crowded postconditions, in this order.
-fn are_crowded(board: &Board, wanted: &[(&str, u8, usize)]) -> Result<bool, AllocError> {
+fn are_crowded<A: Allocator + Copy>(
+    board: &Board<A>,
+    wanted: &[(&str, u8, usize)],
+) -> Result<bool, AllocError> {
     let crowds = board.crowded()?;
     for (crowd, wanted) in crowds.iter().zip(wanted) {
         if !is_crowd(crowd, *wanted) {
@@ -135,7 +145,10 @@ fn are_crowded(board: &Board, wanted: &[(&str, u8, usize)]) -> Result<bool, Allo
 }
 
 /// Whether these are the names of the matched queries, in this order.
-pub fn are_matched(board: &Board, wanted: &[&str]) -> Result<bool, AllocError> {
+pub fn are_matched<A: Allocator + Copy>(
+    board: &Board<A>,
+    wanted: &[&str],
+) -> Result<bool, AllocError> {
     let names = board.matched()?;
     Ok(are_called(&names, wanted))
 }
@@ -150,17 +163,61 @@ fn worked_edges(rt: HostRuntime) -> Result<(), Fail> {
     Ok(())
 }
 
+/// One query waits for what two others have, of which one waits for what nobody has.
+const CROWD: [&str; 3] = [
+    "post w {R(1)} Q(1) <-",
+    "post h1 {} R(1) <-",
+    "post h2 {Z(1)} R(2), R(1) <-",
+];
+
+/// The edge from the second head of the last query to the first.
+const FROM_SECOND_HEAD: Edge = Edge {
+    provider: 2,
+    head: 1,
+    waiter: 0,
+    post: 0,
+};
+
+/// Whether a board with the crowd shows what it must by each call.
+fn shows_crowd<A: Allocator + Copy>(board: &Board<A>) -> Result<bool, AllocError> {
+    let numbered = [edge(1, 0), FROM_SECOND_HEAD];
+    let links = [("h1", 0, "w", 0), ("h2", 1, "w", 0)];
+    Ok(
+        are_names(board, ["w", "h1", "h2"].as_slice())?
+            && are_numbered(board, numbered.as_slice())?
+            && are_edges(board, links.as_slice())?
+            && are_matched(board, ["w", "h1"].as_slice())?
+            && are_crowded(board, [("w", 0, 2)].as_slice())?,
+    )
+}
+
 #[test]
 fn crowded_supplier(rt: HostRuntime) -> Result<(), Fail> {
-    let lines = [
-        "post w {R(1)} Q(1) <-",
-        "post h1 {} R(1) <-",
-        "post h2 {Z(1)} R(2), R(1) <-",
-    ];
-    let board = made(rt.alloc(), lines.as_slice())?;
-    let links = [("h1", 0, "w", 0), ("h2", 1, "w", 0)];
-    assert!(rt; are_edges(&board, links.as_slice()) == Ok(true));
-    assert!(rt; are_matched(&board, ["w", "h1"].as_slice()) == Ok(true));
-    assert!(rt; are_crowded(&board, [("w", 0, 2)].as_slice()) == Ok(true));
+    let board = made(rt.alloc(), CROWD.as_slice())?;
+    assert!(rt; shows_crowd(&board) == Ok(true));
     Ok(())
+}
+
+/// What the board shows, by one call after another.
+struct Showing;
+
+fn shown<A: Allocator + Copy>(board: &Board<A>) -> Outcome {
+    match shows_crowd(board) {
+        Ok(right) => Outcome::done_if(right),
+        Err(_) => Outcome::refused_if(shows_crowd(board) == Ok(true)),
+    }
+}
+
+impl Tried for Showing {
+    fn tried<A: Allocator + Copy>(alloc: A) -> Outcome {
+        match made(alloc, CROWD.as_slice()) {
+            Ok(board) => shown(&board),
+            Err(_) => Outcome::Unready,
+        }
+    }
+}
+
+#[test]
+fn refused_growth_in_views(rt: HostRuntime) {
+    assert!(rt; matches!(refusals::<Showing>(rt.alloc()), Ok(5..)));
 }

@@ -1,7 +1,7 @@
 //! Each growth of a call refused in turn.
 
 use crate::twin::Twin;
-use cq_match::Edge;
+use cq_match::{Edge, greatest};
 use cq_tests_growths::{Outcome, Tried, refusals};
 use std::alloc::{AllocError, Allocator};
 
@@ -180,4 +180,40 @@ impl Tried for Copying {
 #[test]
 fn refused_growth_in_copy(rt: HostRuntime) {
     assert!(rt; matches!(refusals::<Copying>(rt.alloc()), Ok(8..)));
+}
+
+/// The matched nodes of a pair that waits for each other.
+struct Finding;
+
+fn are_found<A: Allocator + Copy>(alloc: A) -> Result<bool, AllocError> {
+    let edges = [
+        Edge {
+            provider: 4,
+            head: 0,
+            waiter: 7,
+            post: 0,
+        },
+        Edge {
+            provider: 7,
+            head: 0,
+            waiter: 4,
+            post: 0,
+        },
+    ];
+    let found = greatest(alloc, &[(7, 1, true), (4, 1, true)], &edges)?;
+    Ok(found.as_slice() == [4, 7].as_slice())
+}
+
+impl Tried for Finding {
+    fn tried<A: Allocator + Copy>(alloc: A) -> Outcome {
+        match are_found(alloc) {
+            Ok(right) => Outcome::done_if(right),
+            Err(_) => Outcome::refused_if(are_found(alloc) == Ok(true)),
+        }
+    }
+}
+
+#[test]
+fn refused_growth_in_greatest(rt: HostRuntime) {
+    assert!(rt; matches!(refusals::<Finding>(rt.alloc()), Ok(1..)));
 }

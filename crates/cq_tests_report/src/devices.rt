@@ -19,6 +19,37 @@ impl<'a> Read for Pieces<'a> {
     }
 }
 
+/// Gives its pieces at so many reads, and then fails.
+#[derive(Drop)]
+pub struct Failing<'a> {
+    pub pieces: Pieces<'a>,
+    pub good: u32,
+}
+
+impl<'a> Read for Failing<'a> {
+    fn read(&mut self, buf: &mut [u8]) -> io::Result<usize> {
+        if self.good == 0 {
+            return Err(ErrorKind::TimedOut.into());
+        }
+        self.good -= 1;
+        self.pieces.read(buf)
+    }
+}
+
+/// Gives a line feed at each read.
+#[derive(Drop)]
+pub struct Endless;
+
+impl Read for Endless {
+    fn read(&mut self, buf: &mut [u8]) -> io::Result<usize> {
+        if buf.is_empty() {
+            return Ok(0);
+        }
+        buf[0] = b'\n';
+        Ok(1)
+    }
+}
+
 /// Gives a post and the front of a word at the first read, and fails at the second.
 #[derive(Drop)]
 pub struct CutOff(pub u8);
@@ -57,5 +88,20 @@ impl<'a> Write for Expecting<'a> {
     fn flush(&mut self) -> io::Result<()> {
         self.flushes = self.flushes.saturating_add(1);
         Ok(())
+    }
+}
+
+/// Passes on one byte of each write.
+#[derive(Drop)]
+pub struct Slow<'a>(pub Expecting<'a>);
+
+impl<'a> Write for Slow<'a> {
+    fn write(&mut self, buf: &[u8]) -> io::Result<usize> {
+        let count = buf.len().min(1);
+        self.0.write(&buf[..count])
+    }
+
+    fn flush(&mut self) -> io::Result<()> {
+        self.0.flush()
     }
 }

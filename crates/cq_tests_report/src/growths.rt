@@ -1,9 +1,9 @@
 //! Each growth of a call refused in turn.
 
-use crate::devices::Expecting;
+use crate::devices::{Expecting, Pieces};
 use crate::reports::{post, with_one_row};
 use cq_board::{Board, Edit};
-use cq_report::{RunFault, report, run};
+use cq_report::{RunFault, read_whole, report, run};
 use cq_tests_growths::{Outcome, Tried, refusals};
 use cq_text::Counted;
 use std::alloc::Allocator;
@@ -136,4 +136,32 @@ impl Tried for Posting {
 #[test]
 fn refused_growth_in_admit(rt: HostRuntime) {
     assert!(rt; matches!(refusals::<Posting>(rt.alloc()), Ok(6..)));
+}
+
+/// The script read whole.
+struct ReadingWhole;
+
+fn is_whole<A: Allocator + Copy>(alloc: A) -> Result<bool, RunFault> {
+    let pieces = Pieces {
+        rest: SCRIPT,
+        most: 3,
+    };
+    let bytes = read_whole(alloc, &mut Counted::new(pieces))?;
+    Ok(bytes.as_slice() == SCRIPT)
+}
+
+impl Tried for ReadingWhole {
+    fn tried<A: Allocator + Copy>(alloc: A) -> Outcome {
+        match is_whole(alloc) {
+            Ok(right) => Outcome::done_if(right),
+            Err(fault) => {
+                Outcome::refused_if(fault == RunFault::NoMemory && is_whole(alloc) == Ok(true))
+            }
+        }
+    }
+}
+
+#[test]
+fn refused_growth_in_read_whole(rt: HostRuntime) {
+    assert!(rt; matches!(refusals::<ReadingWhole>(rt.alloc()), Ok(4..)));
 }

@@ -4,6 +4,8 @@
 #![tactic(auto)]
 
 #[cfg(test)]
+mod cuts;
+#[cfg(test)]
 mod devices;
 #[cfg(test)]
 mod growths;
@@ -11,3 +13,5 @@ mod growths;
 mod reports;
 #[cfg(test)]
 mod runs;
+#[cfg(test)]
+mod worked;

@@ -8,7 +8,7 @@ use std::io::Read;
 
 /// How the run of what the reader gives ends, over a writer that takes the expected bytes and no others; how many
 /// bytes it lacked; and how often it was flushed.
-fn told<D: Read + Drop>(
+pub fn told<D: Read + Drop>(
     alloc: Global,
     device: D,
     expected: &[u8],
@@ -24,7 +24,7 @@ fn told<D: Read + Drop>(
 }
 
 /// The same of a script that is read in pieces.
-fn told_of(
+pub fn told_of(
     alloc: Global,
     script: &[u8],
     most: usize,
@@ -53,46 +53,6 @@ fn failing_devices(rt: HostRuntime) {
     // Of `published 0` the writer takes a front, and no flush comes behind its fault.
     let written = told_of(rt.alloc(), b"publish", 4_096, b"pub");
     assert!(rt; written == (Err(RunFault::Write), 0, 0));
-}
-
-const TRAVEL: &[u8] = b"relation Flights 2
-insert Flights(122, Paris)
-post kramer {R(Jerry, x)} R(Kramer, x) <- Flights(x, Paris)
-post jerry {R(Kramer, y)} R(Jerry, y) <- Flights(y, Paris)
-publish
-show
-";
-
-const ANSWERS: &[u8] = b"ok
-ok 1
-ok 2
-ok 3
-published 3
-show 3
-relation Flights 2 rows 1
-query kramer matched
-  text {R(\"Jerry\", x)} R(\"Kramer\", x) <- Flights(x, \"Paris\")
-  post 0 providers 1
-    jerry head 0
-  groundings 1 (x)
-    (122)
-query jerry matched
-  text {R(\"Kramer\", y)} R(\"Jerry\", y) <- Flights(y, \"Paris\")
-  post 0 providers 1
-    kramer head 0
-  groundings 1 (y)
-    (122)
-end
-";
-
-#[test]
-fn kramer_and_jerry(rt: HostRuntime) {
-    for most in [1usize, 2, 3, 4_096] {
-        assert!(rt;
-            told_of(rt.alloc(), TRAVEL, most, ANSWERS) == (Ok(()), 0, 1),
-            "{most}"
-        );
-    }
 }
 
 /// The front, as many letters, and the text behind them.

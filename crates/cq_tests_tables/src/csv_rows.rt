@@ -1,6 +1,6 @@
 //! Rows from CSV: worked texts, each fault, failing and endless sources, and each growth refused in turn.
 
-use cq_atom::Row;
+use cq_atom::{Row, Value};
 use cq_refusing::Refusing;
 use cq_rel::{CsvFault, all_records, read_csv};
 use cq_text::{Counted, print_row};
@@ -192,21 +192,33 @@ fn endless_reader(rt: HostRuntime) {
 
 const WORKED: &[u8] = b"122,Paris\n\"123\",\"Pa\"\"ris\"\n007,\n";
 
-/// Whether the worked text is read on the allocator; else whether memory was wanting.
+/// Whether the worked text is read on the allocator as three rows, the first of them the worked one; else whether memory
+/// was wanting.
 fn is_read<A: Allocator + Copy>(alloc: A, heap: Global) -> Result<bool, CsvFault> {
     let rows = read_csv(alloc, heap, &mut Counted::new(WORKED), "T", 2)?;
-    let count = rows.len();
+    let right = match rows.as_slice() {
+        [first, _, _] => is_worked(first.values()),
+        _ => false,
+    };
     mem::drop(rows);
-    Ok(count == 3)
+    Ok(right)
 }
 
-/// How many growths of reading the worked text can be refused, each of which is told as want of memory.
+fn is_worked<A: Allocator>(values: &[Value<A>]) -> bool {
+    match values {
+        [number, city] => number.as_num() == Some(122) && city.as_text() == Some("Paris"),
+        _ => false,
+    }
+}
+
+/// How many growths of reading the worked text can be refused, each of which is told as want of memory, and the text
+/// then is read.
 fn refusals(heap: Global) -> Option<u64> {
     for left in 0..64 {
         let refusing = Refusing::new(heap, left);
         match (is_read(&refusing, heap), refusing.has_refused()) {
             (Ok(true), false) => return Some(left),
-            (Err(CsvFault::NoMemory), true) => {}
+            (Err(CsvFault::NoMemory), true) if is_read(&refusing, heap) == Ok(true) => {}
             _ => return None,
         }
     }

@@ -7,7 +7,7 @@ use cq_ground::Groundings;
 use cq_rel::{Catalog, CatalogFault, RowFault, Tables};
 use cq_tests_growths::{Outcome, Tried, refusals};
 use cq_text::read_ground_atom;
-use std::alloc::Allocator;
+use std::alloc::{AllocError, Allocator};
 
 /// A relation declared in a catalog without relations.
 struct Declaring;
@@ -124,6 +124,35 @@ fn refused_growth_in_copies(rt: HostRuntime) {
     assert!(rt; matches!(refusals::<Copying>(rt.alloc()), Ok(4..)));
 }
 
+/// A copy of the worked catalog.
+struct CopyingCatalog;
+
+fn is_catalog_copied<A: Allocator + Clone>(catalog: &Catalog<A>) -> Result<bool, AllocError> {
+    let copy = catalog.copy()?;
+    Ok(
+        copy.len() == 2
+            && copy.entry(0) == Some(("Flights", 2))
+            && copy.entry(1) == Some(("Airlines", 2)),
+    )
+}
+
+impl Tried for CopyingCatalog {
+    fn tried<A: Allocator + Copy>(alloc: A) -> Outcome {
+        let Ok(catalog) = travel_catalog(alloc) else {
+            return Outcome::Unready;
+        };
+        match is_catalog_copied(&catalog) {
+            Ok(right) => Outcome::done_if(right),
+            Err(_) => Outcome::refused_if(is_catalog_copied(&catalog) == Ok(true)),
+        }
+    }
+}
+
+#[test]
+fn refused_growth_in_copies_of_catalogs(rt: HostRuntime) {
+    assert!(rt; matches!(refusals::<CopyingCatalog>(rt.alloc()), Ok(3..)));
+}
+
 /// All groundings of a query over the worked tables.
 struct Grounding;
 
@@ -167,4 +196,32 @@ impl Tried for Grounding {
 #[test]
 fn refused_growth_in_all(rt: HostRuntime) {
     assert!(rt; matches!(refusals::<Grounding>(rt.alloc()), Ok(6..)));
+}
+
+/// A copy of these groundings.
+struct CopyingGroundings;
+
+fn are_copied<A: Allocator + Clone>(found: &Groundings<A>) -> Result<bool, AllocError> {
+    let copy = found.copy()?;
+    Ok(are_jerrys(&copy))
+}
+
+impl Tried for CopyingGroundings {
+    fn tried<A: Allocator + Copy>(alloc: A) -> Outcome {
+        let Ok(tables) = travel(alloc) else {
+            return Outcome::Unready;
+        };
+        let Ok(found) = all(alloc, &tables, JERRY, &mut Meter::new()) else {
+            return Outcome::Unready;
+        };
+        match are_copied(&found) {
+            Ok(right) => Outcome::done_if(right),
+            Err(_) => Outcome::refused_if(are_copied(&found) == Ok(true)),
+        }
+    }
+}
+
+#[test]
+fn refused_growth_in_copies_of_groundings(rt: HostRuntime) {
+    assert!(rt; matches!(refusals::<CopyingGroundings>(rt.alloc()), Ok(3..)));
 }

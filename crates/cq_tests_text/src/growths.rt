@@ -1,9 +1,13 @@
 //! Each growth of a call refused in turn.
 
-use cq_atom::Query;
+use cq_atom::{Query, Row};
 use cq_tests_growths::{Outcome, Tried, refusals};
-use cq_text::{TextFault, print_query, read_command, read_ground_atom, read_query};
-use std::alloc::Allocator;
+use cq_text::{
+    Counted, TextFault, WholeFault, print_atom, print_query, print_row, print_values, read_command,
+    read_ground_atom, read_query, read_whole,
+};
+use std::alloc::{AllocError, Allocator};
+use std::io::{self, Read};
 
 const LINE: &[u8] = b"post a {A(x, \"b\")} R(C) <- T(x, D)";
 
@@ -49,6 +53,30 @@ fn refused_growth_in_reading_rows(rt: HostRuntime) {
 
 const KRAMER: &str = r#"{R("Jerry", x)} R("Kramer", x) <- Flights(x, "Paris"), Airlines(x, y)"#;
 
+/// A text read as a query.
+struct ReadingQuery;
+
+fn is_read<A: Allocator + Copy>(alloc: A) -> Result<bool, TextFault> {
+    let query = read_query(alloc, KRAMER.as_bytes())?;
+    Ok(query.heads().len() == 1 && query.variables().len() == 2)
+}
+
+impl Tried for ReadingQuery {
+    fn tried<A: Allocator + Copy>(alloc: A) -> Outcome {
+        match is_read(alloc) {
+            Ok(right) => Outcome::done_if(right),
+            Err(fault) => Outcome::refused_if(
+                fault == TextFault::NoMemory && is_read(alloc) == Ok(true),
+            ),
+        }
+    }
+}
+
+#[test]
+fn refused_growth_in_reading_queries(rt: HostRuntime) {
+    assert!(rt; matches!(refusals::<ReadingQuery>(rt.alloc()), Ok(9..)));
+}
+
 /// Whether the query is printed as it was read.
 fn is_printed<A: Allocator + Copy>(alloc: A, query: &Query<A>) -> bool {
     match print_query(alloc, query) {
@@ -79,4 +107,87 @@ impl Tried for Printing {
 #[test]
 fn refused_growth_in_printing(rt: HostRuntime) {
     assert!(rt; matches!(refusals::<Printing>(rt.alloc()), Ok(1..)));
+}
+
+/// An atom, a row and its values printed.
+struct PrintingParts;
+
+fn prints_row<A: Allocator + Copy>(alloc: A, row: &Row<A>) -> Result<bool, AllocError> {
+    let text = print_row(alloc, row)?;
+    let values = print_values(alloc, row.values())?;
+    Ok(text.as_str() == r#"Flights("C", "b", 1)"# && values.as_str() == r#"("C", "b", 1)"#)
+}
+
+fn prints_head<A: Allocator + Copy>(alloc: A, query: &Query<A>) -> Result<bool, AllocError> {
+    match query.heads() {
+        [head] => Ok(print_atom(alloc, head)?.as_str() == r#"R("Kramer", x)"#),
+        _ => Ok(false),
+    }
+}
+
+fn prints<A: Allocator + Copy>(
+    alloc: A,
+    query: &Query<A>,
+    row: &Row<A>,
+) -> Result<bool, AllocError> {
+    Ok(prints_head(alloc, query)? && prints_row(alloc, row)?)
+}
+
+impl Tried for PrintingParts {
+    fn tried<A: Allocator + Copy>(alloc: A) -> Outcome {
+        let (Ok(query), Ok(row)) = (
+            read_query(alloc, KRAMER.as_bytes()),
+            read_ground_atom(alloc, ROW),
+        ) else {
+            return Outcome::Unready;
+        };
+        match prints(alloc, &query, &row) {
+            Ok(right) => Outcome::done_if(right),
+            Err(_) => Outcome::refused_if(prints(alloc, &query, &row) == Ok(true)),
+        }
+    }
+}
+
+#[test]
+fn refused_growth_in_printing_parts(rt: HostRuntime) {
+    assert!(rt; matches!(refusals::<PrintingParts>(rt.alloc()), Ok(3..)));
+}
+
+/// Gives one letter a read, as many as it has.
+#[derive(Drop)]
+struct Letters(u8);
+
+impl Read for Letters {
+    fn read(&mut self, buf: &mut [u8]) -> io::Result<usize> {
+        if self.0 == 0 || buf.is_empty() {
+            return Ok(0);
+        }
+        self.0 -= 1;
+        buf[0] = b'a';
+        Ok(1)
+    }
+}
+
+/// A source read whole.
+struct ReadingWhole;
+
+fn reads_whole<A: Allocator + Copy>(alloc: A) -> Result<bool, WholeFault> {
+    let bytes = read_whole(alloc, &mut Counted::new(Letters(40)))?;
+    Ok(bytes.len() == 40 && bytes.iter().all(|byte| *byte == b'a'))
+}
+
+impl Tried for ReadingWhole {
+    fn tried<A: Allocator + Copy>(alloc: A) -> Outcome {
+        match reads_whole(alloc) {
+            Ok(right) => Outcome::done_if(right),
+            Err(fault) => Outcome::refused_if(
+                fault == WholeFault::NoMemory && reads_whole(alloc) == Ok(true),
+            ),
+        }
+    }
+}
+
+#[test]
+fn refused_growth_in_read_whole(rt: HostRuntime) {
+    assert!(rt; matches!(refusals::<ReadingWhole>(rt.alloc()), Ok(3..)));
 }
