@@ -21,11 +21,11 @@ import re
 import resource
 import sys
 import tempfile
-import time
 
 TOP = os.path.dirname(os.path.dirname(os.path.realpath(__file__)))
 MAX_LINE = 131_072
 MAX_COUNT = 1_000_000
+MAX_READS = 1_048_576
 STACKS = [8192, 1024, 512, 256, 128, 64]
 SESSIONS = 16
 
@@ -96,9 +96,9 @@ def line(n):
         yield text, reply
 
 
-def endless(n):
-    """One line of n bytes, and a good one behind it."""
-    yield "#" * n, refused("Limit", MAX_LINE)
+def long_line(n):
+    """A line of n bytes, and a good one behind it."""
+    yield "#" * n, refused("Limit", MAX_LINE) if n > MAX_LINE else None
     yield "publish", "published 0"
 
 
@@ -216,7 +216,6 @@ def rows_falling(n):
     return in_order(n, range(n - 1, -1, -1))
 
 
-# Texts of 255 bytes that print as 510: eight of them, and the same with a number in front.
 def quotes(number):
     """A text of 255 bytes, as it is written and printed: a number of eight digits, and then signs that are escaped."""
     return f'"{number:08}' + '\\"' * 120 + "\\\\" * 127 + '"'
@@ -265,7 +264,7 @@ def variables(n):
     yield "show", shown(entry + 1, counts, [query_lines("a", "matched", text, [], found, ", ".join(names))])
 
 
-def looked_at(count, n, there, state, supplier_of):
+def looked_at(count, there, state, supplier_of):
     """A look at queries that wait for one number each, of which these are there."""
 
     def lines_of(place):
@@ -288,7 +287,7 @@ def ring(n):
         (n + 2, range(n), "matched", None),
     ]:
         yield "publish", f"published {count}"
-        yield "show", looked_at(count, n, there, state, lambda place: (place + 1) % n)
+        yield "show", looked_at(count, there, state, lambda place: (place + 1) % n)
         if text:
             yield text, f"ok {count + 1}"
 
@@ -347,7 +346,7 @@ def crowd(n):
 # Case, size, and whether the size is divided and halved: what is a number of the language's own is not.
 CASES = [
     (line, MAX_LINE, False),
-    (endless, 100_000_000, True),
+    (long_line, 100_000_000, True),
     (faults, 1_000_000, True),
     (pool, MAX_COUNT, True),
     (journal, MAX_COUNT, True),
@@ -423,6 +422,19 @@ def put(path, texts):
         file.writelines(f"{text}\n" for text in texts)
 
 
+def apart(work, *words):
+    """Does the work in a process of its own, so that this one stays small: a run's peak begins with that of this process."""
+    child = os.fork()
+    if child == 0:
+        try:
+            work(*words)
+            os._exit(0)
+        finally:
+            os._exit(1)
+    if os.waitpid(child, 0)[1] != 0:
+        sys.exit("bench/sizes.py: a script cannot be written")
+
+
 def put_case(case, size, script, wanted):
     """Writes the script of a case, and what is to come of it."""
     with open(script, "w") as lines, open(wanted, "w") as replies:
@@ -449,6 +461,11 @@ def run(words, source, sink, errors, stack):
     return os.waitstatus_to_exitcode(status), usage.ru_utime + usage.ru_stime, usage.ru_maxrss * 1024
 
 
+def print_row(name, size, length, seconds, memory, said):
+    """A row of the table."""
+    print(f"{name:13} {size:>11,} {length:>13,} {seconds:8.2f} {memory / 1e6:9.1f} {memory / length:8.1f}  {said}", flush=True)
+
+
 class Sized:
     """A case at a size: its files, and its runs."""
 
@@ -457,7 +474,7 @@ class Sized:
         names = ("script", "output", "errors", "wanted")
         self.source, self.sink, self.errors, self.wanted = (os.path.join(folder, it) for it in names)
         if case:
-            put_case(case, size, self.source, self.wanted)
+            apart(put_case, case, size, self.source, self.wanted)
             self.words, inputs = [program, "replay"], [self.source]
         else:
             inputs = session_files(folder, size)
@@ -473,17 +490,14 @@ class Sized:
             order = order_in(self.sink)
             if sorted(order) != list(range(SESSIONS)):
                 return "not each session has entries"
-            put(self.wanted, session_output(order, self.size))
+            apart(put, self.wanted, session_output(order, self.size))
         return None if filecmp.cmp(self.sink, self.wanted, shallow=False) else "another output"
 
     def measured(self):
         """Processor time and peak memory of a run with the usual stack, which has to be right."""
-        began = time.monotonic()
         status, seconds, memory = run(self.words, self.source, self.sink, self.errors, STACKS[0])
-        took = time.monotonic() - began
         fault = self.fault(status)
-        quotient = memory / self.bytes
-        print(f"{self.name:13} {self.size:>11,} {self.bytes:>13,} {seconds:8.2f} {took:8.2f} {memory / 1e6:9.1f} {quotient:8.1f}  {fault or 'right'}", flush=True)
+        print_row(self.name, self.size, self.bytes, seconds, memory, fault or "right")
         return seconds, memory, fault
 
     def least_stack(self):
@@ -494,6 +508,17 @@ class Sized:
                 break
             least = stack
         return least
+
+
+def try_no_end(program):
+    """A script without an end: the reads that a run may make are made, and then it is told that no further one is."""
+    with tempfile.TemporaryDirectory() as folder:
+        sink, errors = (os.path.join(folder, it) for it in ("output", "errors"))
+        status, seconds, memory = run([program, "replay"], "/dev/zero", sink, errors, STACKS[0])
+        with open(errors) as said:
+            is_right = (status, os.path.getsize(sink), said.read()) == (1, 0, f"board: read failed at turn {MAX_READS + 1}\n")
+    print_row("no_end", MAX_READS, MAX_READS * 4096, seconds, memory, "right" if is_right else f"status {status}, or another text")
+    return is_right
 
 
 def try_case(program, name, size, is_growing, case):
@@ -527,8 +552,10 @@ def main():
     cases = [(case.__name__, size // divisor if grows else size, grows, case) for case, size, grows in CASES]
     cases.append(("sessions", 20_000 // divisor, True, None))
     chosen = [it for it in cases if len(sys.argv) < 3 or it[0] in sys.argv[2:]]
-    print(f"{'case':13} {'size':>11} {'input bytes':>13} {'cpu s':>8} {'wall s':>8} {'peak MB':>9} {'per byte':>8}")
+    print(f"{'case':13} {'size':>11} {'input bytes':>13} {'seconds':>8} {'peak MB':>9} {'per byte':>8}")
     right = [try_case(program, *it) for it in chosen]
+    if len(sys.argv) < 3 or "no_end" in sys.argv[2:]:
+        right.append(try_no_end(program))
     sys.exit(0 if all(right) else 1)
 
 
