@@ -5,9 +5,9 @@
 
 Each case is a script that is made together with the replies which the rules of docs/formats.md ask for: line by line, and
 by no other knowledge of the program. It is run at half its size and at its size, which are divided by DIVISOR, 1 where none
-is told. Of each run the table tells the size, the bytes of input, the seconds of processor time, the peak of resident memory and
-its quotient to the bytes of input; and, of the two, the quotients of time and of memory: 2 is in proportion to the size. Then it is run
-with less and less stack, at both sizes: the least power of two of KiB that is enough is told for each.
+is told, first with 8 MiB of stack and then with less and less. The table tells the size, the bytes of input, the least seconds of
+processor time, the peak of resident memory and its quotient to the bytes of input, and the least stack that was enough, in KiB; and of the two
+sizes the quotients of time and of memory: 2 is in proportion to the size.
 
 The program must be built already, by ./build; BOARD in the environment names another one. The status is 1 where a run
 ended otherwise than it is to, or wrote something else.
@@ -461,9 +461,9 @@ def run(words, source, sink, errors, stack):
     return os.waitstatus_to_exitcode(status), usage.ru_utime + usage.ru_stime, usage.ru_maxrss * 1024
 
 
-def print_row(name, size, length, seconds, memory, said):
+def print_row(name, size, length, seconds, memory, stack, said):
     """A row of the table."""
-    print(f"{name:13} {size:>11,} {length:>13,} {seconds:8.2f} {memory / 1e6:9.1f} {memory / length:8.1f}  {said}", flush=True)
+    print(f"{name:13} {size:>11,} {length:>13,} {seconds:8.2f} {memory / 1e6:9.1f} {memory / length:8.1f} {stack or '-':>6} {said}", flush=True)
 
 
 class Sized:
@@ -491,50 +491,43 @@ class Sized:
             if sorted(order) != list(range(SESSIONS)):
                 return "not each session has entries"
             apart(put, self.wanted, session_output(order, self.size))
+        filecmp.clear_cache()
         return None if filecmp.cmp(self.sink, self.wanted, shallow=False) else "another output"
 
-    def measured(self):
-        """Processor time and peak memory of a run with the usual stack, which has to be right."""
-        status, seconds, memory = run(self.words, self.source, self.sink, self.errors, STACKS[0])
-        fault = self.fault(status)
-        print_row(self.name, self.size, self.bytes, seconds, memory, fault or "right")
-        return seconds, memory, fault
-
-    def least_stack(self):
-        """The least of the stacks with which a run is right."""
-        least = None
-        for stack in STACKS[1:]:
-            if self.fault(run(self.words, self.source, self.sink, self.errors, stack)[0]):
+    def measures(self):
+        """The least time and the most memory of runs with less and less stack, until one is too little; and whether all were
+        right, and the second stack enough."""
+        least, most, enough = float("inf"), 0, None
+        for stack in STACKS:
+            status, seconds, memory = run(self.words, self.source, self.sink, self.errors, stack)
+            fault = self.fault(status)
+            if fault:
                 break
-            least = stack
-        return least
+            least, most, enough = min(least, seconds), max(most, memory), stack
+        is_right = enough is not None and enough <= STACKS[1] and (not fault or status < 0)
+        print_row(self.name, self.size, self.bytes, least, most, enough, "right" if is_right else fault)
+        return least, most, is_right
 
 
-def try_no_end(program):
-    """A script without an end: the reads that a run may make are made, and then it is told that no further one is."""
-    with tempfile.TemporaryDirectory() as folder:
-        sink, errors = (os.path.join(folder, it) for it in ("output", "errors"))
-        status, seconds, memory = run([program, "replay"], "/dev/zero", sink, errors, STACKS[0])
-        with open(errors) as said:
-            is_right = (status, os.path.getsize(sink), said.read()) == (1, 0, f"board: read failed at turn {MAX_READS + 1}\n")
-    print_row("no_end", MAX_READS, MAX_READS * 4096, seconds, memory, "right" if is_right else f"status {status}, or another text")
-    return is_right
+def free_memory():
+    """The bytes of memory that the machine can still give."""
+    with open("/proc/meminfo") as file:
+        return next(int(text.split()[1]) * 1024 for text in file if text.startswith("MemAvailable"))
 
 
 def try_case(program, name, size, is_growing, case):
     """Runs a case at half its size and at its size, and answers whether all was right."""
-    measures, stacks = [], []
+    measures = []
     for share in (size // 2, size) if is_growing else (size,):
+        if measures and 2.2 * measures[0][1] > free_memory():
+            print(f"{name:13} {share:>11,} is left out: there is too little memory")
+            return False
         with tempfile.TemporaryDirectory() as folder:
-            sized = Sized(folder, program, name, share, case)
-            measures.append(sized.measured())
-            stacks.append(sized.least_stack())
-    said = [f"least stack {' and '.join(str(it) for it in stacks)} KiB"]
+            measures.append(Sized(folder, program, name, share, case).measures())
     if is_growing:
         (early, small, _), (late, great, _) = measures
-        said.insert(0, f"time {late / max(early, 0.01):.2f} times, memory {great / small:.2f} times")
-    print(f"{'':13} {'; '.join(said)}", flush=True)
-    return not any(fault for _, _, fault in measures) and None not in stacks
+        print(f"{'':13} time {late / max(early, 0.01):.2f} times, memory {great / small:.2f} times", flush=True)
+    return all(is_right for _, _, is_right in measures)
 
 
 def built_program():
@@ -552,7 +545,7 @@ def main():
     cases = [(case.__name__, size // divisor if grows else size, grows, case) for case, size, grows in CASES]
     cases.append(("sessions", 20_000 // divisor, True, None))
     chosen = [it for it in cases if len(sys.argv) < 3 or it[0] in sys.argv[2:]]
-    print(f"{'case':13} {'size':>11} {'input bytes':>13} {'seconds':>8} {'peak MB':>9} {'per byte':>8}")
+    print(f"{'case':13} {'size':>11} {'input bytes':>13} {'seconds':>8} {'peak MB':>9} {'per byte':>8} {'KiB':>6}")
     right = [try_case(program, *it) for it in chosen]
     if len(sys.argv) < 3 or "no_end" in sys.argv[2:]:
         right.append(try_no_end(program))
