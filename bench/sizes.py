@@ -26,7 +26,7 @@ TOP = os.path.dirname(os.path.dirname(os.path.realpath(__file__)))
 MAX_LINE = 131_072
 MAX_COUNT = 1_000_000
 MAX_READS = 1_048_576
-STACKS = [8192, 1024, 512, 256, 128, 64]
+STACKS = [8192, 1024, 256, 128, 64]
 SESSIONS = 16
 
 
@@ -211,9 +211,26 @@ def rows(n):
     return in_order(n, numbers)
 
 
+def rows_rising(n):
+    """Rows each of which comes behind all that are there."""
+    return in_order(n, range(n))
+
+
 def rows_falling(n):
     """Rows each of which comes before all that are there."""
     return in_order(n, range(n - 1, -1, -1))
+
+
+def rows_gone(n):
+    """Rows that come, and all go again, under a query that reads them."""
+    query = "{} R(x) <- T(x)"
+    yield "relation T 1", "ok"
+    yield f"limits 1 {2 * n + 1}", "ok"
+    yield f"post a {query}", "ok 1"
+    for place in range(2 * n):
+        yield f"{'insert' if place < n else 'delete'} T({place % n})", f"ok {place + 2}"
+    yield "publish", f"published {2 * n + 1}"
+    yield "show", shown(2 * n + 1, ["relation T 1 rows 0"], [query_lines("a", "waiting", query, [], [], "x")])
 
 
 def quotes(number):
@@ -351,8 +368,10 @@ CASES = [
     (pool, MAX_COUNT, True),
     (journal, MAX_COUNT, True),
     (relations, 64, False),
+    (rows_rising, 100_000, True),
     (rows, 100_000, True),
     (rows_falling, 100_000, True),
+    (rows_gone, 20_000, True),
     (wide, 200, True),
     (variables, 1_000, True),
     (ring, 100_000, True),

@@ -108,7 +108,6 @@ run_paths() {
         run_path "$program" "$path" "cannot open $path"
     done
     run_path "$program" . "read failed at turn 1"
-    run_path "$program" /proc/self/mem "read failed at turn 1"
 }
 
 # A reader that stops in the midst of what is written: more than a pipe holds.
