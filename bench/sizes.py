@@ -233,6 +233,18 @@ def rows_gone(n):
     yield "show", shown(2 * n + 1, ["relation T 1 rows 0"], [query_lines("a", "waiting", query, [], [], "x")])
 
 
+def unmet(n):
+    """A body whose last atom meets no row, behind three that meet all n."""
+    query = "{} R(x) <- T(x), T(y), T(z), U(w)"
+    yield "relation T 1", "ok"
+    yield "relation U 1", "ok"
+    for place in range(n):
+        yield f"insert T({place})", f"ok {place + 1}"
+    yield f"post a {query}", f"ok {n + 1}"
+    yield "publish", f"published {n + 1}"
+    yield "show", shown(n + 1, [f"relation T 1 rows {n}", "relation U 1 rows 0"], [query_lines("a", "waiting", query, [], [], "x, y, z, w")])
+
+
 def quotes(number):
     """A text of 255 bytes, as it is written and printed: a number of eight digits, and then signs that are escaped."""
     return f'"{number:08}' + '\\"' * 120 + "\\\\" * 127 + '"'
@@ -372,6 +384,7 @@ CASES = [
     (rows, 100_000, True),
     (rows_falling, 100_000, True),
     (rows_gone, 20_000, True),
+    (unmet, 200, True),
     (wide, 200, True),
     (variables, 1_000, True),
     (ring, 100_000, True),
@@ -526,6 +539,17 @@ class Sized:
         is_right = enough is not None and enough <= STACKS[1] and (not fault or status < 0)
         print_row(self.name, self.size, self.bytes, least, most, enough, "right" if is_right else fault)
         return least, most, is_right
+
+
+def try_no_end(program):
+    """A script without an end: the reads that a run may make are made, and then it is told that no end came."""
+    with tempfile.TemporaryDirectory() as folder:
+        sink, errors = (os.path.join(folder, it) for it in ("output", "errors"))
+        status, seconds, memory = run([program, "replay"], "/dev/zero", sink, errors, STACKS[1])
+        with open(errors) as said:
+            is_right = (status, os.path.getsize(sink), said.read()) == (1, 0, f"board: read failed at turn {MAX_READS + 1}\n")
+    print_row("no_end", MAX_READS, MAX_READS * 4096, seconds, memory, STACKS[1], "right" if is_right else f"status {status}")
+    return is_right
 
 
 def free_memory():
