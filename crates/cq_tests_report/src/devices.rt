@@ -50,6 +50,24 @@ impl Read for Endless {
     }
 }
 
+/// Gives up to one line at a read.
+#[derive(Drop)]
+pub struct OneLine<'a>(pub &'a [u8]);
+
+impl<'a> Read for OneLine<'a> {
+    fn read(&mut self, buf: &mut [u8]) -> io::Result<usize> {
+        let line = match self.0.iter().position(|byte| *byte == b'\n') {
+            Some(end) => end + 1,
+            None => self.0.len(),
+        };
+        let count = line.min(buf.len());
+        let (front, rest) = self.0.split_at(count);
+        buf[..count].copy_from_slice(front);
+        self.0 = rest;
+        Ok(count)
+    }
+}
+
 /// Gives a post and the front of a word at the first read, and fails at the second.
 #[derive(Drop)]
 pub struct CutOff(pub u8);

@@ -1,12 +1,13 @@
 //! Each growth of a call refused in turn.
 
-use crate::devices::{Expecting, Pieces};
+use crate::devices::{Expecting, OneLine, Pieces};
 use crate::reports::{post, with_one_row};
 use cq_board::{Board, Edit};
 use cq_report::{RunFault, read_whole, report, run};
-use cq_tests_growths::{Outcome, Tried, refusals};
+use cq_tests_growths::{ENOUGH, Outcome, Refusing, Tried, refusals};
 use cq_text::Counted;
-use std::alloc::Allocator;
+use std::alloc::{Allocator, Global};
+use std::io::Read;
 
 /// Setup, every kind of edit, a refused post, a publish and a look.
 const SCRIPT: &[u8] = b"relation T 1\nlimits 9 9\ninsert T(1)\ninsert T(2)\ndelete T(2)
@@ -35,9 +36,9 @@ ok 6\nok 7
 /// A run of the script.
 struct Running;
 
-/// How the run of the script ends, over a writer that takes the answers alone; and how many bytes it lacked.
-fn told<A: Allocator + Copy>(alloc: A) -> (Result<(), RunFault>, usize) {
-    let mut reader = Counted::new(SCRIPT);
+/// How the run of the script that is read ends, over a writer that takes the answers alone; and how many bytes it lacked.
+fn told<A: Allocator + Copy, R: Read + Drop>(alloc: A, script: R) -> (Result<(), RunFault>, usize) {
+    let mut reader = Counted::new(script);
     let mut writer = Counted::new(Expecting {
         rest: ANSWERS,
         flushes: 0,
@@ -48,10 +49,12 @@ fn told<A: Allocator + Copy>(alloc: A) -> (Result<(), RunFault>, usize) {
 
 impl Tried for Running {
     fn tried<A: Allocator + Copy>(alloc: A) -> Outcome {
-        match told(alloc) {
+        match told(alloc, SCRIPT) {
             (Ok(()), lacking) => Outcome::done_if(lacking == 0),
             (Err(fault), _) => {
-                Outcome::refused_if(fault == RunFault::NoMemory && told(alloc) == (Ok(()), 0))
+                Outcome::refused_if(
+                    fault == RunFault::NoMemory && told(alloc, SCRIPT) == (Ok(()), 0),
+                )
             }
         }
     }
@@ -61,6 +64,31 @@ impl Tried for Running {
 #[test]
 fn refused_growth_in_run(rt: HostRuntime) {
     assert!(rt; matches!(refusals::<Running>(rt.alloc()), Ok(21..)));
+}
+
+/// How many different lengths of answers were written by runs with one growth refused, where each wrote as much as where each line
+/// is read alone, so that its reply is written before the next read; or nothing, where one did not.
+fn lengths_written(alloc: Global) -> Option<u64> {
+    let mut lengths = 1u64;
+    let mut last = ANSWERS.len();
+    for growth in 0..ENOUGH {
+        let (ended, lacking) = told(&Refusing::new(alloc, growth), SCRIPT);
+        if (ended, lacking) != told(&Refusing::new(alloc, growth), OneLine(SCRIPT)) {
+            return None;
+        }
+        lengths = lengths.saturating_add(u64::from(lacking < last));
+        last = lacking;
+        if ended == Ok(()) {
+            return Some(lengths);
+        }
+    }
+    None
+}
+
+// All lines before the one that met want of memory have their replies, though these waited in a buffer.
+#[test]
+fn replies_before_a_refused_growth(rt: HostRuntime) {
+    assert!(rt; matches!(lengths_written(rt.alloc()), Some(6..)));
 }
 
 const BEFORE: &str = "relation Flights 2 rows 1\n";
