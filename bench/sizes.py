@@ -567,7 +567,7 @@ def try_case(program, name, size, is_growing, case):
             return False
         with tempfile.TemporaryDirectory() as folder:
             measures.append(Sized(folder, program, name, share, case).measures())
-    if is_growing:
+    if is_growing and all(most for _, most, _ in measures):
         (early, small, _), (late, great, _) = measures
         print(f"{'':13} time {late / max(early, 0.01):.2f} times, memory {great / small:.2f} times", flush=True)
     return all(is_right for _, _, is_right in measures)
