@@ -103,13 +103,22 @@ fn refusals_in_order(rt: HostRuntime) {
 }
 
 /// Enters two bytes, publishes and looks, a refused edit among them.
-fn events<A: Allocator + Copy>(alloc: A) -> Result<Vec<Event<u8>, A>, NoMemory> {
+fn event(place: usize) -> Event<u8> {
+    match place {
+        0 => Event::Enter { author: 0, edit: 5 },
+        1 => Event::Enter { author: 9, edit: 7 },
+        2 => Event::Enter { author: 0, edit: 6 },
+        3 => Event::Publish,
+        _ => Event::Look { session: 0 },
+    }
+}
+
+/// These events from that one on.
+fn events<A: Allocator + Copy>(alloc: A, from: usize) -> Result<Vec<Event<u8>, A>, NoMemory> {
     let mut events = Vec::new(alloc);
-    events.push(Event::Enter { author: 0, edit: 5 })?;
-    events.push(Event::Enter { author: 9, edit: 7 })?;
-    events.push(Event::Enter { author: 0, edit: 6 })?;
-    events.push(Event::Publish)?;
-    events.push(Event::Look { session: 0 })?;
+    for place in from..5 {
+        events.push(event(place))?;
+    }
     Ok(events)
 }
 
@@ -120,6 +129,24 @@ const ANSWERS: [Told; 5] = [
     Ok(Answer::Published(2)),
     Ok(Answer::Looked(2)),
 ];
+
+struct Begin;
+
+fn is_begun<A: Allocator + Copy>(alloc: A) -> Result<bool, FloorFault> {
+    let floor = floor(alloc, 9, 2)?;
+    Ok(stands(&floor, &[], &[]) && floor.seen(1) == Some(0))
+}
+
+impl Tried for Begin {
+    fn tried<A: Allocator + Copy>(alloc: A) -> Outcome {
+        match is_begun(alloc) {
+            Ok(right) => Outcome::done_if(right),
+            Err(fault) => Outcome::refused_if(
+                fault == FloorFault::NoMemory && is_begun(alloc) == Ok(true),
+            ),
+        }
+    }
+}
 
 struct Step;
 
@@ -160,22 +187,51 @@ struct Play;
 
 impl Tried for Play {
     fn tried<A: Allocator + Copy>(alloc: A) -> Outcome {
-        match (floor(alloc, 9, 1), events(alloc)) {
-            (Ok(mut floor), Ok(events)) => played(&mut floor, events),
+        match (floor(alloc, 9, 1), events(alloc, 0)) {
+            (Ok(mut floor), Ok(events)) => played(alloc, &mut floor, events),
             _ => Outcome::Unready,
         }
     }
 }
 
-/// What came of the events: all answers, or those of a front, and the bytes that this front leaves.
-fn played<A: Allocator + Copy>(floor: &mut TallyFloor<A>, events: Vec<Event<u8>, A>) -> Outcome {
+/// What came of the events: all answers, or those of a front, and the bytes that this front leaves. The rest is then
+/// played.
+fn played<A: Allocator + Copy>(
+    alloc: A,
+    floor: &mut TallyFloor<A>,
+    events: Vec<Event<u8>, A>,
+) -> Outcome {
     match floor.play(events) {
         Ok(answers) => {
             Outcome::done_if(
                 answers.as_slice() == ANSWERS.as_slice() && stands(floor, &[5, 6], &[5, 6]),
             )
         }
-        Err(answers) => Outcome::refused_if(stopped(floor, answers.as_slice())),
+        Err(answers) => Outcome::refused_if(
+            stopped(floor, answers.as_slice()) && goes_on(alloc, floor, answers.len()),
+        ),
+    }
+}
+
+/// Whether the events from that one on are played to the end.
+fn goes_on<A: Allocator + Copy>(alloc: A, floor: &mut TallyFloor<A>, from: usize) -> bool {
+    match events(alloc, from) {
+        Ok(events) => ends(floor, events, from),
+        Err(NoMemory) => false,
+    }
+}
+
+fn ends<A: Allocator + Copy>(
+    floor: &mut TallyFloor<A>,
+    events: Vec<Event<u8>, A>,
+    from: usize,
+) -> bool {
+    match floor.play(events) {
+        Ok(answers) => {
+            ANSWERS.as_slice().get(from..) == Some(answers.as_slice())
+                && stands(floor, &[5, 6], &[5, 6])
+        }
+        Err(_) => false,
     }
 }
 
@@ -190,6 +246,7 @@ fn stopped<A: Allocator + Copy>(floor: &TallyFloor<A>, answers: &[Told]) -> bool
 
 #[test]
 fn each_growth_of_a_floor_refused(rt: HostRuntime) {
+    assert!(rt; is_borne(refusals::<Begin>(rt.alloc())));
     assert!(rt; is_borne(refusals::<Step>(rt.alloc())));
     assert!(rt; is_borne(refusals::<Play>(rt.alloc())));
 }

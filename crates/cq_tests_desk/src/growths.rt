@@ -2,11 +2,38 @@
 
 use crate::desks::{TallyDesk, desk, stands};
 use crate::submits::list;
-use cq_desk::{End, NoMemory, Refused, Submitted};
+use cq_desk::{End, Live, NoMemory, Plain, Refused, Submitted};
 use cq_refusing::Refusing;
 use cq_tests_growths::{ENOUGH, Outcome, Tried, refusals};
-use cq_tests_tally::Full;
+use cq_tests_tally::{Full, Tally};
 use std::alloc::{Allocator, Global};
+
+/// A publisher begun over a tally of one byte.
+struct Begin;
+
+fn of_one<A: Allocator + Copy>(alloc: A) -> Result<Tally<A>, NoMemory> {
+    let mut tally = Tally::empty(alloc);
+    tally.admit(&4)?;
+    Ok(tally)
+}
+
+fn is_begun<A: Allocator + Copy>(alloc: A) -> Result<bool, NoMemory> {
+    let tally = of_one(alloc)?;
+    let publisher = Plain::begin(alloc, tally)?;
+    Ok(publisher.published().bytes() == [4].as_slice())
+}
+
+impl Tried for Begin {
+    fn tried<A: Allocator + Copy>(alloc: A) -> Outcome {
+        let Ok(tally) = of_one(alloc) else {
+            return Outcome::Unready;
+        };
+        match Plain::begin(alloc, tally) {
+            Ok(publisher) => Outcome::done_if(publisher.published().bytes() == [4].as_slice()),
+            Err(NoMemory) => Outcome::refused_if(is_begun(alloc) == Ok(true)),
+        }
+    }
+}
 
 struct Enter;
 
@@ -160,6 +187,7 @@ pub fn is_borne(refused: Result<u64, u64>) -> bool {
 #[test]
 fn each_growth_refused(rt: HostRuntime) {
     let calls = [
+        ("begin", refusals::<Begin>(rt.alloc())),
         ("enter", refusals::<Enter>(rt.alloc())),
         ("publish", refusals::<Publish>(rt.alloc())),
         ("publish again", refusals::<PublishAgain>(rt.alloc())),
