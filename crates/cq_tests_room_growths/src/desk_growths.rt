@@ -6,7 +6,7 @@ use crate::grown::{Grown, both_edits};
 use crate::growths::{GrowingRoom, are_stopped_behind, parts_of, sees};
 use crate::met::{Attempt, Counts, Met, counted, met_by};
 use cq_board::Board;
-use cq_desk::{Desk, Refused};
+use cq_desk::{Desk, End, Refused};
 use cq_room::{Pair, Parts, RoomFault, RoomName, Session, Watched};
 use cq_tests_tally::Tally;
 use std::alloc::Allocator;
@@ -107,17 +107,39 @@ fn submits<L: Grown<A>, N: RoomName<L::Content>, R: Wait + Drop, A: Allocator + 
     }
 }
 
-/// Nothing is shown behind a refused growth, and so many edits are entered. Another publish shows them all.
+/// Whether an empty submit is published, with so many entries.
+fn submits_nothing<L: Grown<A>, N: RoomName<L::Content>, R: Wait + Drop, A: Allocator + Copy>(
+    rt: &R,
+    alloc: A,
+    desk: &mut GrowingDesk<L, N, R, A>,
+    entries: u64,
+) -> bool {
+    match desk.submit(0, Vec::new(alloc), rt) {
+        Ok(submitted) => {
+            submitted.replies.is_empty() && submitted.end == End::Published(entries)
+        }
+        Err(_) => false,
+    }
+}
+
+/// Nothing is shown behind a refused growth, and so many edits are entered. Another publish, or an empty submit, shows
+/// them all.
 fn goes_on<L: Grown<A>, N: RoomName<L::Content>, R: Wait + Drop, A: Allocator + Copy>(
     rt: &R,
+    alloc: A,
     desk: &mut GrowingDesk<L, N, R, A>,
     session: Session<L, N, A>,
     entries: u64,
+    calls: Calls,
 ) -> bool {
     let Some(session) = shows(desk, session, entries, 0) else {
         return false;
     };
-    publishes(rt, desk, entries) == Met::Nothing && shows(desk, session, entries, entries).is_some()
+    let published = match calls {
+        Calls::EnterAndPublish => publishes(rt, desk, entries) == Met::Nothing,
+        Calls::Submit => submits_nothing(rt, alloc, desk, entries),
+    };
+    published && shows(desk, session, entries, entries).is_some()
 }
 
 /// Both edits are entered, and then published.
@@ -133,7 +155,7 @@ fn enters_and_publishes<L: Grown<A>, N: RoomName<L::Content>, R: Wait + Drop, A:
     let right = if published == Met::Nothing {
         shows(desk, session, 2, 2).is_some()
     } else {
-        goes_on(rt, desk, session, 2)
+        goes_on(rt, alloc, desk, session, 2, Calls::EnterAndPublish)
     };
     first.then(second).then(published).if_right(right)
 }
@@ -149,7 +171,7 @@ fn submits_and_shows<L: Grown<A>, N: RoomName<L::Content>, R: Wait + Drop, A: Al
     let right = if met == Met::Nothing {
         shows(desk, session, 2, 2).is_some()
     } else {
-        goes_on(rt, desk, session, met.entries())
+        goes_on(rt, alloc, desk, session, met.entries(), Calls::Submit)
     };
     met.if_right(right)
 }
@@ -221,19 +243,19 @@ impl Attempt for SubmittedBytes {
     }
 }
 
-/// A flight and a query are entered and published.
-struct EnteredFlights;
+/// Two queries are entered and published.
+struct EnteredQueries;
 
-impl Attempt for EnteredFlights {
+impl Attempt for EnteredQueries {
     fn attempt<R: Wait + Drop + Copy, A: Allocator + Copy>(rt: R, alloc: A) -> Met {
         attempted::<Board<A>, R, A>(rt, alloc, Calls::EnterAndPublish)
     }
 }
 
-/// A flight and a query are submitted.
-struct SubmittedFlights;
+/// Two queries are submitted.
+struct SubmittedQueries;
 
-impl Attempt for SubmittedFlights {
+impl Attempt for SubmittedQueries {
     fn attempt<R: Wait + Drop + Copy, A: Allocator + Copy>(rt: R, alloc: A) -> Met {
         attempted::<Board<A>, R, A>(rt, alloc, Calls::Submit)
     }
@@ -274,9 +296,9 @@ fn refused_growth_on_a_desk(rt: HostRuntime) {
 
 #[test]
 fn refused_growth_on_a_desk_over_a_board(rt: HostRuntime) {
-    let entered = counted::<EnteredFlights, _>(&rt, rt.alloc());
+    let entered = counted::<EnteredQueries, _>(&rt, rt.alloc());
     assert!(rt; are_entered(entered), "{entered:?}");
-    let submitted = counted::<SubmittedFlights, _>(&rt, rt.alloc());
+    let submitted = counted::<SubmittedQueries, _>(&rt, rt.alloc());
     assert!(rt;
         are_submitted(submitted) && are_stopped_behind(submitted),
         "{submitted:?}"

@@ -52,54 +52,55 @@ impl<A: Allocator + Copy> Grown<A> for Tally<A> {
     }
 }
 
-/// The edit of the line.
-fn edit_of<A: Allocator + Copy>(alloc: A, line: &str) -> Option<Edit<A>> {
+/// The edit of the line, if it posts a query.
+fn posting<A: Allocator + Copy>(alloc: A, line: &str) -> Option<Edit<A>> {
     match read_command(alloc, line.as_bytes()) {
         Ok(CommandKind::Post { name, query }) => Some(EditKind::Post { name, query }),
-        Ok(CommandKind::Insert { row }) => Some(EditKind::Insert { row }),
         _ => None,
     }
 }
 
-/// Whether the first query is matched, and the one flight is its one grounding.
-fn is_grounded<A: Allocator + Copy>(board: &Board<A>) -> bool {
-    let Some(name) = board.name_at(0) else {
+/// Whether the query of that place and name is there with its one grounding, and is matched or not, as told.
+fn stands_at<A: Allocator + Copy>(
+    board: &Board<A>,
+    place: usize,
+    text: &str,
+    matched: bool,
+) -> bool {
+    let Some(name) = board.name_at(place) else {
         return false;
     };
-    board.is_matched(name) == Some(true)
+    name.as_str() == text
+        && board.is_matched(name) == Some(matched)
         && match board.groundings(name) {
             Some(found) => found.count() == 1,
             None => false,
         }
 }
 
-/// A flight comes, and then a query for one.
+/// Two queries come that wait for each other.
 impl<A: Allocator + Copy> Grown<A> for Board<A> {
     fn begun(alloc: A) -> Option<Board<A>> {
-        let mut catalog = Catalog::empty(alloc);
-        if catalog.declare("Flights", 2).is_err() {
-            return None;
-        }
         let limits = Limits {
             pool: 9,
             journal: 9,
         };
-        Board::begin(alloc, catalog, limits).ok()
+        Board::begin(alloc, Catalog::empty(alloc), limits).ok()
     }
 
     fn edit(alloc: A, number: u64) -> Option<Edit<A>> {
         match number {
-            1 => edit_of(alloc, "insert Flights(122, Paris)"),
-            2 => edit_of(alloc, "post k {} R(x) <- Flights(x, Paris)"),
+            1 => posting(alloc, "post a {R(2)} R(1) <-"),
+            2 => posting(alloc, "post b {R(1)} R(2) <-"),
             _ => None,
         }
     }
 
     fn is_left_by(&self, entries: u64) -> bool {
-        match (self.tables().count("Flights"), self.len()) {
-            (Some(0), 0) => entries == 0,
-            (Some(1), 0) => entries == 1,
-            (Some(1), 1) => entries == 2 && is_grounded(self),
+        match self.len() {
+            0 => entries == 0,
+            1 => entries == 1 && stands_at(self, 0, "a", false),
+            2 => entries == 2 && stands_at(self, 0, "a", true) && stands_at(self, 1, "b", true),
             _ => false,
         }
     }

@@ -145,8 +145,16 @@ fn tried<L: Grown<A>, N: RoomName<L::Content>, R: Wait + Drop, A: Allocator + Co
     }
 }
 
-/// The parts of a room for two sessions.
-pub fn parts_of<L: Grown<A>, R: Wait + Drop, A: Allocator + Copy>(
+/// Whether a room begins.
+fn begins<L: Grown<A>, R: Wait + Drop, A: Allocator + Copy>(rt: R, alloc: A) -> bool {
+    match L::begun(alloc) {
+        Some(state) => Room::begin(rt, alloc, state, 9, 2).is_ok(),
+        None => false,
+    }
+}
+
+/// The parts of a room for two sessions. Where a growth was refused, another room then begins.
+pub fn parts_of<L: Grown<A>, R: Wait + Drop + Copy, A: Allocator + Copy>(
     rt: R,
     alloc: A,
 ) -> Result<Parts<L, R, A>, Met> {
@@ -155,15 +163,38 @@ pub fn parts_of<L: Grown<A>, R: Wait + Drop, A: Allocator + Copy>(
     };
     match Room::begin(rt, alloc, state, 9, 2) {
         Ok(parts) => Ok(parts),
-        Err(fault) => Err(Met::Begin.if_right(fault == RoomFault::NoMemory)),
+        Err(fault) => {
+            let right = fault == RoomFault::NoMemory && begins::<L, R, A>(rt, alloc);
+            Err(Met::Begin.if_right(right))
+        }
     }
 }
 
-fn attempted<L: Grown<A>, R: Wait + Drop + Copy, A: Allocator + Copy>(rt: R, alloc: A) -> Met {
+fn are_opened<L: Grown<A>, N: RoomName<L::Content>, R: Wait + Drop, A: Allocator + Copy>(
+    parts: Parts<L, R, A>,
+) -> bool
+    requires book { parts.book ≡ N.book }
+    requires opening { N.opening ≡ parts.opening ∷ [] }
+    requires limit { N.limit ≡ parts.limit }
+{
+    parts.open::<N>().is_ok()
+}
+
+/// Whether a room begins and is opened.
+fn opens<L: Grown<A>, R: Wait + Drop + Copy, A: Allocator + Copy>(rt: R, alloc: A) -> bool {
     match parts_of::<L, R, A>(rt, alloc) {
+        Ok(parts) => are_opened::<L, Brand, R, A>(parts),
+        Err(_) => false,
+    }
+}
+
+/// Where a growth was refused in opening the room, another one then is opened.
+fn attempted<L: Grown<A>, R: Wait + Drop + Copy, A: Allocator + Copy>(rt: R, alloc: A) -> Met {
+    let met = match parts_of::<L, R, A>(rt, alloc) {
         Ok(parts) => tried::<L, Brand, R, A>(&rt, alloc, parts),
         Err(met) => met,
-    }
+    };
+    met.if_right(met != Met::Open || opens::<L, R, A>(rt, alloc))
 }
 
 /// Two bytes are submitted in a room over a tally.
@@ -175,21 +206,20 @@ impl Attempt for Bytes {
     }
 }
 
-/// A flight and a query are submitted in a room over a board.
-struct Flights;
+/// Two queries are submitted in a room over a board.
+struct Queries;
 
-impl Attempt for Flights {
+impl Attempt for Queries {
     fn attempt<R: Wait + Drop + Copy, A: Allocator + Copy>(rt: R, alloc: A) -> Met {
         attempted::<Board<A>, R, A>(rt, alloc)
     }
 }
 
-/// Whether refusals were met in beginning and opening a room, and a submit ended in each way.
+/// Whether refusals were met in opening a room, and a submit ended in each way.
 fn are_met(counts: Result<Counts, u64>) -> bool {
     matches!(
         counts,
         Ok(Counts {
-            begin: 1..,
             open: 1..,
             replies: 1..,
             stopped: 1..,
@@ -197,6 +227,11 @@ fn are_met(counts: Result<Counts, u64>) -> bool {
             ..
         })
     )
+}
+
+/// Whether refusals were met in beginning a room. Over a board without relations no growth is asked for.
+fn are_met_in_begin(counts: Result<Counts, u64>) -> bool {
+    matches!(counts, Ok(Counts { begin: 1.., .. }))
 }
 
 /// Whether a submit was stopped behind an entry.
@@ -213,11 +248,11 @@ pub fn are_stopped_behind(counts: Result<Counts, u64>) -> bool {
 #[test]
 fn refused_growth_in_a_room(rt: HostRuntime) {
     let counts = counted::<Bytes, _>(&rt, rt.alloc());
-    assert!(rt; are_met(counts), "{counts:?}");
+    assert!(rt; are_met(counts) && are_met_in_begin(counts), "{counts:?}");
 }
 
 #[test]
 fn refused_growth_in_a_room_over_a_board(rt: HostRuntime) {
-    let counts = counted::<Flights, _>(&rt, rt.alloc());
+    let counts = counted::<Queries, _>(&rt, rt.alloc());
     assert!(rt; are_met(counts) && are_stopped_behind(counts), "{counts:?}");
 }
