@@ -40,7 +40,7 @@ pub record RowRecord : Type 0 where
 abbrev pub atom_of_row : RowRecord → AtomRecord
 atom_of_row r = record { relation = r.relation; terms = map Constant r.values }
 
--- From 1 to 8 terms or values.
+-- From 1 to 16 terms or values.
 abbrev pub is_arity : ℕ → Bool
 is_arity n = nat_le 1 n && nat_le n MAX_ARITY
 

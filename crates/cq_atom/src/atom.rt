@@ -15,7 +15,7 @@ use crate::word::is_relation_text;
 use std::alloc::{AllocError, Allocator, Global};
 use std::marker::Model;
 
-/// An atom: a relation's name, which begins with an upper-case letter, over 1 to 8 terms.
+/// An atom: a relation's name, which begins with an upper-case letter, over 1 to 16 terms.
 #[derive(Drop)]
 pub struct Atom<A: Allocator = Global> {
     relation: Name<A>,
@@ -51,7 +51,7 @@ impl<A: Allocator> Atom<A> {
     ///
     /// # Errors
     /// `BadName` unless the bytes are a name that begins with an upper-case letter; then `BadArity`
-    /// unless there are 1 to 8 terms; else `NoMemory` where the growth was refused.
+    /// unless there are 1 to 16 terms; else `NoMemory` where the growth was refused.
     pub fn new(alloc: A, relation: &str, terms: Vec<Term<A>, A>) -> Result<Atom<A>, Bad>
         ensures { let atom : AtomRecord = record { relation = relation.now; terms = terms.items } in
             Answers Bad.NoMemory (arity_fault relation.now (length terms.items)) atom result }

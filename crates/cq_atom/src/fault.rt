@@ -24,11 +24,11 @@ pub enum Bad {
     /// The bytes are no text.
     #[error("not a text")]
     BadText,
-    /// An atom or a row has no term, or more than eight.
-    #[error("an atom has 1 to 8 terms")]
+    /// An atom or a row has no term, or more than sixteen.
+    #[error("an atom has 1 to 16 terms")]
     BadArity,
-    /// A part of a query has more than eight atoms.
-    #[error("more than 8 atoms in {part:?}")]
+    /// A part of a query has more than sixteen atoms.
+    #[error("more than 16 atoms in {part:?}")]
     TooMany {
         /// The first such part.
         part: Part,

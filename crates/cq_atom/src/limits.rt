@@ -7,7 +7,7 @@ pub const MAX_NAME: usize = 32;
 pub const MAX_TEXT: usize = 255;
 
 /// The most terms of an atom, and values of a row.
-pub const MAX_ARITY: usize = 8;
+pub const MAX_ARITY: usize = 16;
 
 /// The most atoms of each part of a query.
-pub const MAX_ATOMS: usize = 8;
+pub const MAX_ATOMS: usize = 16;

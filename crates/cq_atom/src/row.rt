@@ -13,7 +13,7 @@ use crate::value::Value;
 use std::alloc::{AllocError, Allocator, Global};
 use std::marker::Model;
 
-/// A row: a relation's name over 1 to 8 values, so an atom without variables.
+/// A row: a relation's name over 1 to 16 values, so an atom without variables.
 #[derive(Drop)]
 pub struct Row<A: Allocator = Global> {
     relation: Name<A>,
@@ -36,7 +36,7 @@ impl<A: Allocator> Row<A> {
     ///
     /// # Errors
     /// `BadName` unless the bytes are a name that begins with an upper-case letter; then `BadArity`
-    /// unless there are 1 to 8 values; else `NoMemory` where the growth was refused.
+    /// unless there are 1 to 16 values; else `NoMemory` where the growth was refused.
     pub fn new(alloc: A, relation: &str, values: Vec<Value<A>, A>) -> Result<Row<A>, Bad>
         ensures { let row : RowRecord = record { relation = relation.now; values = values.items } in
             Answers Bad.NoMemory (arity_fault relation.now (length values.items)) row result }

@@ -40,7 +40,7 @@ abbrev pub arity_in : List Declaration → List ℕ → Option ℕ
 arity_in [] relation = None
 arity_in (d ∷ ds) relation = if declares relation d then Some d.arity else arity_in ds relation
 
--- A catalog: at most 64 relations, each declared once, with a relation's name and an arity from 1 to 8.
+-- A catalog: at most 64 relations, each declared once, with a relation's name and an arity from 1 to 16.
 pub record IsCatalog (catalog : List Declaration) : Type 0 where
   pub good : All (λ (d : Declaration). arity_fault d.relation d.arity ≡ None) catalog
   pub distinct : IsDistinct bytes_eq (map relation_of catalog)

@@ -48,7 +48,7 @@ impl<A: Allocator> Entry<A> {
 }
 
 /// A catalog: up to 64 declared relations, each with a name that begins with an upper-case letter
-/// and an arity from 1 to 8.
+/// and an arity from 1 to 16.
 #[derive(Drop)]
 pub struct Catalog<A: Allocator = Global> {
     entries: Vec<Entry<A>, A>,
@@ -157,7 +157,7 @@ impl<A: Allocator + Clone> Catalog<A> {
     ///
     /// # Errors
     /// In this order: `BadName` unless the bytes are a name that begins with an upper-case letter;
-    /// `BadArity` unless the arity is 1 to 8; `Declared` where the catalog has the relation;
+    /// `BadArity` unless the arity is 1 to 16; `Declared` where the catalog has the relation;
     /// `CatalogFull` where it has 64; `NoMemory` where a growth was refused. The catalog stays as it
     /// was then.
     pub fn declare(&mut self, relation: &str, arity: usize) -> Result<(), CatalogFault>

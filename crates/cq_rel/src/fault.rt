@@ -9,8 +9,8 @@ pub enum CatalogFault {
     /// The bytes are no relation's name.
     #[error("not a relation's name")]
     BadName,
-    /// The arity is none of 1 to 8.
-    #[error("a relation has 1 to 8 values")]
+    /// The arity is none of 1 to 16.
+    #[error("a relation has 1 to 16 values")]
     BadArity,
     /// The catalog has the relation.
     #[error("already declared")]
@@ -49,8 +49,8 @@ pub enum CsvFault {
     /// The bytes are no relation's name.
     #[error("not a relation's name")]
     BadName,
-    /// The arity is none of 1 to 8.
-    #[error("a relation has 1 to 8 values")]
+    /// The arity is none of 1 to 16.
+    #[error("a relation has 1 to 16 values")]
     BadArity,
     /// The source failed, or gave no end. Reads count from 1.
     #[error("read failed at turn {turn}")]

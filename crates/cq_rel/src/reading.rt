@@ -54,7 +54,7 @@ fn call_fault(relation: &str, arity: usize) -> Option<CsvFault>
 /// # Errors
 ///
 /// Before any read `BadName` unless the bytes are a name that begins with an upper-case letter, and then
-/// `BadArity` unless the arity is 1 to 8. `Device` tells the number, from 1, of the read that failed,
+/// `BadArity` unless the arity is 1 to 16. `Device` tells the number, from 1, of the read that failed,
 /// and 1,048,577 where no read failed and none came to the end. Then the first record at fault is told, counted
 /// from 0: `Width` where the number of its fields is not the arity, else `Text` where a field is no
 /// value. `NoMemory` where a growth was refused.

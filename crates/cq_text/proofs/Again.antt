@@ -28,6 +28,8 @@ use Rattle.cq_text.specs.Steps.Commands.{count_at, relation_at, limits_at, withd
 use Rattle.cq_text.proofs.Derive.{is_sign-same}
 use Rattle.cq_text.proofs.Runs.{parts_at, posted, whole, post_parts, command_parts}
 use Rattle.cq_text.proofs.Taken.{AreShort, ahead, closing}
+use Rattle.cq_text.specs.declared.form.Form.{Form}
+use Rattle.cq_text.specs.Forms.{most_terms, most_atoms}
 
 pub AreShort-append : (a b : List TokenContent) → AreShort (a ++ b) → AreShort a × AreShort b
 AreShort-append [] b h = (tt, h)
@@ -174,9 +176,9 @@ all_terms : (xs : List TermContent) → AllByRecursion AnyTerm xs
 all_terms [] = tt
 all_terms (x ∷ xs) = (tt, all_terms xs)
 
-terms_again : (xs : List TermContent) (inner rest : List TokenContent) (a : Ahead) → ahead a ≡ inner ++ (Mark CloseParen ∷ rest) → Separated IsTermText inner xs → AreShort inner → length xs ≤ 8 → GivesList (terms_at a) xs rest
+terms_again : (form : Form) → (xs : List TermContent) (inner rest : List TokenContent) (a : Ahead) → ahead a ≡ inner ++ (Mark CloseParen ∷ rest) → Separated IsTermText inner xs → AreShort inner → length xs ≤ most_terms form → GivesList (terms_at form a) xs rest
 unfolding terms_at
-terms_again xs inner rest a e p h le = listed_again IsTermText AnyTerm CloseParen term_at 8 xs inner rest a term_again e p h le (all_terms xs)
+terms_again form xs inner rest a e p h le = listed_again IsTermText AnyTerm CloseParen term_at (most_terms form) xs inner rest a term_again e p h le (all_terms xs)
 
 -- ---- ground atoms
 
@@ -209,30 +211,30 @@ all_values : (vs : List ValueContent) → AllByRecursion AnyValue vs
 all_values [] = tt
 all_values (v ∷ vs) = (tt, all_values vs)
 
-values_again : (vs : List ValueContent) (inner rest : List TokenContent) (a : Ahead) → ahead a ≡ inner ++ (Mark CloseParen ∷ rest) → Separated IsConstant inner vs → AreShort inner → length vs ≤ 8 → GivesList (values_at a) vs rest
+values_again : (form : Form) → (vs : List ValueContent) (inner rest : List TokenContent) (a : Ahead) → ahead a ≡ inner ++ (Mark CloseParen ∷ rest) → Separated IsConstant inner vs → AreShort inner → length vs ≤ most_terms form → GivesList (values_at form a) vs rest
 unfolding values_at
-values_again vs inner rest a e p h le = listed_again IsConstant AnyValue CloseParen value_at 8 vs inner rest a value_again e p h le (all_values vs)
+values_again form vs inner rest a e p h le = listed_again IsConstant AnyValue CloseParen value_at (most_terms form) vs inner rest a value_again e p h le (all_values vs)
 
 -- ---- atoms
 
-applied_again : (x : AtomRecord) (inner rest : List TokenContent) (a : Ahead) → ahead a ≡ Mark OpenParen ∷ (inner ++ (Mark CloseParen ∷ rest)) → Separated IsTermText inner x.terms → AreShort inner → FewTerms x → (b : Ahead) × (applied_at x.relation a ≡ Ok (x, b)) × (ahead b ≡ rest)
+applied_again : (form : Form) → (x : AtomRecord) (inner rest : List TokenContent) (a : Ahead) → ahead a ≡ Mark OpenParen ∷ (inner ++ (Mark CloseParen ∷ rest)) → Separated IsTermText inner x.terms → AreShort inner → FewTerms form x → (b : Ahead) × (applied_at form x.relation a ≡ Ok (x, b)) × (ahead b ≡ rest)
 unfolding applied_at
-applied_again x inner rest a e p h le =
+applied_again form x inner rest a e p h le =
     let s = sign_is OpenParen a (inner ++ (Mark CloseParen ∷ rest)) e in
-    let t = terms_again x.terms inner rest s.0 s.2 p h le in
+    let t = terms_again form x.terms inner rest s.0 s.2 p h le in
     (t.0, rw (s.1, t.1) refl, t.2)
 
 relation_again : (w : List ℕ) (at : ℕ) → begins_with_upper w ≡ true → length w ≤ 32 → relation_in (Word w) at ≡ Ok w
 relation_again w at u h = rw (u, le-ltb 32 (length w) h) refl
 
-pub row_again : (a : Ahead) (row : RowRecord) → IsRowText (ahead a) row → AreShort (ahead a) → length row.values ≤ 8 → row_at a ≡ Ok row
+pub row_again : (form : Form) → (a : Ahead) (row : RowRecord) → IsRowText (ahead a) row → AreShort (ahead a) → length row.values ≤ most_terms form → row_at form a ≡ Ok row
 unfolding row_at
-row_again a row (inner, d, u, sep) short few =
+row_again form a row (inner, d, u, sep) short few =
     let s = subst AreShort d short in
     let ends = AreShort-append inner (Mark CloseParen ∷ []) s.1.1 in
     let n = next_is a (Word row.relation) (Mark OpenParen ∷ (inner ++ (Mark CloseParen ∷ []))) d refl in
     let o = sign_is OpenParen n.rest (inner ++ (Mark CloseParen ∷ [])) n.left in
-    let v = values_again row.values inner [] o.0 o.2 sep ends.0 few in
+    let v = values_again form row.values inner [] o.0 o.2 sep ends.0 few in
     let e = end_is v.0 v.2 in
     rw (n.reads, n.is, relation_again row.relation n.lexeme.at u s.0, o.1, v.1, e.1) refl
 
@@ -244,11 +246,11 @@ count_again most a n ts e some few =
     let l = next_is a (Literal (Number n)) ts e refl in
     (l.rest, rw (l.reads, l.is, le-leb 1 (count_of n) some, le-leb (count_of n) most few) refl, l.left)
 
-relation_again_at : (a : Ahead) (w : List ℕ) (n : ℤ) → ahead a ≡ Word w ∷ Literal (Number n) ∷ [] → begins_with_upper w ≡ true → length w ≤ 32 → 1 ≤ count_of n → count_of n ≤ 8 → relation_at a ≡ Ok (Relation w (count_of n))
+relation_again_at : (form : Form) → (a : Ahead) (w : List ℕ) (n : ℤ) → ahead a ≡ Word w ∷ Literal (Number n) ∷ [] → begins_with_upper w ≡ true → length w ≤ 32 → 1 ≤ count_of n → count_of n ≤ most_terms form → relation_at form a ≡ Ok (Relation w (count_of n))
 unfolding relation_at
-relation_again_at a w n e u short some few =
+relation_again_at form a w n e u short some few =
     let l = next_is a (Word w) (Literal (Number n) ∷ []) e refl in
-    let k = count_again 8 l.rest n [] l.left some few in
+    let k = count_again (most_terms form) l.rest n [] l.left some few in
     let f = end_is k.0 k.2 in
     rw (l.reads, l.is, relation_again w l.lexeme.at u short, k.1, f.1) refl
 
@@ -263,26 +265,26 @@ limits_again a m n e some few more fewer =
 -- ---- atoms in lists
 
 -- an atom is read again, whatever stands behind it that shows whether more come
-atom_with : (close : Close) (a : Ahead) (front next : List TokenContent) (x : AtomRecord) (more : Bool) (ts : List TokenContent) → ((c : Ahead) → ahead c ≡ next → (b : Ahead) × (goes_on_at close c ≡ Ok (more, b)) × (ahead b ≡ ts))
-    → ahead a ≡ front ++ next → IsAtomText front x → AreShort front → FewTerms x → GivesItem (atom_at close true a) x more ts
+atom_with : (form : Form) → (close : Close) (a : Ahead) (front next : List TokenContent) (x : AtomRecord) (more : Bool) (ts : List TokenContent) → ((c : Ahead) → ahead c ≡ next → (b : Ahead) × (goes_on_at close c ≡ Ok (more, b)) × (ahead b ≡ ts))
+    → ahead a ≡ front ++ next → IsAtomText front x → AreShort front → FewTerms form x → GivesItem (atom_at form close true a) x more ts
 unfolding atom_at
-atom_with close a front next x more ts shows e (inner, d, u, sep) h fits =
+atom_with form close a front next x more ts shows e (inner, d, u, sep) h fits =
     let s = subst AreShort d h in
     let ends = AreShort-append inner (Mark CloseParen ∷ []) s.1.1 in
     let n = next_is a (Word x.relation) (Mark OpenParen ∷ (inner ++ (Mark CloseParen ∷ next))) (e ∙ ap (λ (i : List TokenContent). i ++ next) d ∙ ap (λ (i : List TokenContent). Word x.relation ∷ Mark OpenParen ∷ i) (append_assoc inner (Mark CloseParen ∷ []) next)) refl in
-    let y = applied_again x inner next n.rest n.left sep ends.0 fits in
+    let y = applied_again form x inner next n.rest n.left sep ends.0 fits in
     let m = shows y.0 y.2 in
     (m.0, rw (n.reads, n.is, relation_again x.relation n.lexeme.at u s.0, y.1, m.1) refl, m.2)
 
-atom_again : (close : Close) (ts : List TokenContent) → Closable close → ReadsUpTo IsAtomText FewTerms (atom_at close) (closing close ts) (left_by close ts)
-atom_again close ts k = record {
-  more = λ a front rest x. atom_with close a front (Mark Comma ∷ rest) x true rest (λ c. goes_on_more close c rest);
-  last = λ a front x. atom_with close a front (closing close ts) x false (left_by close ts) (λ c. goes_on_last close c ts k);
+atom_again : (form : Form) → (close : Close) (ts : List TokenContent) → Closable close → ReadsUpTo IsAtomText (FewTerms form) (atom_at form close) (closing close ts) (left_by close ts)
+atom_again form close ts k = record {
+  more = λ a front rest x. atom_with form close a front (Mark Comma ∷ rest) x true rest (λ c. goes_on_more close c rest);
+  last = λ a front x. atom_with form close a front (closing close ts) x false (left_by close ts) (λ c. goes_on_last close c ts k);
 }
 
-atoms_again : (close : Close) (xs : List AtomRecord) (inner rest : List TokenContent) (a : Ahead) → Closable close → ahead a ≡ inner ++ closing close rest → Separated IsAtomText inner xs → AreShort inner → length xs ≤ 8 → AllByRecursion FewTerms xs → GivesList (atoms_at close a) xs (left_by close rest)
+atoms_again : (form : Form) → (close : Close) (xs : List AtomRecord) (inner rest : List TokenContent) (a : Ahead) → Closable close → ahead a ≡ inner ++ closing close rest → Separated IsAtomText inner xs → AreShort inner → length xs ≤ most_atoms form → AllByRecursion (FewTerms form) xs → GivesList (atoms_at form close a) xs (left_by close rest)
 unfolding atoms_at
-atoms_again close xs inner rest a k e p h le fits = listed_up_to IsAtomText FewTerms (atom_at close) 8 xs inner (closing close rest) (left_by close rest) a (atom_again close rest k) e p h le fits
+atoms_again form close xs inner rest a k e p h le fits = listed_up_to IsAtomText (FewTerms form) (atom_at form close) (most_atoms form) xs inner (closing close rest) (left_by close rest) a (atom_again form close rest k) e p h le fits
 
 -- atoms begin with a word
 begins_word : (xs : List AtomRecord) (inner rest : List TokenContent) → Separated IsAtomText inner xs → (w : List ℕ) × (more : List TokenContent) × (inner ++ rest ≡ Word w ∷ more)
@@ -294,58 +296,58 @@ no_close : (close : Close) (t : TokenContent) (w : List ℕ) → t ≡ Word w �
 no_close (By s) t w e = ap (is_sign s) e
 no_close End t w e = ap is_finish e
 
-closed_at_once : (close : Close) (a : Ahead) (rest : List TokenContent) → ahead a ≡ closing close rest → GivesList (atoms_if_any_at close a) [] (left_by close rest)
+closed_at_once : (form : Form) → (close : Close) (a : Ahead) (rest : List TokenContent) → ahead a ≡ closing close rest → GivesList (atoms_if_any_at form close a) [] (left_by close rest)
 unfolding atoms_if_any_at
-closed_at_once (By s) a rest e = let n = next_is a (Mark s) rest e refl in (n.rest, rw (n.reads, n.is, is_sign-same s) refl, n.left)
-closed_at_once End a rest e = let n = next_nothing a e in (n.1, rw (n.2, n.3) refl, n.4)
+closed_at_once form (By s) a rest e = let n = next_is a (Mark s) rest e refl in (n.rest, rw (n.reads, n.is, is_sign-same s) refl, n.left)
+closed_at_once form End a rest e = let n = next_nothing a e in (n.1, rw (n.2, n.3) refl, n.4)
 
-atoms_if_any_again : (close : Close) (xs : List AtomRecord) (inner rest : List TokenContent) (a : Ahead) → Closable close → ahead a ≡ inner ++ closing close rest → AreAtomsIfAny inner xs → AreShort inner → length xs ≤ 8 → AllByRecursion FewTerms xs → GivesList (atoms_if_any_at close a) xs (left_by close rest)
+atoms_if_any_again : (form : Form) → (close : Close) (xs : List AtomRecord) (inner rest : List TokenContent) (a : Ahead) → Closable close → ahead a ≡ inner ++ closing close rest → AreAtomsIfAny inner xs → AreShort inner → length xs ≤ most_atoms form → AllByRecursion (FewTerms form) xs → GivesList (atoms_if_any_at form close a) xs (left_by close rest)
 unfolding atoms_if_any_at
-atoms_if_any_again close [] inner rest a k e p h le fits = closed_at_once close a rest (e ∙ ap (λ (i : List TokenContent). i ++ closing close rest) p)
-atoms_if_any_again close (x ∷ xs) inner rest a k e p h le fits =
+atoms_if_any_again form close [] inner rest a k e p h le fits = closed_at_once form close a rest (e ∙ ap (λ (i : List TokenContent). i ++ closing close rest) p)
+atoms_if_any_again form close (x ∷ xs) inner rest a k e p h le fits =
     let b = begins_word (x ∷ xs) inner (closing close rest) p in
     let n = next_is a (Word b.0) b.1 (e ∙ b.2) refl in
-    let i = atoms_again close (x ∷ xs) inner rest a k e p h le fits in
+    let i = atoms_again form close (x ∷ xs) inner rest a k e p h le fits in
     (i.0, rw (n.reads, no_close close n.lexeme.token b.0 n.is, i.1) refl, i.2)
 
 -- ---- queries and commands
 
 -- a query that fits the grammar is read as its parts
-pub parts_again : (a : Ahead) (query : QueryRecord) → IsQueryText (ahead a) query → AreShort (ahead a) → FitsQuery query → (inner : Ahead) × (parts_at a ≡ Ok (query.posts, query.heads, query.body, inner))
+pub parts_again : (form : Form) → (a : Ahead) (query : QueryRecord) → IsQueryText (ahead a) query → AreShort (ahead a) → FitsQuery form query → (inner : Ahead) × (parts_at form a ≡ Ok (query.posts, query.heads, query.body, inner))
 unfolding parts_at
-parts_again a query (ps, hs, bs, e, p, h, b) short fits =
+parts_again form a query (ps, hs, bs, e, p, h, b) short fits =
     let s = subst AreShort e short in
     let sp = AreShort-append ps (Mark CloseBrace ∷ (hs ++ (Mark Arrow ∷ bs))) s.1 in
     let sh = AreShort-append hs (Mark Arrow ∷ bs) sp.1.1 in
     let o = sign_is OpenBrace a (ps ++ (Mark CloseBrace ∷ (hs ++ (Mark Arrow ∷ bs)))) e in
-    let x = atoms_if_any_again (By CloseBrace) query.posts ps (hs ++ (Mark Arrow ∷ bs)) o.0 (record { apart = refl }) o.2 p sp.0 fits.0 fits.3 in
-    let y = atoms_again (By Arrow) query.heads hs bs x.0 (record { apart = refl }) x.2 h sh.0 fits.1 fits.4 in
-    let z = atoms_if_any_again End query.body bs [] y.0 tt (y.2 ∙ sym (append-nil bs)) b sh.1.1 fits.2 fits.5 in
+    let x = atoms_if_any_again form (By CloseBrace) query.posts ps (hs ++ (Mark Arrow ∷ bs)) o.0 (record { apart = refl }) o.2 p sp.0 fits.0 fits.3 in
+    let y = atoms_again form (By Arrow) query.heads hs bs x.0 (record { apart = refl }) x.2 h sh.0 fits.1 fits.4 in
+    let z = atoms_if_any_again form End query.body bs [] y.0 tt (y.2 ∙ sym (append-nil bs)) b sh.1.1 fits.2 fits.5 in
     (o.0, rw (o.1, x.1, y.1, z.1) refl)
 
 -- the parts that a command is read as
-abbrev pub ReadAs : Ahead → CommandContent → Type 0
-ReadAs a Blank = ⊥
-ReadAs a (Relation n c) = command_parts a ≡ Ok (whole (Relation n c))
-ReadAs a (Limits p j) = command_parts a ≡ Ok (whole (Limits p j))
-ReadAs a (Post w query) = (inner : Ahead) × (command_parts a ≡ Ok (posted w (query.posts, query.heads, query.body, inner)))
-ReadAs a (Withdraw n) = command_parts a ≡ Ok (whole (Withdraw n))
-ReadAs a (Insert row) = command_parts a ≡ Ok (whole (Insert row))
-ReadAs a (Delete row) = command_parts a ≡ Ok (whole (Delete row))
-ReadAs a Publish = command_parts a ≡ Ok (whole Publish)
-ReadAs a Show = command_parts a ≡ Ok (whole Show)
+abbrev pub ReadAs : (form : Form) → Ahead → CommandContent → Type 0
+ReadAs form a Blank = ⊥
+ReadAs form a (Relation n c) = command_parts form a ≡ Ok (whole (Relation n c))
+ReadAs form a (Limits p j) = command_parts form a ≡ Ok (whole (Limits p j))
+ReadAs form a (Post w query) = (inner : Ahead) × (command_parts form a ≡ Ok (posted w (query.posts, query.heads, query.body, inner)))
+ReadAs form a (Withdraw n) = command_parts form a ≡ Ok (whole (Withdraw n))
+ReadAs form a (Insert row) = command_parts form a ≡ Ok (whole (Insert row))
+ReadAs form a (Delete row) = command_parts form a ≡ Ok (whole (Delete row))
+ReadAs form a Publish = command_parts form a ≡ Ok (whole Publish)
+ReadAs form a Show = command_parts form a ≡ Ok (whole Show)
 
-pub command_again : (a : Ahead) (c : CommandContent) → FitsGrammar a.lexemes c → ReadAs a c
+pub command_again : (form : Form) → (a : Ahead) (c : CommandContent) → FitsGrammar form a.lexemes c → ReadAs form a c
 unfolding command_parts post_parts withdraw_at insert_at delete_at word_alone
-command_again a Blank f = absurd f.sentence
-command_again a (Relation w c) f =
+command_again form a Blank f = absurd f.sentence
+command_again form a (Relation w c) f =
     let n = f.sentence.0 in
     let is = f.sentence.3 in
     let s = subst AreShort f.sentence.1 f.short in
     let l = next_is a (Word (codes "relation")) (Word w ∷ Literal (Number n) ∷ []) f.sentence.1 refl in
-    let r = relation_again_at l.rest w n l.left f.sentence.2 s.1.0 (subst (λ (k : ℕ). 1 ≤ k) is f.fits.0) (subst (λ (k : ℕ). k ≤ 8) is f.fits.1) in
+    let r = relation_again_at form l.rest w n l.left f.sentence.2 s.1.0 (subst (λ (k : ℕ). 1 ≤ k) is f.fits.0) (subst (λ (k : ℕ). k ≤ most_terms form) is f.fits.1) in
     rw (l.reads, l.is, r) (ap (λ (k : ℕ). Ok (whole (Relation w k))) (sym is))
-command_again a (Limits p j) f =
+command_again form a (Limits p j) f =
     let m = f.sentence.0 in
     let n = f.sentence.1 in
     let one = f.sentence.3 in
@@ -353,36 +355,36 @@ command_again a (Limits p j) f =
     let l = next_is a (Word (codes "limits")) (Literal (Number m) ∷ Literal (Number n) ∷ []) f.sentence.2 refl in
     let r = limits_again l.rest m n l.left (subst (λ (k : ℕ). 1 ≤ k) one f.fits.0) (subst (λ (k : ℕ). k ≤ MAX_COUNT) one f.fits.1) (subst (λ (k : ℕ). 1 ≤ k) two f.fits.2) (subst (λ (k : ℕ). k ≤ MAX_COUNT) two f.fits.3) in
     rw (l.reads, l.is, r) (ap (λ (k : ℕ). Ok (whole (Limits k (count_of n)))) (sym one) ∙ ap (λ (k : ℕ). Ok (whole (Limits p k))) (sym two))
-command_again a (Post w query) f =
+command_again form a (Post w query) f =
     let rest = f.sentence.0 in
     let s = subst AreShort f.sentence.1 f.short in
     let n = next_is a (Word (codes "post")) (Word w ∷ rest) f.sentence.1 refl in
     let m = next_is n.rest (Word w) rest n.left refl in
-    let q = parts_again m.rest query (subst (λ (ts : List TokenContent). IsQueryText ts query) (sym m.left) f.sentence.2) (subst AreShort (sym m.left) s.1.1) f.fits in
+    let q = parts_again form m.rest query (subst (λ (ts : List TokenContent). IsQueryText ts query) (sym m.left) f.sentence.2) (subst AreShort (sym m.left) s.1.1) f.fits in
     (q.0, rw (n.reads, n.is, m.reads, m.is, le-ltb 32 (length w) s.1.0, q.1) refl)
-command_again a (Withdraw w) f =
+command_again form a (Withdraw w) f =
     let s = subst AreShort f.sentence f.short in
     let n = next_is a (Word (codes "withdraw")) (Word w ∷ []) f.sentence refl in
     let m = next_is n.rest (Word w) [] n.left refl in
     let e = end_is m.rest m.left in
     rw (n.reads, n.is, m.reads, m.is, le-ltb 32 (length w) s.1.0, e.1) refl
-command_again a (Insert row) f =
+command_again form a (Insert row) f =
     let rest = f.sentence.0 in
     let s = subst AreShort f.sentence.1 f.short in
     let n = next_is a (Word (codes "insert")) rest f.sentence.1 refl in
-    let r = row_again n.rest row (subst (λ (ts : List TokenContent). IsRowText ts row) (sym n.left) f.sentence.2) (subst AreShort (sym n.left) s.1) f.fits in
+    let r = row_again form n.rest row (subst (λ (ts : List TokenContent). IsRowText ts row) (sym n.left) f.sentence.2) (subst AreShort (sym n.left) s.1) f.fits in
     rw (n.reads, n.is, r) refl
-command_again a (Delete row) f =
+command_again form a (Delete row) f =
     let rest = f.sentence.0 in
     let s = subst AreShort f.sentence.1 f.short in
     let n = next_is a (Word (codes "delete")) rest f.sentence.1 refl in
-    let r = row_again n.rest row (subst (λ (ts : List TokenContent). IsRowText ts row) (sym n.left) f.sentence.2) (subst AreShort (sym n.left) s.1) f.fits in
+    let r = row_again form n.rest row (subst (λ (ts : List TokenContent). IsRowText ts row) (sym n.left) f.sentence.2) (subst AreShort (sym n.left) s.1) f.fits in
     rw (n.reads, n.is, r) refl
-command_again a Publish f =
+command_again form a Publish f =
     let n = next_is a (Word (codes "publish")) [] f.sentence refl in
     let e = end_is n.rest n.left in
     rw (n.reads, n.is, e.1) refl
-command_again a Show f =
+command_again form a Show f =
     let n = next_is a (Word (codes "show")) [] f.sentence refl in
     let e = end_is n.rest n.left in
     rw (n.reads, n.is, e.1) refl

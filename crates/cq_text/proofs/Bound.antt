@@ -25,6 +25,7 @@ use Rattle.cq_text.proofs.Machine.{Symbol, take_token}
 use Rattle.cq_text.proofs.Scan.{on_token, after_flaw, scan}
 use Rattle.cq_text.proofs.Runs.{QueryParts}
 use Rattle.cq_text.proofs.Taken.{ahead, QueryRead}
+use Rattle.cq_text.specs.declared.form.Form.{Form}
 
 or_same : (b : Bool) → (b || false) ≡ b
 or_same true = refl
@@ -139,8 +140,8 @@ if_any body ts (x ∷ xs) p = separated_any body IsAtomText (has_unbound body) t
 abbrev pub some_lack : QueryParts → Bool
 some_lack q = have_unbound q.2 q.0 || have_unbound q.2 q.1
 
-query_any : (a : Ahead) (q : QueryParts) → QueryRead a q → any q.2 (ahead q.3) ≡ some_lack q
-query_any a q r =
+query_any : (form : Form) → (a : Ahead) (q : QueryParts) → QueryRead form a q → any q.2 (ahead q.3) ≡ some_lack q
+query_any form a q r =
     let body : any q.2 r.body ≡ false = if_any q.2 r.body q.2 r.are_body ∙ own_bound q.2 in
     let heads : any q.2 (r.heads ++ (Mark Arrow ∷ r.body)) ≡ have_unbound q.2 q.1 =
     any_append q.2 r.heads (Mark Arrow ∷ r.body) ∙ ap (λ (b : Bool). any q.2 r.heads || b) body ∙ or_same (any q.2 r.heads) ∙ separated_any q.2 IsAtomText (has_unbound q.2) r.heads q.1 (atom_any q.2) r.are_heads
@@ -162,13 +163,13 @@ token_step None b at k e = absurd cc
 token_step (Some rs) true at k e = absurd cc
 token_step (Some rs) false at k e = (rs, e)
 
-pub scan_good : (ss : List Symbol) (p : Place) (ls : List LexemeContent) (end : ℕ) → scan ss p ls end ≡ Ok tt → AreGood ls
+pub scan_good : (form : Form) → (ss : List Symbol) (p : Place) (ls : List LexemeContent) (end : ℕ) → scan form ss p ls end ≡ Ok tt → AreGood ls
 unfolding scan
-scan_good ss p [] end e = tt
-scan_good ss p (l ∷ ls) end e =
+scan_good form ss p [] end e = tt
+scan_good form ss p (l ∷ ls) end e =
     let f = scan_step (flaw l.token) l.at _ e in
-    let t = token_step (take_token ss l.token) (is_over p l.token) l.at _ f.1 in
-    (f.0, scan_good t.0 (behind_token p l.token) ls end t.1)
+    let t = token_step (take_token ss l.token) (is_over form p l.token) l.at _ f.1 in
+    (f.0, scan_good form t.0 (behind_token form p l.token) ls end t.1)
 
 walk_none : (body : List AtomRecord) (ls : List LexemeContent) → any body (tokens_of ls) ≡ false → first_unbound_at body ls ≡ None
 walk_none body [] e = refl
@@ -219,9 +220,9 @@ some_unbound q good e b =
     let w = walk_some q.2 q.3.lexemes q.3.end (e ∙ b) good in
     record { offset = w.0; read = unbound_read q w.0 b w.2; not_restricted = λ r. contradiction q b (none_unbound q.2 q.0 r.0) (none_unbound q.2 q.1 r.1); first = w.1 }
 
-pub bound_or_not : (a : Ahead) (q : QueryParts) → QueryRead a q → AreGood q.3.lexemes → AllBound q ⊎ SomeUnbound q
-bound_or_not a q r good = by_case (some_lack q) refl
+pub bound_or_not : (form : Form) → (a : Ahead) (q : QueryParts) → QueryRead form a q → AreGood q.3.lexemes → AllBound q ⊎ SomeUnbound q
+bound_or_not form a q r good = by_case (some_lack q) refl
   where
     by_case : (b : Bool) → some_lack q ≡ b → AllBound q ⊎ SomeUnbound q
-    by_case true e = inr (some_unbound q good (query_any a q r) e)
-    by_case false e = inl (all_bound q (query_any a q r) e)
+    by_case true e = inr (some_unbound q good (query_any form a q r) e)
+    by_case false e = inl (all_bound q (query_any form a q r) e)

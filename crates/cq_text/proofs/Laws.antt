@@ -4,7 +4,6 @@ use Rattle.std.specs.Prelude.{IfOk, ◌==◌, ◌↔◌}
 use Rattle.std.proofs.lemmas.Bool.{eqb-true, cases_lt}
 use Rattle.cq_atom.specs.Atom.{RowRecord}
 use Rattle.cq_atom.specs.Query.{QueryRecord}
-use Rattle.cq_text.specs.declared.limits.TheConstants.{MAX_LINE}
 use Rattle.cq_text.specs.declared.fault.Kind.{Kind}
 use Rattle.cq_text.specs.declared.fault.Kind.TheVariants as kinds
 use Rattle.cq_text.specs.declared.fault.TextFault.{TextFault}
@@ -27,6 +26,8 @@ use Rattle.cq_text.proofs.Runs.{QueryParts, parts_at, query_by_parts, run_query,
 use Rattle.cq_text.proofs.Taken.{QueryRead, parts_ok, query_fits, PostRead, PartsRead, command_parts_ok, post_fits, row_ok}
 use Rattle.cq_text.proofs.Again.{parts_again, command_again, row_again}
 use Rattle.cq_text.proofs.Bound.{AreGood, scan_good, AllBound, SomeUnbound, bound_or_not, record_of}
+use Rattle.cq_text.specs.declared.form.Form.{Form}
+use Rattle.cq_text.specs.Forms.{most_bytes}
 
 -- ---- results
 
@@ -51,79 +52,79 @@ fault_is k j m n e = (cc, cc)
 leave_command : Leave IsCommandText [] (command ∷ [])
 leave_command = record { from = λ more q. Is-from_one command more q; to = λ more s. Expects-one command more s; ordered = (refl, tt) }
 
-pub good_command : (a : Ahead) (p : Parts) → command_parts a ≡ Ok p → AreGood a.lexemes
-good_command a p e = scan_good (command ∷ []) opening a.lexemes a.end (run_command a ∙ passed (command_parts a) p e)
+pub good_command : (form : Form) → (a : Ahead) (p : Parts) → command_parts form a ≡ Ok p → AreGood a.lexemes
+good_command form a p e = scan_good form (command ∷ []) opening a.lexemes a.end (run_command form a ∙ passed (command_parts form a) p e)
 
-behind_post : (ls : List LexemeContent) (w : List ℕ) (q : QueryParts) (r : PostRead ls w q) → ls ≡ r.word ∷ r.name ∷ r.query.brace ∷ q.3.lexemes
-behind_post ls w q r = r.split ∙ ap (λ (l : List LexemeContent). r.word ∷ r.name ∷ l) r.query.behind
+behind_post : (form : Form) → (ls : List LexemeContent) (w : List ℕ) (q : QueryParts) (r : (PostRead form) ls w q) → ls ≡ r.word ∷ r.name ∷ r.query.brace ∷ q.3.lexemes
+behind_post form ls w q r = r.split ∙ ap (λ (l : List LexemeContent). r.word ∷ r.name ∷ l) r.query.behind
 
-brace_of_post : (ls : List LexemeContent) (w : List ℕ) (q : QueryParts) → PostRead ls w q → behind_brace ls ≡ q.3.lexemes
-brace_of_post ls w q r = ap behind_brace (behind_post ls w q r) ∙ rw (r.is_word, r.is_name, r.query.is_brace) refl
+brace_of_post : (form : Form) → (ls : List LexemeContent) (w : List ℕ) (q : QueryParts) → PostRead form ls w q → behind_brace ls ≡ q.3.lexemes
+brace_of_post form ls w q r = ap behind_brace (behind_post form ls w q r) ∙ rw (r.is_word, r.is_name, r.query.is_brace) refl
 
-good_behind : (ls : List LexemeContent) (w : List ℕ) (q : QueryParts) → PostRead ls w q → AreGood ls → AreGood q.3.lexemes
-good_behind ls w q r g = (subst AreGood (behind_post ls w q r) g).1.1.1
+good_behind : (form : Form) → (ls : List LexemeContent) (w : List ℕ) (q : QueryParts) → PostRead form ls w q → AreGood ls → AreGood q.3.lexemes
+good_behind form ls w q r g = (subst AreGood (behind_post form ls w q r) g).1.1.1
 
-pub post_verdict : (ls : List LexemeContent) (w : List ℕ) (q : QueryParts) → PostRead ls w q → AreGood ls → AllBound q ⊎ SomeUnbound q
-post_verdict ls w q r g = bound_or_not r.rest q r.query (good_behind ls w q r g)
+pub post_verdict : (form : Form) → (ls : List LexemeContent) (w : List ℕ) (q : QueryParts) → PostRead form ls w q → AreGood ls → AllBound q ⊎ SomeUnbound q
+post_verdict form ls w q r g = bound_or_not form r.rest q r.query (good_behind form ls w q r g)
 
-abbrev FoundCommand : Ahead → CommandContent → Type 0
-FoundCommand a c = FitsGrammar a.lexemes c × IsRestrictedCommand c
+abbrev FoundCommand : (form : Form) → Ahead → CommandContent → Type 0
+FoundCommand form a c = FitsGrammar form a.lexemes c × IsRestrictedCommand c
 
-found_parts : (a : Ahead) (p : Parts) (c : CommandContent) → PartsRead a.lexemes p → AreGood a.lexemes → command_of_parts p ≡ Ok c → FoundCommand a c
-found_parts a (posted w q) c r g e = elim (post_verdict a.lexemes w q r g) [
+found_parts : (form : Form) → (a : Ahead) (p : Parts) (c : CommandContent) → PartsRead form a.lexemes p → AreGood a.lexemes → command_of_parts p ≡ Ok c → FoundCommand form a c
+found_parts form a (posted w q) c r g e = elim (post_verdict form a.lexemes w q r g) [
   | inl b ↦
       let made : ◌≡◌ {A = Result CommandContent TextFault} (Ok (Post w (record_of q))) (Ok c) = sym (ap (λ (s : Result QueryRecord TextFault). s >>= λ query. Ok (Post w query)) b.read) ∙ e in
-      subst (λ (d : CommandContent). FoundCommand a d) (ok_is (Post w (record_of q)) c made) (post_fits a.lexemes w q r, b.restricted)
+      subst (λ (d : CommandContent). FoundCommand form a d) (ok_is (Post w (record_of q)) c made) (post_fits form a.lexemes w q r, b.restricted)
   | inr s ↦ absurd (never_ok kinds.Unbound s.offset c (sym (ap (λ (s : Result QueryRecord TextFault). s >>= λ query. Ok (Post w query)) s.read) ∙ e))
 ]
-found_parts a (whole d) c r g e = subst (λ (d : CommandContent). FoundCommand a d) (ok_is d c e) (r.fits, r.restricted)
+found_parts form a (whole d) c r g e = subst (λ (d : CommandContent). FoundCommand form a d) (ok_is d c e) (r.fits, r.restricted)
 
-pub command_found : (a : Ahead) (c : CommandContent) → command_at a ≡ Ok c → FoundCommand a c
-command_found a c e =
-    let p = bind_ok (command_parts a) command_of_parts c (sym (command_by_parts a) ∙ e) in
-    found_parts a p.0 c (command_parts_ok a p.0 p.1) (good_command a p.0 p.1) p.2
+pub command_found : (form : Form) → (a : Ahead) (c : CommandContent) → command_at form a ≡ Ok c → FoundCommand form a c
+command_found form a c e =
+    let p = bind_ok (command_parts form a) command_of_parts c (sym (command_by_parts form a) ∙ e) in
+    found_parts form a p.0 c (command_parts_ok form a p.0 p.1) (good_command form a p.0 p.1) p.2
 
-by_parts : (a : Ahead) (p : Parts) → command_parts a ≡ Ok p → command_at a ≡ command_of_parts p
-by_parts a p e = command_by_parts a ∙ ap (λ (r : Result Parts TextFault). r >>= command_of_parts) e
+by_parts : (form : Form) → (a : Ahead) (p : Parts) → command_parts form a ≡ Ok p → command_at form a ≡ command_of_parts p
+by_parts form a p e = command_by_parts form a ∙ ap (λ (r : Result Parts TextFault). r >>= command_of_parts) e
 
-pub command_only : (a : Ahead) (c : CommandContent) → FitsGrammar a.lexemes c → IsRestrictedCommand c → command_at a ≡ Ok c
-command_only a Blank f restricted = absurd f.sentence
-command_only a (Relation n k) f restricted = by_parts a (whole (Relation n k)) (command_again a (Relation n k) f)
-command_only a (Limits m n) f restricted = by_parts a (whole (Limits m n)) (command_again a (Limits m n) f)
-command_only a (Post w query) f restricted =
-    let r = command_again a (Post w query) f in
+pub command_only : (form : Form) → (a : Ahead) (c : CommandContent) → FitsGrammar form a.lexemes c → IsRestrictedCommand c → command_at form a ≡ Ok c
+command_only form a Blank f restricted = absurd f.sentence
+command_only form a (Relation n k) f restricted = by_parts form a (whole (Relation n k)) (command_again form a (Relation n k) f)
+command_only form a (Limits m n) f restricted = by_parts form a (whole (Limits m n)) (command_again form a (Limits m n) f)
+command_only form a (Post w query) f restricted =
+    let r = command_again form a (Post w query) f in
     let q : QueryParts = (query.posts, query.heads, query.body, r.0) in
-    elim (post_verdict a.lexemes w q (command_parts_ok a (posted w q) r.1) (good_command a (posted w q) r.1)) [
-      | inl b ↦ by_parts a (posted w q) r.1 ∙ ap (λ (s : Result QueryRecord TextFault). s >>= λ query. Ok (Post w query)) b.read
+    elim (post_verdict form a.lexemes w q (command_parts_ok form a (posted w q) r.1) (good_command form a (posted w q) r.1)) [
+      | inl b ↦ by_parts form a (posted w q) r.1 ∙ ap (λ (s : Result QueryRecord TextFault). s >>= λ query. Ok (Post w query)) b.read
       | inr s ↦ absurd (s.not_restricted restricted)
     ]
-command_only a (Withdraw n) f restricted = by_parts a (whole (Withdraw n)) (command_again a (Withdraw n) f)
-command_only a (Insert row) f restricted = by_parts a (whole (Insert row)) (command_again a (Insert row) f)
-command_only a (Delete row) f restricted = by_parts a (whole (Delete row)) (command_again a (Delete row) f)
-command_only a Publish f restricted = by_parts a (whole Publish) (command_again a Publish f)
-command_only a Show f restricted = by_parts a (whole Show) (command_again a Show f)
+command_only form a (Withdraw n) f restricted = by_parts form a (whole (Withdraw n)) (command_again form a (Withdraw n) f)
+command_only form a (Insert row) f restricted = by_parts form a (whole (Insert row)) (command_again form a (Insert row) f)
+command_only form a (Delete row) f restricted = by_parts form a (whole (Delete row)) (command_again form a (Delete row) f)
+command_only form a Publish f restricted = by_parts form a (whole Publish) (command_again form a Publish f)
+command_only form a Show f restricted = by_parts form a (whole Show) (command_again form a Show f)
 
-abbrev CommandFault : Ahead → Kind → ℕ → Type 0
-CommandFault a kind offset = FirstTokenFault IsCommandText [] a.lexemes a.end kind offset ⊎ ((kind ≡ kinds.Unbound) × UnboundInCommand a.lexemes offset)
+abbrev CommandFault : (form : Form) → Ahead → Kind → ℕ → Type 0
+CommandFault form a kind offset = FirstTokenFault form IsCommandText [] a.lexemes a.end kind offset ⊎ ((kind ≡ kinds.Unbound) × UnboundInCommand form a.lexemes offset)
 
-fault_of_parts : (a : Ahead) (p : Parts) (kind : Kind) (offset : ℕ) → PartsRead a.lexemes p → AreGood a.lexemes → command_of_parts p ≡ fault kind offset → CommandFault a kind offset
-fault_of_parts a (posted w q) kind offset r g e = elim (post_verdict a.lexemes w q r g) [
+fault_of_parts : (form : Form) → (a : Ahead) (p : Parts) (kind : Kind) (offset : ℕ) → PartsRead form a.lexemes p → AreGood a.lexemes → command_of_parts p ≡ fault kind offset → CommandFault form a kind offset
+fault_of_parts form a (posted w q) kind offset r g e = elim (post_verdict form a.lexemes w q r g) [
   | inl b ↦ absurd (never_ok kind offset (Post w (record_of q)) (sym e ∙ ap (λ (s : Result QueryRecord TextFault). s >>= λ query. Ok (Post w query)) b.read))
   | inr s ↦
       let same = fault_is kinds.Unbound kind s.offset offset (sym (ap (λ (s : Result QueryRecord TextFault). s >>= λ query. Ok (Post w query)) s.read) ∙ e) in
-      inr (same.0, (w, record_of q, post_fits a.lexemes w q r, ap (first_unbound_at q.2) (brace_of_post a.lexemes w q r) ∙ s.first ∙ ap (λ (n : ℕ). Some n) (sym same.1)))
+      inr (same.0, (w, record_of q, post_fits form a.lexemes w q r, ap (first_unbound_at q.2) (brace_of_post form a.lexemes w q r) ∙ s.first ∙ ap (λ (n : ℕ). Some n) (sym same.1)))
 ]
-fault_of_parts a (whole c) kind offset r g e = absurd (never_ok kind offset c (sym e))
+fault_of_parts form a (whole c) kind offset r g e = absurd (never_ok kind offset c (sym e))
 
-pub command_fault : (a : Ahead) (kind : Kind) (offset : ℕ) → command_at a ≡ fault kind offset → CommandFault a kind offset
+pub command_fault : (form : Form) → (a : Ahead) (kind : Kind) (offset : ℕ) → command_at form a ≡ fault kind offset → CommandFault form a kind offset
 unfolding place_behind
-command_fault a kind offset e = by_case (command_parts a) refl (sym (command_by_parts a) ∙ e)
+command_fault form a kind offset e = by_case (command_parts form a) refl (sym (command_by_parts form a) ∙ e)
   where
-    by_case : (r : Result Parts TextFault) → command_parts a ≡ r → (r >>= command_of_parts) ≡ fault kind offset → CommandFault a kind offset
-    by_case (Ok p) d h = fault_of_parts a p kind offset (command_parts_ok a p d) (good_command a p d) h
+    by_case : (r : Result Parts TextFault) → command_parts form a ≡ r → (r >>= command_of_parts) ≡ fault kind offset → CommandFault form a kind offset
+    by_case (Ok p) d h = fault_of_parts form a p kind offset (command_parts_ok form a p d) (good_command form a p d) h
     by_case (Err f) d h =
         let same : f ≡ At kind offset = cc in
-        inl (first_from_scan IsCommandText [] (command ∷ []) a.lexemes a.end kind offset leave_command (run_command a ∙ ap (λ (r : Result Parts TextFault). r >>= λ x. Ok tt) d ∙ ap (λ (g : TextFault). Err g) same))
+        inl (first_from_scan form IsCommandText [] (command ∷ []) a.lexemes a.end kind offset leave_command (run_command form a ∙ ap (λ (r : Result Parts TextFault). r >>= λ x. Ok tt) d ∙ ap (λ (g : TextFault). Err g) same))
 
 some_none : (n : ℕ) → ◌≡◌ {A = Option ℕ} (Some n) None → ⊥
 some_none n e = cc
@@ -131,20 +132,20 @@ some_none n e = cc
 some_same : (m n : ℕ) → Some m ≡ Some n → m ≡ n
 some_same m n e = cc
 
-pub command_only_fault : (a : Ahead) (kind : Kind) (offset : ℕ) → CommandFault a kind offset → command_at a ≡ fault kind offset
+pub command_only_fault : (form : Form) → (a : Ahead) (kind : Kind) (offset : ℕ) → CommandFault form a kind offset → command_at form a ≡ fault kind offset
 unfolding place_behind
-command_only_fault a kind offset (inl h) =
-    let e = only_fault (command_parts a) kind offset (sym (run_command a) ∙ scan_from_first IsCommandText [] (command ∷ []) a.lexemes a.end kind offset leave_command h) in
-    command_by_parts a ∙ ap (λ (r : Result Parts TextFault). r >>= command_of_parts) e
-command_only_fault a kind offset (inr (k, (w, query, f, at))) =
-    let r = command_again a (Post w query) f in
+command_only_fault form a kind offset (inl h) =
+    let e = only_fault (command_parts form a) kind offset (sym (run_command form a) ∙ scan_from_first form IsCommandText [] (command ∷ []) a.lexemes a.end kind offset leave_command h) in
+    command_by_parts form a ∙ ap (λ (r : Result Parts TextFault). r >>= command_of_parts) e
+command_only_fault form a kind offset (inr (k, (w, query, f, at))) =
+    let r = command_again form a (Post w query) f in
     let q : QueryParts = (query.posts, query.heads, query.body, r.0) in
-    let read = command_parts_ok a (posted w q) r.1 in
-    let here : first_unbound_at query.body q.3.lexemes ≡ Some offset = ap (first_unbound_at query.body) (sym (brace_of_post a.lexemes w q read)) ∙ at in
-    elim (post_verdict a.lexemes w q read (good_command a (posted w q) r.1)) [
+    let read = command_parts_ok form a (posted w q) r.1 in
+    let here : first_unbound_at query.body q.3.lexemes ≡ Some offset = ap (first_unbound_at query.body) (sym (brace_of_post form a.lexemes w q read)) ∙ at in
+    elim (post_verdict form a.lexemes w q read (good_command form a (posted w q) r.1)) [
       | inl b ↦ absurd (some_none offset (sym here ∙ b.nowhere))
       | inr s ↦
-          by_parts a (posted w q) r.1 ∙ ap (λ (s : Result QueryRecord TextFault). s >>= λ query. Ok (Post w query)) s.read
+          by_parts form a (posted w q) r.1 ∙ ap (λ (s : Result QueryRecord TextFault). s >>= λ query. Ok (Post w query)) s.read
           ∙ ap (λ (n : ℕ). fault kinds.Unbound n) (some_same s.offset offset (sym s.first ∙ here)) ∙ ap (λ (j : Kind). fault j offset) (sym k)
     ]
 
@@ -153,72 +154,72 @@ command_only_fault a kind offset (inr (k, (w, query, f, at))) =
 leave_query : Leave IsLoneQuery [] query_symbols
 leave_query = record { from = λ more q. query_from_expected more q; to = λ more s. query_expected more s; ordered = (tt, (tt, (tt, (tt, (refl, tt))))) }
 
-good_query : (a : Ahead) (q : QueryParts) → parts_at a ≡ Ok q → AreGood a.lexemes
-good_query a q e = scan_good query_symbols opening a.lexemes a.end (run_query opening a ∙ passed (parts_at a) q e)
+good_query : (form : Form) → (a : Ahead) (q : QueryParts) → parts_at form a ≡ Ok q → AreGood a.lexemes
+good_query form a q e = scan_good form query_symbols opening a.lexemes a.end (run_query form opening a ∙ passed (parts_at form a) q e)
 
-pub query_verdict : (a : Ahead) (q : QueryParts) → parts_at a ≡ Ok q → AllBound q ⊎ SomeUnbound q
-query_verdict a q e =
-    let r = parts_ok a q e in
-    bound_or_not a q r (subst AreGood r.behind (good_query a q e)).1
+pub query_verdict : (form : Form) → (a : Ahead) (q : QueryParts) → parts_at form a ≡ Ok q → AllBound q ⊎ SomeUnbound q
+query_verdict form a q e =
+    let r = parts_ok form a q e in
+    bound_or_not form a q r (subst AreGood r.behind (good_query form a q e)).1
 
-brace_of_query : (a : Ahead) (q : QueryParts) → QueryRead a q → behind_brace a.lexemes ≡ q.3.lexemes
-brace_of_query a q r = ap behind_brace r.behind ∙ rw r.is_brace refl
+brace_of_query : (form : Form) → (a : Ahead) (q : QueryParts) → QueryRead form a q → behind_brace a.lexemes ≡ q.3.lexemes
+brace_of_query form a q r = ap behind_brace r.behind ∙ rw r.is_brace refl
 
-abbrev FoundQuery : Ahead → QueryRecord → Type 0
-FoundQuery a query = FitsQueryGrammar a.lexemes query × IsRestricted query
+abbrev FoundQuery : (form : Form) → Ahead → QueryRecord → Type 0
+FoundQuery form a query = FitsQueryGrammar form a.lexemes query × IsRestricted query
 
-pub query_found : (a : Ahead) (query : QueryRecord) → query_at a ≡ Ok query → FoundQuery a query
-query_found a query e =
-    let p = bind_ok (parts_at a) (λ q. bound_query q.0 q.1 q.2 q.3) query (sym (query_by_parts a) ∙ e) in
-    elim (query_verdict a p.0 p.1) [
-      | inl b ↦ subst (λ (x : QueryRecord). FoundQuery a x) (ok_is (record_of p.0) query (sym b.read ∙ p.2)) (query_fits a p.0 (parts_ok a p.0 p.1), b.restricted)
+pub query_found : (form : Form) → (a : Ahead) (query : QueryRecord) → query_at form a ≡ Ok query → FoundQuery form a query
+query_found form a query e =
+    let p = bind_ok (parts_at form a) (λ q. bound_query q.0 q.1 q.2 q.3) query (sym (query_by_parts form a) ∙ e) in
+    elim (query_verdict form a p.0 p.1) [
+      | inl b ↦ subst (λ (x : QueryRecord). FoundQuery form a x) (ok_is (record_of p.0) query (sym b.read ∙ p.2)) (query_fits form a p.0 (parts_ok form a p.0 p.1), b.restricted)
       | inr s ↦ absurd (never_ok kinds.Unbound s.offset query (sym s.read ∙ p.2))
     ]
 
-query_parts : (a : Ahead) (q : QueryParts) → parts_at a ≡ Ok q → query_at a ≡ bound_query q.0 q.1 q.2 q.3
-query_parts a q e = query_by_parts a ∙ ap (λ (r : Result QueryParts TextFault). r >>= λ x. bound_query x.0 x.1 x.2 x.3) e
+query_parts : (form : Form) → (a : Ahead) (q : QueryParts) → parts_at form a ≡ Ok q → query_at form a ≡ bound_query q.0 q.1 q.2 q.3
+query_parts form a q e = query_by_parts form a ∙ ap (λ (r : Result QueryParts TextFault). r >>= λ x. bound_query x.0 x.1 x.2 x.3) e
 
-pub query_only : (a : Ahead) (query : QueryRecord) → FitsQueryGrammar a.lexemes query → IsRestricted query → query_at a ≡ Ok query
-query_only a query f restricted =
-    let r = parts_again a query f.sentence f.short f.fits in
+pub query_only : (form : Form) → (a : Ahead) (query : QueryRecord) → FitsQueryGrammar form a.lexemes query → IsRestricted query → query_at form a ≡ Ok query
+query_only form a query f restricted =
+    let r = parts_again form a query f.sentence f.short f.fits in
     let q : QueryParts = (query.posts, query.heads, query.body, r.0) in
-    elim (query_verdict a q r.1) [
-      | inl b ↦ query_parts a q r.1 ∙ b.read
+    elim (query_verdict form a q r.1) [
+      | inl b ↦ query_parts form a q r.1 ∙ b.read
       | inr s ↦ absurd (s.not_restricted restricted)
     ]
 
-abbrev QueryFault : Ahead → Kind → ℕ → Type 0
-QueryFault a kind offset = FirstTokenFault IsLoneQuery [] a.lexemes a.end kind offset ⊎ ((kind ≡ kinds.Unbound) × UnboundInQuery a.lexemes offset)
+abbrev QueryFault : (form : Form) → Ahead → Kind → ℕ → Type 0
+QueryFault form a kind offset = FirstTokenFault form IsLoneQuery [] a.lexemes a.end kind offset ⊎ ((kind ≡ kinds.Unbound) × UnboundInQuery form a.lexemes offset)
 
-pub query_fault : (a : Ahead) (kind : Kind) (offset : ℕ) → query_at a ≡ fault kind offset → QueryFault a kind offset
+pub query_fault : (form : Form) → (a : Ahead) (kind : Kind) (offset : ℕ) → query_at form a ≡ fault kind offset → QueryFault form a kind offset
 unfolding place_behind
-query_fault a kind offset e = by_case (parts_at a) refl (sym (query_by_parts a) ∙ e)
+query_fault form a kind offset e = by_case (parts_at form a) refl (sym (query_by_parts form a) ∙ e)
   where
-    by_case : (r : Result QueryParts TextFault) → parts_at a ≡ r → (r >>= λ q. bound_query q.0 q.1 q.2 q.3) ≡ fault kind offset → QueryFault a kind offset
-    by_case (Ok q) d h = elim (query_verdict a q d) [
+    by_case : (r : Result QueryParts TextFault) → parts_at form a ≡ r → (r >>= λ q. bound_query q.0 q.1 q.2 q.3) ≡ fault kind offset → QueryFault form a kind offset
+    by_case (Ok q) d h = elim (query_verdict form a q d) [
       | inl b ↦ absurd (never_ok kind offset (record_of q) (sym h ∙ b.read))
       | inr s ↦
           let same = fault_is kinds.Unbound kind s.offset offset (sym s.read ∙ h) in
-          let r = parts_ok a q d in
-          inr (same.0, (record_of q, query_fits a q r, ap (first_unbound_at q.2) (brace_of_query a q r) ∙ s.first ∙ ap (λ (n : ℕ). Some n) (sym same.1)))
+          let r = parts_ok form a q d in
+          inr (same.0, (record_of q, query_fits form a q r, ap (first_unbound_at q.2) (brace_of_query form a q r) ∙ s.first ∙ ap (λ (n : ℕ). Some n) (sym same.1)))
     ]
     by_case (Err f) d h =
         let same : f ≡ At kind offset = cc in
-        inl (first_from_scan IsLoneQuery [] query_symbols a.lexemes a.end kind offset leave_query (run_query opening a ∙ ap (λ (r : Result QueryParts TextFault). r >>= λ x. Ok tt) d ∙ ap (λ (g : TextFault). Err g) same))
+        inl (first_from_scan form IsLoneQuery [] query_symbols a.lexemes a.end kind offset leave_query (run_query form opening a ∙ ap (λ (r : Result QueryParts TextFault). r >>= λ x. Ok tt) d ∙ ap (λ (g : TextFault). Err g) same))
 
-pub query_only_fault : (a : Ahead) (kind : Kind) (offset : ℕ) → QueryFault a kind offset → query_at a ≡ fault kind offset
+pub query_only_fault : (form : Form) → (a : Ahead) (kind : Kind) (offset : ℕ) → QueryFault form a kind offset → query_at form a ≡ fault kind offset
 unfolding place_behind
-query_only_fault a kind offset (inl h) =
-    let e = only_fault (parts_at a) kind offset (sym (run_query opening a) ∙ scan_from_first IsLoneQuery [] query_symbols a.lexemes a.end kind offset leave_query h) in
-    query_by_parts a ∙ ap (λ (r : Result QueryParts TextFault). r >>= λ q. bound_query q.0 q.1 q.2 q.3) e
-query_only_fault a kind offset (inr (k, (query, f, at))) =
-    let r = parts_again a query f.sentence f.short f.fits in
+query_only_fault form a kind offset (inl h) =
+    let e = only_fault (parts_at form a) kind offset (sym (run_query form opening a) ∙ scan_from_first form IsLoneQuery [] query_symbols a.lexemes a.end kind offset leave_query h) in
+    query_by_parts form a ∙ ap (λ (r : Result QueryParts TextFault). r >>= λ q. bound_query q.0 q.1 q.2 q.3) e
+query_only_fault form a kind offset (inr (k, (query, f, at))) =
+    let r = parts_again form a query f.sentence f.short f.fits in
     let q : QueryParts = (query.posts, query.heads, query.body, r.0) in
-    let here : first_unbound_at query.body q.3.lexemes ≡ Some offset = ap (first_unbound_at query.body) (sym (brace_of_query a q (parts_ok a q r.1))) ∙ at in
-    elim (query_verdict a q r.1) [
+    let here : first_unbound_at query.body q.3.lexemes ≡ Some offset = ap (first_unbound_at query.body) (sym (brace_of_query form a q (parts_ok form a q r.1))) ∙ at in
+    elim (query_verdict form a q r.1) [
       | inl b ↦ absurd (some_none offset (sym here ∙ b.nowhere))
       | inr s ↦
-          query_parts a q r.1 ∙ s.read ∙ ap (λ (n : ℕ). fault kinds.Unbound n) (some_same s.offset offset (sym s.first ∙ here)) ∙ ap (λ (j : Kind). fault j offset) (sym k)
+          query_parts form a q r.1 ∙ s.read ∙ ap (λ (n : ℕ). fault kinds.Unbound n) (some_same s.offset offset (sym s.first ∙ here)) ∙ ap (λ (j : Kind). fault j offset) (sym k)
     ]
 
 -- ---- ground atoms
@@ -226,21 +227,21 @@ query_only_fault a kind offset (inr (k, (query, f, at))) =
 leave_row : Leave IsLoneRow [] row_symbols
 leave_row = record { from = λ more q. row_from_expected more q; to = λ more s. row_expected more s; ordered = (tt, (tt, (tt, (tt, tt)))) }
 
-pub row_only : (a : Ahead) (row : RowRecord) → FitsRowGrammar a.lexemes row → row_at a ≡ Ok row
-row_only a row f = row_again a row f.sentence f.short f.fits
+pub row_only : (form : Form) → (a : Ahead) (row : RowRecord) → FitsRowGrammar form a.lexemes row → row_at form a ≡ Ok row
+row_only form a row f = row_again form a row f.sentence f.short f.fits
 
-abbrev RowFault : Ahead → Kind → ℕ → Type 0
-RowFault a kind offset = FirstTokenFault IsLoneRow [] a.lexemes a.end kind offset ⊎ ((kind ≡ kinds.Unbound) × UnboundInRow a.lexemes offset)
+abbrev RowFault : (form : Form) → Ahead → Kind → ℕ → Type 0
+RowFault form a kind offset = FirstTokenFault form IsLoneRow [] a.lexemes a.end kind offset ⊎ ((kind ≡ kinds.Unbound) × UnboundInRow a.lexemes offset)
 
-pub row_fault : (a : Ahead) (kind : Kind) (offset : ℕ) → row_at a ≡ fault kind offset → RowFault a kind offset
+pub row_fault : (form : Form) → (a : Ahead) (kind : Kind) (offset : ℕ) → row_at form a ≡ fault kind offset → RowFault form a kind offset
 unfolding place_behind
-row_fault a kind offset e =
-    inl (first_from_scan IsLoneRow [] row_symbols a.lexemes a.end kind offset leave_row (run_row a ∙ ap (λ (r : Result RowRecord TextFault). r >>= λ x. Ok tt) e))
+row_fault form a kind offset e =
+    inl (first_from_scan form IsLoneRow [] row_symbols a.lexemes a.end kind offset leave_row (run_row form a ∙ ap (λ (r : Result RowRecord TextFault). r >>= λ x. Ok tt) e))
 
-pub row_only_fault : (a : Ahead) (kind : Kind) (offset : ℕ) → RowFault a kind offset → row_at a ≡ fault kind offset
+pub row_only_fault : (form : Form) → (a : Ahead) (kind : Kind) (offset : ℕ) → RowFault form a kind offset → row_at form a ≡ fault kind offset
 unfolding place_behind
-row_only_fault a kind offset (inl h) = only_fault (row_at a) kind offset (sym (run_row a) ∙ scan_from_first IsLoneRow [] row_symbols a.lexemes a.end kind offset leave_row h)
-row_only_fault a kind offset (inr (k, none)) = absurd none
+row_only_fault form a kind offset (inl h) = only_fault (row_at form a) kind offset (sym (run_row form a) ∙ scan_from_first form IsLoneRow [] row_symbols a.lexemes a.end kind offset leave_row h)
+row_only_fault form a kind offset (inr (k, none)) = absurd none
 
 -- ---- blank texts
 
@@ -272,9 +273,9 @@ begins_word ts (Delete row) (rest, e, r) = (_, _, e)
 begins_word ts Publish e = (_, _, e)
 begins_word ts Show e = (_, _, e)
 
-pub blank_alone : (text : List ℕ) (c : CommandContent) → is_blank text ≡ true → StandsFor text c → c ≡ Blank
-blank_alone text c e (short, inl (is, blank)) = is
-blank_alone text c e (short, inr (f, restricted)) = let b = begins_word (tokens_of (lexemes_of text)) c f.sentence in absurd (no_token 0 text e b.0 b.1 b.2)
+pub blank_alone : (form : Form) → (text : List ℕ) (c : CommandContent) → is_blank text ≡ true → StandsFor form text c → c ≡ Blank
+blank_alone form text c e (short, inl (is, blank)) = is
+blank_alone form text c e (short, inr (f, restricted)) = let b = begins_word (tokens_of (lexemes_of text)) c f.sentence in absurd (no_token 0 text e b.0 b.1 b.2)
 
 -- ---- what a function returned, by the laws
 
@@ -288,67 +289,67 @@ as_fault (Ok x) kind offset e = absurd (never_ok kind offset x e)
 as_fault (Err NoMemory) kind offset e = inr refl
 as_fault (Err (At k o)) kind offset e = inl (sym e)
 
-abbrev ReadText : Result CommandContent TextFault → List ℕ → Type 0
-ReadText r text = Gives (λ x. x) r (command_at (ahead_of_text text))
+abbrev ReadText : (form : Form) → Result CommandContent TextFault → List ℕ → Type 0
+ReadText form r text = Gives (λ x. x) r (command_at form (ahead_of_text text))
 
-pub found_in : (r : Result CommandContent TextFault) (text : List ℕ) → ReadText r text → length text ≤ MAX_LINE → IfOk r (λ c. StandsFor text c)
-found_in (Ok c) text g le = let f = command_found (ahead_of_text text) c g in (le, inr f)
-found_in (Err e) text g le = tt
+pub found_in : (form : Form) → (r : Result CommandContent TextFault) (text : List ℕ) → ReadText form r text → length text ≤ most_bytes form → IfOk r (λ c. StandsFor form text c)
+found_in form (Ok c) text g le = let f = command_found form (ahead_of_text text) c g in (le, inr f)
+found_in form (Err e) text g le = tt
 
-pub only_in : (r : Result CommandContent TextFault) (text : List ℕ) (c : CommandContent) → ReadText r text → (is_blank text ≡ true → ⊥) → StandsFor text c → OrNoMemory r (Ok c)
-only_in r text c g not_blank (le, inl (is, blank)) = absurd (not_blank blank)
-only_in r text c g not_blank (le, inr (f, restricted)) = as_given r c (subst (λ (s : Result CommandContent TextFault). Gives (λ x. x) r s) (command_only (ahead_of_text text) c f restricted) g)
+pub only_in : (form : Form) → (r : Result CommandContent TextFault) (text : List ℕ) (c : CommandContent) → ReadText form r text → (is_blank text ≡ true → ⊥) → StandsFor form text c → OrNoMemory r (Ok c)
+only_in form r text c g not_blank (le, inl (is, blank)) = absurd (not_blank blank)
+only_in form r text c g not_blank (le, inr (f, restricted)) = as_given r c (subst (λ (s : Result CommandContent TextFault). Gives (λ x. x) r s) (command_only form (ahead_of_text text) c f restricted) g)
 
-pub fault_in : (r : Result CommandContent TextFault) (text : List ℕ) → ReadText r text → (is_blank text ≡ true → ⊥) → length text ≤ MAX_LINE → IfFault r (λ kind offset. FirstFault text kind offset)
-fault_in (Ok c) text g not_blank le = tt
-fault_in (Err NoMemory) text g not_blank le = tt
-fault_in (Err (At kind offset)) text g not_blank le = (λ short blank. not_blank blank, inr (le, command_fault (ahead_of_text text) kind offset g))
+pub fault_in : (form : Form) → (r : Result CommandContent TextFault) (text : List ℕ) → ReadText form r text → (is_blank text ≡ true → ⊥) → length text ≤ most_bytes form → IfFault r (λ kind offset. FirstFault form text kind offset)
+fault_in form (Ok c) text g not_blank le = tt
+fault_in form (Err NoMemory) text g not_blank le = tt
+fault_in form (Err (At kind offset)) text g not_blank le = (λ short blank. not_blank blank, inr (le, command_fault form (ahead_of_text text) kind offset g))
 
-pub only_fault_in : (r : Result CommandContent TextFault) (text : List ℕ) (kind : Kind) (offset : ℕ) → ReadText r text → length text ≤ MAX_LINE → FirstFault text kind offset → OrNoMemory r (fault kind offset)
-only_fault_in r text kind offset g le (b, inl (long, k, o)) = let never : ⊥ = omega arith in absurd never
-only_fault_in r text kind offset g le (b, inr (short, h)) = as_fault r kind offset (subst (λ (s : Result CommandContent TextFault). Gives (λ x. x) r s) (command_only_fault (ahead_of_text text) kind offset h) g)
+pub only_fault_in : (form : Form) → (r : Result CommandContent TextFault) (text : List ℕ) (kind : Kind) (offset : ℕ) → ReadText form r text → length text ≤ most_bytes form → FirstFault form text kind offset → OrNoMemory r (fault kind offset)
+only_fault_in form r text kind offset g le (b, inl (long, k, o)) = let never : ⊥ = omega arith in absurd never
+only_fault_in form r text kind offset g le (b, inr (short, h)) = as_fault r kind offset (subst (λ (s : Result CommandContent TextFault). Gives (λ x. x) r s) (command_only_fault form (ahead_of_text text) kind offset h) g)
 
-abbrev ReadQuery : Result QueryRecord TextFault → List ℕ → Type 0
-ReadQuery r text = Gives (λ x. x) r (query_at (ahead_of_text text))
+abbrev ReadQuery : (form : Form) → Result QueryRecord TextFault → List ℕ → Type 0
+ReadQuery form r text = Gives (λ x. x) r (query_at form (ahead_of_text text))
 
-pub query_found_in : (r : Result QueryRecord TextFault) (text : List ℕ) → ReadQuery r text → length text ≤ MAX_LINE → IfOk r (λ query. StandsForQuery text query)
-query_found_in (Ok query) text g le = let f = query_found (ahead_of_text text) query g in (le, f.0, f.1)
-query_found_in (Err e) text g le = tt
+pub query_found_in : (form : Form) → (r : Result QueryRecord TextFault) (text : List ℕ) → ReadQuery form r text → length text ≤ most_bytes form → IfOk r (λ query. StandsForQuery form text query)
+query_found_in form (Ok query) text g le = let f = query_found form (ahead_of_text text) query g in (le, f.0, f.1)
+query_found_in form (Err e) text g le = tt
 
-pub query_only_in : (r : Result QueryRecord TextFault) (text : List ℕ) (query : QueryRecord) → ReadQuery r text → StandsForQuery text query → OrNoMemory r (Ok query)
-query_only_in r text query g (le, f, restricted) = as_given r query (subst (λ (s : Result QueryRecord TextFault). Gives (λ x. x) r s) (query_only (ahead_of_text text) query f restricted) g)
+pub query_only_in : (form : Form) → (r : Result QueryRecord TextFault) (text : List ℕ) (query : QueryRecord) → ReadQuery form r text → StandsForQuery form text query → OrNoMemory r (Ok query)
+query_only_in form r text query g (le, f, restricted) = as_given r query (subst (λ (s : Result QueryRecord TextFault). Gives (λ x. x) r s) (query_only form (ahead_of_text text) query f restricted) g)
 
-pub query_fault_in : (r : Result QueryRecord TextFault) (text : List ℕ) → ReadQuery r text → length text ≤ MAX_LINE → IfFault r (λ kind offset. FirstQueryFault text kind offset)
-query_fault_in (Ok query) text g le = tt
-query_fault_in (Err NoMemory) text g le = tt
-query_fault_in (Err (At kind offset)) text g le = inr (le, query_fault (ahead_of_text text) kind offset g)
+pub query_fault_in : (form : Form) → (r : Result QueryRecord TextFault) (text : List ℕ) → ReadQuery form r text → length text ≤ most_bytes form → IfFault r (λ kind offset. FirstQueryFault form text kind offset)
+query_fault_in form (Ok query) text g le = tt
+query_fault_in form (Err NoMemory) text g le = tt
+query_fault_in form (Err (At kind offset)) text g le = inr (le, query_fault form (ahead_of_text text) kind offset g)
 
-pub query_only_fault_in : (r : Result QueryRecord TextFault) (text : List ℕ) (kind : Kind) (offset : ℕ) → ReadQuery r text → length text ≤ MAX_LINE → FirstQueryFault text kind offset → OrNoMemory r (fault kind offset)
-query_only_fault_in r text kind offset g le (inl (long, k, o)) = let never : ⊥ = omega arith in absurd never
-query_only_fault_in r text kind offset g le (inr (short, h)) = as_fault r kind offset (subst (λ (s : Result QueryRecord TextFault). Gives (λ x. x) r s) (query_only_fault (ahead_of_text text) kind offset h) g)
+pub query_only_fault_in : (form : Form) → (r : Result QueryRecord TextFault) (text : List ℕ) (kind : Kind) (offset : ℕ) → ReadQuery form r text → length text ≤ most_bytes form → FirstQueryFault form text kind offset → OrNoMemory r (fault kind offset)
+query_only_fault_in form r text kind offset g le (inl (long, k, o)) = let never : ⊥ = omega arith in absurd never
+query_only_fault_in form r text kind offset g le (inr (short, h)) = as_fault r kind offset (subst (λ (s : Result QueryRecord TextFault). Gives (λ x. x) r s) (query_only_fault form (ahead_of_text text) kind offset h) g)
 
-abbrev ReadRow : Result RowRecord TextFault → List ℕ → Type 0
-ReadRow r text = Gives (λ x. x) r (row_at (ahead_of_text text))
+abbrev ReadRow : (form : Form) → Result RowRecord TextFault → List ℕ → Type 0
+ReadRow form r text = Gives (λ x. x) r (row_at form (ahead_of_text text))
 
-pub row_found_in : (r : Result RowRecord TextFault) (text : List ℕ) → ReadRow r text → length text ≤ MAX_LINE → IfOk r (λ row. StandsForRow text row)
-row_found_in (Ok row) text g le = (le, row_ok (ahead_of_text text) row g)
-row_found_in (Err e) text g le = tt
+pub row_found_in : (form : Form) → (r : Result RowRecord TextFault) (text : List ℕ) → ReadRow form r text → length text ≤ most_bytes form → IfOk r (λ row. StandsForRow form text row)
+row_found_in form (Ok row) text g le = (le, row_ok form (ahead_of_text text) row g)
+row_found_in form (Err e) text g le = tt
 
-pub row_only_in : (r : Result RowRecord TextFault) (text : List ℕ) (row : RowRecord) → ReadRow r text → StandsForRow text row → OrNoMemory r (Ok row)
-row_only_in r text row g (le, f) = as_given r row (subst (λ (s : Result RowRecord TextFault). Gives (λ x. x) r s) (row_only (ahead_of_text text) row f) g)
+pub row_only_in : (form : Form) → (r : Result RowRecord TextFault) (text : List ℕ) (row : RowRecord) → ReadRow form r text → StandsForRow form text row → OrNoMemory r (Ok row)
+row_only_in form r text row g (le, f) = as_given r row (subst (λ (s : Result RowRecord TextFault). Gives (λ x. x) r s) (row_only form (ahead_of_text text) row f) g)
 
-pub row_fault_in : (r : Result RowRecord TextFault) (text : List ℕ) → ReadRow r text → length text ≤ MAX_LINE → IfFault r (λ kind offset. FirstRowFault text kind offset)
-row_fault_in (Ok row) text g le = tt
-row_fault_in (Err NoMemory) text g le = tt
-row_fault_in (Err (At kind offset)) text g le = inr (le, row_fault (ahead_of_text text) kind offset g)
+pub row_fault_in : (form : Form) → (r : Result RowRecord TextFault) (text : List ℕ) → ReadRow form r text → length text ≤ most_bytes form → IfFault r (λ kind offset. FirstRowFault form text kind offset)
+row_fault_in form (Ok row) text g le = tt
+row_fault_in form (Err NoMemory) text g le = tt
+row_fault_in form (Err (At kind offset)) text g le = inr (le, row_fault form (ahead_of_text text) kind offset g)
 
-pub row_only_fault_in : (r : Result RowRecord TextFault) (text : List ℕ) (kind : Kind) (offset : ℕ) → ReadRow r text → length text ≤ MAX_LINE → FirstRowFault text kind offset → OrNoMemory r (fault kind offset)
-row_only_fault_in r text kind offset g le (inl (long, k, o)) = let never : ⊥ = omega arith in absurd never
-row_only_fault_in r text kind offset g le (inr (short, h)) = as_fault r kind offset (subst (λ (s : Result RowRecord TextFault). Gives (λ x. x) r s) (row_only_fault (ahead_of_text text) kind offset h) g)
+pub row_only_fault_in : (form : Form) → (r : Result RowRecord TextFault) (text : List ℕ) (kind : Kind) (offset : ℕ) → ReadRow form r text → length text ≤ most_bytes form → FirstRowFault form text kind offset → OrNoMemory r (fault kind offset)
+row_only_fault_in form r text kind offset g le (inl (long, k, o)) = let never : ⊥ = omega arith in absurd never
+row_only_fault_in form r text kind offset g le (inr (short, h)) = as_fault r kind offset (subst (λ (s : Result RowRecord TextFault). Gives (λ x. x) r s) (row_only_fault form (ahead_of_text text) kind offset h) g)
 
 -- a text that is not too long
-pub short_enough : (text : List ℕ) (b : Bool) → (b ≡ true) ↔ (MAX_LINE < length text) → b ≡ false → length text ≤ MAX_LINE
-short_enough text b e f = elim (cases_lt MAX_LINE (length text)) [ inl long ↦ absurd (false_true (sym f ∙ e.1 long)) | inr short ↦ short ]
+pub short_enough : (form : Form) (text : List ℕ) (b : Bool) → (b ≡ true) ↔ (most_bytes form < length text) → b ≡ false → length text ≤ most_bytes form
+short_enough form text b e f = elim (cases_lt (most_bytes form) (length text)) [ inl long ↦ absurd (false_true (sym f ∙ e.1 long)) | inr short ↦ short ]
   where
     false_true : false ≡ true → ⊥
     false_true k = cc
@@ -359,5 +360,5 @@ is_not_blank b text e f h = false_true (sym f ∙ e ∙ h)
     false_true : false ≡ true → ⊥
     false_true k = cc
 
-pub blank_read : (text : List ℕ) (c : CommandContent) → is_blank text ≡ true → StandsFor text c → OrNoMemory {X = CommandContent} (Ok Blank) (Ok c)
-blank_read text c e s = inl (ap (λ (d : CommandContent). Ok d) (sym (blank_alone text c e s)))
+pub blank_read : (form : Form) → (text : List ℕ) (c : CommandContent) → is_blank text ≡ true → StandsFor form text c → OrNoMemory {X = CommandContent} (Ok Blank) (Ok c)
+blank_read form text c e s = inl (ap (λ (d : CommandContent). Ok d) (sym (blank_alone form text c e s)))

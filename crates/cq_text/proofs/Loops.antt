@@ -14,6 +14,10 @@ use Rattle.cq_text.specs.declared.token.Close.TheVariants.{End}
 use Rattle.cq_text.specs.declared.token.Sign.TheVariants.{Comma}
 use Rattle.cq_text.specs.declared.token.Token.TheVariants.{Mark, Word, Literal, Bad, Finish}
 use Rattle.cq_text.specs.Token.{TokenContent, LexemeContent, flaw}
+use Rattle.cq_text.specs.declared.form.Form.{Form}
+use Rattle.cq_text.specs.declared.form.Form.TheVariants.{One, Two}
+use Rattle.cq_text.specs.Forms.{most_terms, most_atoms}
+use Rattle.cq_atom.specs.declared.limits.TheConstants.{MAX_ARITY, MAX_ATOMS}
 
 -- no item is read where there is no room for it
 abbrev pub NeedsRoom : {A : Type 0} → Item A → Type 0
@@ -33,9 +37,9 @@ value_needs a r h =
     let q = bind_ok (value_in p.0.0.token p.0.0.at) _ r p.2 in
     never_ok Limit p.0.0.at r q.2
 
-pub atom_needs : (close : Close) → NeedsRoom (atom_at close)
+pub atom_needs : (form : Form) → (close : Close) → NeedsRoom (atom_at form close)
 unfolding atom_at
-atom_needs close a r h =
+atom_needs form close a r h =
     let p = bind_ok (next_at a) _ r h in
     let q = bind_ok (relation_in p.0.0.token p.0.0.at) _ r p.2 in
     never_ok Limit p.0.0.at r q.2
@@ -85,8 +89,21 @@ step_done item most front k a b x total n le so_far h = sym so_far ∙ ap (with_
 pub step_room : {A : Type 0} (item : Item A) (most k : ℕ) (a : Ahead) (r : A × Bool × Ahead) → NeedsRoom item → k ≤ most → item (nat_lt k most) a ≡ Ok r → k < most
 step_room item most k a r n le h = elim (cases_lt k most) [ inl lt ↦ lt | inr ge ↦ absurd (n a r (ap (λ (b : Bool). item b a) (sym (le-ltb k most ge)) ∙ h)) ]
 
-pub some_arity : (n : ℕ) → n < 8 → is_arity (n + 1) ≡ true
-some_arity n lt = let one : 1 ≤ n + 1 = omega arith in let few : n + 1 ≤ 8 = omega arith in rw (le-leb 1 (n + 1) one, le-leb (n + 1) 8 few) refl
+-- no form allows more terms than an atom may have
+pub few_terms_of : (form : Form) (n : ℕ) → n ≤ most_terms form → n ≤ MAX_ARITY
+few_terms_of One n le = omega arith
+few_terms_of Two n le = le
+
+-- nor more atoms than a part of a query
+pub few_atoms_of : (form : Form) (n : ℕ) → n ≤ most_atoms form → n ≤ MAX_ATOMS
+few_atoms_of One n le = omega arith
+few_atoms_of Two n le = le
+
+pub some_arity : (form : Form) (n : ℕ) → n < most_terms form → is_arity (n + 1) ≡ true
+some_arity form n lt =
+    let one : 1 ≤ n + 1 = omega arith in
+    let few : n + 1 ≤ MAX_ARITY = few_terms_of form (n + 1) (omega arith) in
+    rw (le-leb 1 (n + 1) one, le-leb (n + 1) MAX_ARITY few) refl
 
 with_nothing : {A : Type 0} (r : Result (List A × Ahead) TextFault) → with_front [] r ≡ r
 with_nothing (Ok x) = refl
@@ -138,12 +155,12 @@ goes_on_ends a b e =
     more_not : true ≡ false → ⊥
     more_not h = cc
 
-atom_ends : EndsLast (atom_at End)
+atom_ends : (form : Form) → EndsLast (atom_at form End)
 unfolding atom_at
-atom_ends a x b e =
+atom_ends form a x b e =
     let p = bind_ok (next_at a) _ (x, false, b) e in
     let q = bind_ok (relation_in p.0.0.token p.0.0.at) _ (x, false, b) p.2 in
-    let s = bind_ok (applied_at q.0 p.0.1) _ (x, false, b) q.2 in
+    let s = bind_ok (applied_at form q.0 p.0.1) _ (x, false, b) q.2 in
     let m = bind_ok (goes_on_at End s.0.1) _ (x, false, b) s.2 in
     let same = ok_is (s.0.0, m.0.0, m.0.1) (x, false, b) m.2 in
     let last : m.0 ≡ (false, b) = ap (λ (i : AtomRecord × Bool × Ahead). (i.1, i.2)) same in
@@ -163,11 +180,11 @@ listed_ends {A} item (suc n) a r needs last e =
           ∙ last a p.0.0 p.0.2 (p.1 ∙ ap (λ (b : Bool). Ok (p.0.0, b, p.0.2)) h)
     ]
 
-pub atoms_to_end : (a : Ahead) (r : List AtomRecord × Ahead) → atoms_if_any_at End a ≡ Ok r → r.1.lexemes ≡ []
+pub atoms_to_end : (form : Form) → (a : Ahead) (r : List AtomRecord × Ahead) → atoms_if_any_at form End a ≡ Ok r → r.1.lexemes ≡ []
 unfolding atoms_if_any_at atoms_at
-atoms_to_end a r e =
+atoms_to_end form a r e =
     let p = bind_ok (next_at a) _ r e in
     elim (chosen (is_finish p.0.0.token) _ _ r p.2) [
       | inl (h, m) ↦ ap (λ (z : List AtomRecord × Ahead). z.1.lexemes) (sym (ok_is ([], p.0.1) r m)) ∙ finish_last a p.0.0 p.0.1 p.1 h
-      | inr (h, m) ↦ listed_ends (atom_at End) 8 a r (atom_needs End) atom_ends m
+      | inr (h, m) ↦ listed_ends (atom_at form End) (most_atoms form) a r (atom_needs form End) (atom_ends form) m
     ]

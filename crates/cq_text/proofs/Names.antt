@@ -4,7 +4,6 @@ use Rattle.cq_atom.specs.Atom.{TermContent, AtomRecord}
 use Rattle.cq_atom.specs.Query.{QueryRecord}
 use Rattle.cq_atom.specs.Value.{ValueContent}
 use Rattle.cq_text.specs.declared.command.CommandKind.TheVariants.{Relation, Post}
-use Rattle.cq_atom.specs.declared.limits.TheConstants.{MAX_ARITY}
 use Rattle.cq_text.specs.declared.token.Close.{Close}
 use Rattle.cq_text.specs.declared.token.Sign.TheVariants.{OpenParen}
 use Rattle.cq_text.specs.Steps.Lexemes.{Ahead, ◌>>=◌, sign_at, end_at, goes_on_at, name_at, relation_name_at, Gives}
@@ -14,38 +13,40 @@ use Rattle.cq_text.specs.declared.fault.Kind.{Kind}
 use Rattle.cq_text.specs.declared.fault.TextFault.TheVariants.{At, NoMemory}
 use Rattle.cq_text.specs.declared.fault.TextFault.{TextFault}
 use Rattle.cq_text.proofs.Binds.{bind_assoc, ok_is}
+use Rattle.cq_text.specs.declared.form.Form.{Form}
+use Rattle.cq_text.specs.Forms.{most_terms}
 
-atom_by_name : (close : Close) (a : Ahead) → atom_at close true a ≡ (relation_name_at a >>= λ n. applied_at n.0 n.2 >>= λ x. goes_on_at close x.1 >>= λ m. Ok (x.0, m.0, m.1))
+atom_by_name : (form : Form) → (close : Close) (a : Ahead) → atom_at form close true a ≡ (relation_name_at a >>= λ n. applied_at form n.0 n.2 >>= λ x. goes_on_at close x.1 >>= λ m. Ok (x.0, m.0, m.1))
 unfolding atom_at relation_name_at
-atom_by_name close a = sym (simp bind_assoc)
+atom_by_name form close a = sym (simp bind_assoc)
 
-pub atom_read : (close : Close) (room : Bool) (a b c d : Ahead) (w : List ℕ) (at : ℕ) (x : AtomRecord) (more : Bool) → room ≡ true → relation_name_at a ≡ Ok (w, at, b) → applied_at w b ≡ Ok (x, c) → goes_on_at close c ≡ Ok (more, d) → atom_at close room a ≡ Ok (x, more, d)
-atom_read close room a b c d w at x more r e f g = rw r (atom_by_name close a ∙ rw (e, f, g) refl)
+pub atom_read : (form : Form) → (close : Close) (room : Bool) (a b c d : Ahead) (w : List ℕ) (at : ℕ) (x : AtomRecord) (more : Bool) → room ≡ true → relation_name_at a ≡ Ok (w, at, b) → applied_at form w b ≡ Ok (x, c) → goes_on_at close c ≡ Ok (more, d) → atom_at form close room a ≡ Ok (x, more, d)
+atom_read form close room a b c d w at x more r e f g = rw r (atom_by_name form close a ∙ rw (e, f, g) refl)
 
-row_by_name : (a : Ahead) → row_at a ≡ (relation_name_at a >>= λ n. sign_at OpenParen n.2 >>= λ i. values_at i >>= λ v. end_at v.1 >>= λ r. Ok (row_record n.0 v.0))
+row_by_name : (form : Form) → (a : Ahead) → row_at form a ≡ (relation_name_at a >>= λ n. sign_at OpenParen n.2 >>= λ i. values_at form i >>= λ v. end_at v.1 >>= λ r. Ok (row_record n.0 v.0))
 unfolding row_at relation_name_at
-row_by_name a = sym (simp bind_assoc)
+row_by_name form a = sym (simp bind_assoc)
 
-pub row_read : (a b c d e : Ahead) (w : List ℕ) (at : ℕ) (values : List ValueContent) → relation_name_at a ≡ Ok (w, at, b) → sign_at OpenParen b ≡ Ok c → values_at c ≡ Ok (values, d) → end_at d ≡ Ok e → row_at a ≡ Ok (row_record w values)
-row_read a b c d e w at values n s v f = row_by_name a ∙ rw (n, s, v, f) refl
+pub row_read : (form : Form) → (a b c d e : Ahead) (w : List ℕ) (at : ℕ) (values : List ValueContent) → relation_name_at a ≡ Ok (w, at, b) → sign_at OpenParen b ≡ Ok c → values_at form c ≡ Ok (values, d) → end_at d ≡ Ok e → row_at form a ≡ Ok (row_record w values)
+row_read form a b c d e w at values n s v f = row_by_name form a ∙ rw (n, s, v, f) refl
 
-relation_by_name : (a : Ahead) → relation_at a ≡ (relation_name_at a >>= λ n. count_at MAX_ARITY n.2 >>= λ k. end_at k.1 >>= λ r. Ok (Relation n.0 k.0))
+relation_by_name : (form : Form) → (a : Ahead) → relation_at form a ≡ (relation_name_at a >>= λ n. count_at (most_terms form) n.2 >>= λ k. end_at k.1 >>= λ r. Ok (Relation n.0 k.0))
 unfolding relation_at relation_name_at
-relation_by_name a = sym (simp bind_assoc)
+relation_by_name form a = sym (simp bind_assoc)
 
-pub relation_read : (a b c d : Ahead) (w v : List ℕ) (at arity : ℕ) → relation_name_at a ≡ Ok (w, at, b) → count_at MAX_ARITY b ≡ Ok (arity, c) → end_at c ≡ Ok d → ◌≡◌ {A = Result (List ℕ) TextFault} (Ok w) (Ok v) → relation_at a ≡ Ok (Relation v arity)
-relation_read a b c d w v at arity n k f e = relation_by_name a ∙ rw (n, k, f) (ap (λ (u : List ℕ). Ok (Relation u arity)) (ok_is w v e))
+pub relation_read : (form : Form) → (a b c d : Ahead) (w v : List ℕ) (at arity : ℕ) → relation_name_at a ≡ Ok (w, at, b) → count_at (most_terms form) b ≡ Ok (arity, c) → end_at c ≡ Ok d → ◌≡◌ {A = Result (List ℕ) TextFault} (Ok w) (Ok v) → relation_at form a ≡ Ok (Relation v arity)
+relation_read form a b c d w v at arity n k f e = relation_by_name form a ∙ rw (n, k, f) (ap (λ (u : List ℕ). Ok (Relation u arity)) (ok_is w v e))
 
-post_by_name : (a : Ahead) → post_at a ≡ (name_at a >>= λ n. query_at n.1 >>= λ q. Ok (Post n.0 q))
+post_by_name : (form : Form) → (a : Ahead) → post_at form a ≡ (name_at a >>= λ n. query_at form n.1 >>= λ q. Ok (Post n.0 q))
 unfolding post_at name_at
-post_by_name a = sym (simp bind_assoc)
+post_by_name form a = sym (simp bind_assoc)
 
-pub post_read : (a b : Ahead) (w : List ℕ) (q : QueryRecord) → name_at a ≡ Ok (w, b) → query_at b ≡ Ok q → post_at a ≡ Ok (Post w q)
-post_read a b w q n r = post_by_name a ∙ rw (n, r) refl
+pub post_read : (form : Form) → (a b : Ahead) (w : List ℕ) (q : QueryRecord) → name_at a ≡ Ok (w, b) → query_at form b ≡ Ok q → post_at form a ≡ Ok (Post w q)
+post_read form a b w q n r = post_by_name form a ∙ rw (n, r) refl
 
-applied_by : (w : List ℕ) (a b c : Ahead) (terms : List TermContent) → sign_at OpenParen a ≡ Ok b → terms_at b ≡ Ok (terms, c) → applied_at w a ≡ Ok (atom_record w terms, c)
+applied_by : (form : Form) → (w : List ℕ) (a b c : Ahead) (terms : List TermContent) → sign_at OpenParen a ≡ Ok b → terms_at form b ≡ Ok (terms, c) → applied_at form w a ≡ Ok (atom_record w terms, c)
 unfolding applied_at
-applied_by w a b c terms s t = rw (s, t) refl
+applied_by form w a b c terms s t = rw (s, t) refl
 
 with_rest : {A B : Type 0} (r : Result A TextFault) (x : A) (c : B) → Gives (λ (y : A). y) r (Ok x) → Gives {Y = A × B} (λ (y : A). (y, c)) r (Ok (x, c))
 with_rest {A} (Ok y) x c e = ap (λ (z : Result A TextFault). z >>= λ v. Ok (v, c)) e
@@ -55,5 +56,5 @@ with_rest (Err (At kind offset)) x c e = absurd (never_err kind offset x e)
     never_err : {A : Type 0} (kind : Kind) (offset : ℕ) (x : A) → ◌≡◌ {A = Result A TextFault} (Ok x) (Err (At kind offset)) → ⊥
     never_err kind offset x e = cc
 
-pub applied_read : (w : List ℕ) (a b c : Ahead) (terms : List TermContent) (r : Result AtomRecord TextFault) → sign_at OpenParen a ≡ Ok b → terms_at b ≡ Ok (terms, c) → Gives (λ (atom : AtomRecord). atom) r (Ok (atom_record w terms)) → Gives (λ (atom : AtomRecord). (atom, c)) r (applied_at w a)
-applied_read w a b c terms r s t g = rw (applied_by w a b c terms s t) (with_rest r (atom_record w terms) c g)
+pub applied_read : (form : Form) → (w : List ℕ) (a b c : Ahead) (terms : List TermContent) (r : Result AtomRecord TextFault) → sign_at OpenParen a ≡ Ok b → terms_at form b ≡ Ok (terms, c) → Gives (λ (atom : AtomRecord). atom) r (Ok (atom_record w terms)) → Gives (λ (atom : AtomRecord). (atom, c)) r (applied_at form w a)
+applied_read form w a b c terms r s t g = rw (applied_by form w a b c terms s t) (with_rest r (atom_record w terms) c g)

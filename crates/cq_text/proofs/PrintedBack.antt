@@ -13,13 +13,16 @@ use Rattle.cq_atom.specs.Query.{QueryRecord}
 use Rattle.cq_text.specs.declared.token.Sign.TheVariants.{OpenBrace, CloseBrace, OpenParen, CloseParen, Comma, Arrow}
 use Rattle.cq_text.specs.declared.token.Token.TheVariants.{Mark, Word, Literal}
 use Rattle.cq_text.specs.Token.{TokenContent, tokens_of}
-use Rattle.cq_text.specs.Grammar.{Separated, IsConstant, IsTermText, Applied, IsAtomText, IsRowText, AreAtomsIfAny, IsQueryText, IsShort, FewTerms, StandsForQuery, StandsForRow}
+use Rattle.cq_text.specs.Grammar.{Separated, IsConstant, IsTermText, Applied, IsAtomText, IsRowText, AreAtomsIfAny, IsQueryText, IsShort, FewTerms, StandsForQuery, StandsForRow, FitsQuery}
 use Rattle.cq_text.specs.Lexing.{lexemes_of}
 use Rattle.cq_text.specs.Print.{StandsForAtom, printed_value, printed_term, printed_atom, printed_row, printed_atoms, printed_body, printed_query}
 use Rattle.cq_text.specs.Steps.Sound.{IsSoundTerm, IsSoundAtom, IsSoundRow, IsSoundQuery}
 use Rattle.cq_text.proofs.PrintedBound.{fits}
 use Rattle.cq_text.proofs.PrintedLengths.{line_atom, line_row, line_query}
 use Rattle.cq_text.proofs.PrintedTokens.{Spells, Anything, Ended, spells_then, spells_whole, spells_name, short_name, spells_text, spells_number, spells_open_paren, spells_close_paren, spells_open_brace, spells_close_brace, spells_comma, spells_arrow, spells_space, and_parts}
+use Rattle.cq_text.specs.declared.form.Form.{Form}
+use Rattle.cq_text.specs.declared.form.Form.TheVariants.{One, Two}
+use Rattle.cq_text.specs.Forms.{most_terms}
 
 -- The bytes spell tokens that the grammar G allows, before whatever P allows.
 pub record Reads (P : List ℕ → Type 0) (bytes : List ℕ) (G : List TokenContent → Type 0) : Type 0 where
@@ -120,9 +123,15 @@ reads_query q some sp sh sb =
 
 -- ---- whole texts
 
-few_terms : (atoms : List AtomRecord) → All IsSoundAtom atoms → AllByRecursion FewTerms atoms
+few_terms : (atoms : List AtomRecord) → All IsSoundAtom atoms → AllByRecursion (FewTerms Two) atoms
 few_terms [] h = tt
 few_terms (a ∷ atoms) h = (let s = All-head IsSoundAtom a atoms h in s.few, few_terms atoms (All-tail IsSoundAtom a atoms h))
+
+-- what the types keep is within format 2
+pub fits_two : (q : QueryRecord) → IsSoundQuery q → FitsQuery Two q
+fits_two q s =
+    let f = fits q s.query in
+    (f.posts, f.heads, f.body, few_terms q.posts s.posts, few_terms q.heads s.heads, few_terms q.body s.body)
 
 module _ (bytes : List ℕ) (G : List TokenContent → Type 0) (r : Reads Anything bytes G) where
   whole : tokens_of (lexemes_of bytes) ≡ r.tokens
@@ -134,23 +143,23 @@ module _ (bytes : List ℕ) (G : List TokenContent → Type 0) (r : Reads Anythi
   all_short : AllByRecursion IsShort (tokens_of (lexemes_of bytes))
   all_short = subst (AllByRecursion IsShort) (sym whole) r.short
 
-pub atom_back : (a : AtomRecord) → IsSoundAtom a → StandsForAtom (printed_atom a) a
-atom_back a s =
+pub atom_back : (form : Form) (a : AtomRecord) → IsSoundAtom a → FewTerms form a → StandsForAtom form (printed_atom a) a
+atom_back form a s few =
     let r = reads_atom a s in
-    (line_atom a s, allowed (printed_atom a) (λ ts. IsAtomText ts a) r, all_short (printed_atom a) (λ ts. IsAtomText ts a) r, s.few)
+    (line_atom form a s few, allowed (printed_atom a) (λ ts. IsAtomText ts a) r, all_short (printed_atom a) (λ ts. IsAtomText ts a) r, few)
 
-pub row_back : (w : RowRecord) → IsSoundRow w → StandsForRow (printed_row w) w
-row_back w s =
+pub row_back : (form : Form) (w : RowRecord) → IsSoundRow w → length w.values ≤ most_terms form → StandsForRow form (printed_row w) w
+row_back form w s few =
     let r = reads_row w s in
-    (line_row w s, record { sentence = allowed (printed_row w) (λ ts. IsRowText ts w) r; short = all_short (printed_row w) (λ ts. IsRowText ts w) r; fits = s.few })
+    (line_row form w s few, record { sentence = allowed (printed_row w) (λ ts. IsRowText ts w) r; short = all_short (printed_row w) (λ ts. IsRowText ts w) r; fits = few })
 
-pub query_back : (q : QueryRecord) → IsSoundQuery q → StandsForQuery (printed_query q) q
-query_back q s =
+pub query_back : (form : Form) (q : QueryRecord) → IsSoundQuery q → FitsQuery form q → StandsForQuery form (printed_query q) q
+query_back form q s few =
     let f = fits q s.query in
     let r = reads_query q f.offered s.posts s.heads s.body in
     let G : List TokenContent → Type 0 = λ ts. IsQueryText ts q in (
-      line_query q f.posts f.heads f.body s.posts s.heads s.body,
-      record { sentence = allowed (printed_query q) G r; short = all_short (printed_query q) G r; fits = (f.posts, f.heads, f.body, few_terms q.posts s.posts, few_terms q.heads s.heads, few_terms q.body s.body) },
+      line_query form q few s.posts s.heads s.body,
+      record { sentence = allowed (printed_query q) G r; short = all_short (printed_query q) G r; fits = few },
       f.restricted,
     )
 

@@ -8,6 +8,7 @@ use Rattle.cq_atom.specs.declared.fault.Part.TheVariants.{Posts, Heads}
 use Rattle.cq_atom.specs.Atom.{AtomRecord, TermContent}
 use Rattle.cq_atom.specs.Query.{is_bound, binds_all, unbound_term, first_unbound, query_fault}
 use Rattle.cq_text.specs.Steps.Binding.{binds_both}
+use Rattle.cq_atom.specs.declared.limits.TheConstants.{MAX_ATOMS}
 
 -- some term of the atom is a variable that the body lacks
 abbrev pub has_unbound : List AtomRecord → AtomRecord → Bool
@@ -67,8 +68,8 @@ lacks_none false false e = (refl, refl)
 lacks_none true b e = absurd cc
 lacks_none false true e = absurd cc
 
-pub no_refusal : (posts heads body : List AtomRecord) → length posts ≤ 8 → 1 ≤ length heads → length heads ≤ 8 → length body ≤ 8 → binds_both body posts heads ≡ true → query_fault posts heads body ≡ None
+pub no_refusal : (posts heads body : List AtomRecord) → length posts ≤ MAX_ATOMS → 1 ≤ length heads → length heads ≤ MAX_ATOMS → length body ≤ MAX_ATOMS → binds_both body posts heads ≡ true → query_fault posts heads body ≡ None
 no_refusal posts [] body p some h b e = let never : ⊥ = omega arith in absurd never
 no_refusal posts (x ∷ heads) body p some h b e =
     let n = lacks_none (have_unbound body posts) (have_unbound body (x ∷ heads)) (sym (bound_both body posts (x ∷ heads)) ∙ e) in
-    rw (le-leb (length posts) 8 p, le-leb (length (x ∷ heads)) 8 h, le-leb (length body) 8 b) (rw (first_none Posts body 0 posts n.0) (first_none Heads body 0 (x ∷ heads) n.1))
+    rw (le-leb (length posts) MAX_ATOMS p, le-leb (length (x ∷ heads)) MAX_ATOMS h, le-leb (length body) MAX_ATOMS b) (rw (first_none Posts body 0 posts n.0) (first_none Heads body 0 (x ∷ heads) n.1))

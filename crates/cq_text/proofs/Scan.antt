@@ -12,6 +12,7 @@ use Rattle.cq_text.specs.Fault.{IsViable, Place, opening, behind_token, place_be
 use Rattle.cq_text.specs.Steps.Lexemes.{fault}
 use Rattle.cq_text.proofs.Machine.{Symbol, mark, name, upper, number, value, values_end, term, terms_end, atom, posts_end, heads_end, posts, command, take_token, Expects, first, body_end, body, is_nullable, Holds, Ordered, Ordered-step}
 use Rattle.cq_text.proofs.Derive.{take_token-from_expects, expects_from_take_token, completion, Is-nothing, Leaves-from_is, nothing_after}
+use Rattle.cq_text.specs.declared.form.Form.{Form}
 
 abbrev pub Checked : Type 0
 Checked = Result (Unit {0}) TextFault
@@ -30,9 +31,9 @@ abbrev pub after_flaw : Option Kind → ℕ → Checked → Checked
 after_flaw (Some kind) at k = fault kind at
 after_flaw None at k = k
 
-unfoldable pub scan : List Symbol → Place → List LexemeContent → ℕ → Checked
-scan ss p [] end = at_end ss end
-scan ss p (l ∷ ls) end = after_flaw (flaw l.token) l.at (on_token (take_token ss l.token) (is_over p l.token) l.at (λ rs. scan rs (behind_token p l.token) ls end))
+unfoldable pub scan : (form : Form) → List Symbol → Place → List LexemeContent → ℕ → Checked
+scan form ss p [] end = at_end ss end
+scan form ss p (l ∷ ls) end = after_flaw (flaw l.token) l.at (on_token (take_token ss l.token) (is_over form p l.token) l.at (λ rs. scan form rs (behind_token form p l.token) ls end))
 
 -- ---- the tokens before leave these symbols
 
@@ -69,9 +70,9 @@ not_viable Whole before ss t leave e (more, s) =
     some_none : (a : List Symbol) → Some a ≡ None → ⊥
     some_none a h = cc
 
-place-more : (before : List TokenContent) (t : TokenContent) → place_behind (before ++ (t ∷ [])) ≡ behind_token (place_behind before) t
+place-more : (form : Form) → (before : List TokenContent) (t : TokenContent) → place_behind form (before ++ (t ∷ [])) ≡ behind_token form (place_behind form before) t
 unfolding place_behind
-place-more before t = fold-append behind_token opening before (t ∷ [])
+place-more form before t = fold-append (behind_token form) opening before (t ∷ [])
 
 -- ---- a fault of the scan is the first fault
 
@@ -129,35 +130,35 @@ ends_empty ss end kind offset e = elim (end_checked ss end) [
 no_whole : (Whole : List TokenContent → Type 0) (before : List TokenContent) (ss : List Symbol) → Leave Whole before ss → (Expects ss [] → ⊥) → Whole before → ⊥
 no_whole Whole before ss leave none s = none (leave.to [] (subst Whole (sym (append-nil before)) s))
 
-abbrev GoesOn : (List TokenContent → Type 0) → List TokenContent → List Symbol → LexemeContent → List LexemeContent → ℕ → Kind → ℕ → Type 0
-GoesOn Whole before ss l ls end kind offset = (rs : List Symbol) → flaw l.token ≡ None → take_token ss l.token ≡ Some rs → scan rs (behind_token (place_behind before) l.token) ls end ≡ fault kind offset → FirstTokenFault Whole (before ++ (l.token ∷ [])) ls end kind offset
+abbrev GoesOn : (form : Form) → (List TokenContent → Type 0) → List TokenContent → List Symbol → LexemeContent → List LexemeContent → ℕ → Kind → ℕ → Type 0
+GoesOn form Whole before ss l ls end kind offset = (rs : List Symbol) → flaw l.token ≡ None → take_token ss l.token ≡ Some rs → scan form rs (behind_token form (place_behind form before) l.token) ls end ≡ fault kind offset → FirstTokenFault form Whole (before ++ (l.token ∷ [])) ls end kind offset
 
 false_true : (b : Bool) → b ≡ false → b ≡ true → ⊥
 false_true true e h = cc
 false_true false e h = cc
 
-first_step : (Whole : List TokenContent → Type 0) (before : List TokenContent) (ss : List Symbol) (l : LexemeContent) (ls : List LexemeContent) (end : ℕ) (kind : Kind) (offset : ℕ) (f : Option Kind) (o : Option (List Symbol)) (over : Bool)
-    → flaw l.token ≡ f → take_token ss l.token ≡ o → is_over (place_behind before) l.token ≡ over → Leave Whole before ss → GoesOn Whole before ss l ls end kind offset
-    → after_flaw f l.at (on_token o over l.at (λ rs. scan rs (behind_token (place_behind before) l.token) ls end)) ≡ fault kind offset
-    → FirstTokenFault Whole before (l ∷ ls) end kind offset
-first_step Whole before ss l ls end kind offset (Some k) o over p q r leave more e =
+first_step : (form : Form) → (Whole : List TokenContent → Type 0) (before : List TokenContent) (ss : List Symbol) (l : LexemeContent) (ls : List LexemeContent) (end : ℕ) (kind : Kind) (offset : ℕ) (f : Option Kind) (o : Option (List Symbol)) (over : Bool)
+    → flaw l.token ≡ f → take_token ss l.token ≡ o → is_over form (place_behind form before) l.token ≡ over → Leave Whole before ss → GoesOn form Whole before ss l ls end kind offset
+    → after_flaw f l.at (on_token o over l.at (λ rs. scan form rs (behind_token form (place_behind form before) l.token) ls end)) ≡ fault kind offset
+    → FirstTokenFault form Whole before (l ∷ ls) end kind offset
+first_step form Whole before ss l ls end kind offset (Some k) o over p q r leave more e =
     let s = same_fault k kind l.at offset e in
-    inl (subst (λ (g : Option Kind). IsFault Whole before l.token g kind) (sym p) s.0, s.1)
-first_step Whole before ss l ls end kind offset None None over p q r leave more e =
+    inl (subst (λ (g : Option Kind). IsFault form Whole before l.token g kind) (sym p) s.0, s.1)
+first_step form Whole before ss l ls end kind offset None None over p q r leave more e =
     let s = same_fault Shape kind l.at offset e in
-    inl (subst (λ (g : Option Kind). IsFault Whole before l.token g kind) (sym p) (inl (s.0, not_viable Whole before ss l.token leave q)), s.1)
-first_step Whole before ss l ls end kind offset None (Some rs) true p q r leave more e =
+    inl (subst (λ (g : Option Kind). IsFault form Whole before l.token g kind) (sym p) (inl (s.0, not_viable Whole before ss l.token leave q)), s.1)
+first_step form Whole before ss l ls end kind offset None (Some rs) true p q r leave more e =
     let s = same_fault Limit kind l.at offset e in
-    inl (subst (λ (g : Option Kind). IsFault Whole before l.token g kind) (sym p) (inr (s.0, viable Whole (before ++ (l.token ∷ [])) rs (Leave-step Whole before ss rs l.token p leave q), r)), s.1)
-first_step Whole before ss l ls end kind offset None (Some rs) false p q r leave more e =
+    inl (subst (λ (g : Option Kind). IsFault form Whole before l.token g kind) (sym p) (inr (s.0, viable Whole (before ++ (l.token ∷ [])) rs (Leave-step Whole before ss rs l.token p leave q), r)), s.1)
+first_step form Whole before ss l ls end kind offset None (Some rs) false p q r leave more e =
     inr (viable Whole (before ++ (l.token ∷ [])) rs (Leave-step Whole before ss rs l.token p leave q), false_true _ r, more rs p q e)
 
-pub first_from_scan : (Whole : List TokenContent → Type 0) (before : List TokenContent) (ss : List Symbol) (ls : List LexemeContent) (end : ℕ) (kind : Kind) (offset : ℕ) → Leave Whole before ss → scan ss (place_behind before) ls end ≡ fault kind offset → FirstTokenFault Whole before ls end kind offset
+pub first_from_scan : (form : Form) → (Whole : List TokenContent → Type 0) (before : List TokenContent) (ss : List Symbol) (ls : List LexemeContent) (end : ℕ) (kind : Kind) (offset : ℕ) → Leave Whole before ss → scan form ss (place_behind form before) ls end ≡ fault kind offset → FirstTokenFault form Whole before ls end kind offset
 unfolding scan
-first_from_scan Whole before ss [] end kind offset leave e = let n = ends_empty ss end kind offset e in (no_whole Whole before ss leave n.0, n.1, n.2)
-first_from_scan Whole before ss (l ∷ ls) end kind offset leave e =
-    first_step Whole before ss l ls end kind offset (flaw l.token) (take_token ss l.token) (is_over (place_behind before) l.token) refl refl refl leave
-    (λ rs f q h. first_from_scan Whole (before ++ (l.token ∷ [])) rs ls end kind offset (Leave-step Whole before ss rs l.token f leave q) (ap (λ (p : Place). scan rs p ls end) (place-more before l.token) ∙ h))
+first_from_scan form Whole before ss [] end kind offset leave e = let n = ends_empty ss end kind offset e in (no_whole Whole before ss leave n.0, n.1, n.2)
+first_from_scan form Whole before ss (l ∷ ls) end kind offset leave e =
+    first_step form Whole before ss l ls end kind offset (flaw l.token) (take_token ss l.token) (is_over form (place_behind form before) l.token) refl refl refl leave
+    (λ rs f q h. first_from_scan form Whole (before ++ (l.token ∷ [])) rs ls end kind offset (Leave-step Whole before ss rs l.token f leave q) (ap (λ (p : Place). scan form rs p ls end) (place-more form before l.token) ∙ h))
     e
 
 -- ---- and the other way
@@ -241,20 +242,20 @@ not_true : (b : Bool) → (b ≡ true → ⊥) → b ≡ false
 not_true true n = absurd (n refl)
 not_true false n = refl
 
-pub scan_from_first : (Whole : List TokenContent → Type 0) (before : List TokenContent) (ss : List Symbol) (ls : List LexemeContent) (end : ℕ) (kind : Kind) (offset : ℕ) → Leave Whole before ss → FirstTokenFault Whole before ls end kind offset → scan ss (place_behind before) ls end ≡ fault kind offset
+pub scan_from_first : (form : Form) → (Whole : List TokenContent → Type 0) (before : List TokenContent) (ss : List Symbol) (ls : List LexemeContent) (end : ℕ) (kind : Kind) (offset : ℕ) → Leave Whole before ss → FirstTokenFault form Whole before ls end kind offset → scan form ss (place_behind form before) ls end ≡ fault kind offset
 unfolding scan
-scan_from_first Whole before ss [] end kind offset leave (none, k, o) = nothing_expected ss end (none_whole Whole before ss leave none) ∙ ap (λ (j : Kind). fault j end) (sym k) ∙ ap (λ (n : ℕ). fault kind n) (sym o)
-scan_from_first Whole before ss (l ∷ ls) end kind offset leave (inl (h, o)) = at_fault (flaw l.token) refl h ∙ ap (λ (n : ℕ). fault kind n) (sym o)
+scan_from_first form Whole before ss [] end kind offset leave (none, k, o) = nothing_expected ss end (none_whole Whole before ss leave none) ∙ ap (λ (j : Kind). fault j end) (sym k) ∙ ap (λ (n : ℕ). fault kind n) (sym o)
+scan_from_first form Whole before ss (l ∷ ls) end kind offset leave (inl (h, o)) = at_fault (flaw l.token) refl h ∙ ap (λ (n : ℕ). fault kind n) (sym o)
   where
-    at_fault : (f : Option Kind) → flaw l.token ≡ f → IsFault Whole before l.token f kind
-        → after_flaw f l.at (on_token (take_token ss l.token) (is_over (place_behind before) l.token) l.at (λ rs. scan rs (behind_token (place_behind before) l.token) ls end)) ≡ fault kind l.at
+    at_fault : (f : Option Kind) → flaw l.token ≡ f → IsFault form Whole before l.token f kind
+        → after_flaw f l.at (on_token (take_token ss l.token) (is_over form (place_behind form before) l.token) l.at (λ rs. scan form rs (behind_token form (place_behind form before) l.token) ls end)) ≡ fault kind l.at
     at_fault (Some j) p e = ap (λ (i : Kind). fault i l.at) (sym e)
     at_fault None p (inl (k, n)) = rw (step_shape Whole before ss l.token (take_token ss l.token) p refl leave n) (ap (λ (i : Kind). fault i l.at) (sym k))
     at_fault None p (inr (k, v, w)) = let s = step_viable Whole before ss l.token (take_token ss l.token) refl leave v in rw (s.1, w) (ap (λ (i : Kind). fault i l.at) (sym k))
-scan_from_first Whole before ss (l ∷ ls) end kind offset leave (inr (v, n, more)) =
+scan_from_first form Whole before ss (l ∷ ls) end kind offset leave (inr (v, n, more)) =
     let f = viable_good Whole before ss l.token leave v in
     let s = step_viable Whole before ss l.token (take_token ss l.token) refl leave v in
-    let w = not_true (is_over (place_behind before) l.token) n in
-    let i = scan_from_first Whole (before ++ (l.token ∷ [])) s.0 ls end kind offset (Leave-step Whole before ss s.0 l.token f leave s.1) more in
-    let same = ap (λ (p : Place). scan s.0 p ls end) (sym (place-more before l.token)) ∙ i in
+    let w = not_true (is_over form (place_behind form before) l.token) n in
+    let i = scan_from_first form Whole (before ++ (l.token ∷ [])) s.0 ls end kind offset (Leave-step Whole before ss s.0 l.token f leave s.1) more in
+    let same = ap (λ (p : Place). scan form s.0 p ls end) (sym (place-more form before l.token)) ∙ i in
     rw (f, s.1, w) same

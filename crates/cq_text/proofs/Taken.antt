@@ -32,6 +32,8 @@ use Rattle.cq_text.proofs.Words.{and_parts}
 use Rattle.cq_text.proofs.Commands.{command_word-is}
 use Rattle.cq_text.proofs.Derive.{is_sign-true}
 use Rattle.cq_text.proofs.Runs.{QueryParts, parts_at, Parts, posted, whole, post_parts, whole_parts, parts_of, parts_from, command_parts}
+use Rattle.cq_text.specs.declared.form.Form.{Form}
+use Rattle.cq_text.specs.Forms.{most_terms, most_atoms}
 
 abbrev pub AreShort : List TokenContent → Type 0
 AreShort ts = AllByRecursion IsShort ts
@@ -284,9 +286,9 @@ term_ok a i e =
     subst (λ (z : TermContent × Bool × Ahead). TermRead a z) (ok_is (q.0, m.0.0, m.0.1) i m.2)
     (record { front = p.0.0.token ∷ []; parts = next_token a p.0.0 p.0.1 p.1 t.no_end ∙ ap (λ (ts : List TokenContent). p.0.0.token ∷ ts) (goes_on_ok (By CloseParen) p.0.1 m.0 m.1); is = t.is; short = t.short; fits = tt })
 
-terms_ok : (a : Ahead) (r : List TermContent × Ahead) → terms_at a ≡ Ok r → Listed IsTermText AnyTerm (By CloseParen) 8 a r
+terms_ok : (form : Form) → (a : Ahead) (r : List TermContent × Ahead) → terms_at form a ≡ Ok r → Listed IsTermText AnyTerm (By CloseParen) (most_terms form) a r
 unfolding terms_at
-terms_ok a r e = listed_ok IsTermText AnyTerm (By CloseParen) term_at 8 a r term_ok term_needs e
+terms_ok form a r e = listed_ok IsTermText AnyTerm (By CloseParen) term_at (most_terms form) a r term_ok term_needs e
 
 -- ---- ground atoms
 
@@ -329,26 +331,26 @@ value_ok a i e =
     subst (λ (z : ValueContent × Bool × Ahead). ValueRead a z) (ok_is (q.0, m.0.0, m.0.1) i m.2)
     (record { front = p.0.0.token ∷ []; parts = next_token a p.0.0 p.0.1 p.1 v.no_end ∙ ap (λ (ts : List TokenContent). p.0.0.token ∷ ts) (goes_on_ok (By CloseParen) p.0.1 m.0 m.1); is = v.is; short = v.short; fits = tt })
 
-values_ok : (a : Ahead) (r : List ValueContent × Ahead) → values_at a ≡ Ok r → Listed IsConstant AnyValue (By CloseParen) 8 a r
+values_ok : (form : Form) → (a : Ahead) (r : List ValueContent × Ahead) → values_at form a ≡ Ok r → Listed IsConstant AnyValue (By CloseParen) (most_terms form) a r
 unfolding values_at
-values_ok a r e = listed_ok IsConstant AnyValue (By CloseParen) value_at 8 a r value_ok value_needs e
+values_ok form a r e = listed_ok IsConstant AnyValue (By CloseParen) value_at (most_terms form) a r value_ok value_needs e
 
-pub row_ok : (a : Ahead) (row : RowRecord) → row_at a ≡ Ok row → FitsRowGrammar a.lexemes row
+pub row_ok : (form : Form) → (a : Ahead) (row : RowRecord) → row_at form a ≡ Ok row → FitsRowGrammar form a.lexemes row
 unfolding row_at
-row_ok a row e =
+row_ok form a row e =
     let p = bind_ok (next_at a) _ row e in
     let q = bind_ok (relation_in p.0.0.token p.0.0.at) _ row p.2 in
     let s = bind_ok (sign_at OpenParen p.0.1) _ row q.2 in
-    let v = bind_ok (values_at s.0) _ row s.2 in
+    let v = bind_ok (values_at form s.0) _ row s.2 in
     let f = bind_ok (end_at v.0.1) _ row v.2 in
     let u = relation_ok p.0.0.token p.0.0.at q.0 q.1 in
-    let l = values_ok s.0 v.0 v.1 in
+    let l = values_ok form s.0 v.0 v.1 in
     let first : ahead a ≡ Word q.0 ∷ ahead p.0.1 = next_token a p.0.0 p.0.1 p.1 (word_not_finish p.0.0.token q.0 u.is) ∙ ap (λ (t : TokenContent). t ∷ ahead p.0.1) u.is in
     let inside : ahead p.0.1 ≡ Mark OpenParen ∷ (l.inner ++ (Mark CloseParen ∷ [])) =
     sign_ok OpenParen p.0.1 s.0 s.1 ∙ ap (λ (ts : List TokenContent). Mark OpenParen ∷ ts) (l.parts ∙ ap (λ (ts : List TokenContent). l.inner ++ (Mark CloseParen ∷ ts)) (end_ok v.0.1 f.0 f.1))
     in
     let tokens : ahead a ≡ Word q.0 ∷ Mark OpenParen ∷ (l.inner ++ (Mark CloseParen ∷ [])) = first ∙ ap (λ (ts : List TokenContent). Word q.0 ∷ ts) inside in
-    subst (λ (z : RowRecord). FitsRowGrammar a.lexemes z) (ok_is (row_record q.0 v.0.0) row f.2)
+    subst (λ (z : RowRecord). FitsRowGrammar form a.lexemes z) (ok_is (row_record q.0 v.0.0) row f.2)
     (record { sentence = (l.inner, tokens, u.upper, l.separated); short = subst AreShort (sym tokens) (u.short, (tt, AreShort-join l.inner (Mark CloseParen ∷ []) l.short (tt, tt))); fits = l.few })
 
 -- ---- counts
@@ -392,40 +394,40 @@ count_ok most a n e =
 
 -- ---- atoms
 
-record Applied (w : List ℕ) (a : Ahead) (x : AtomRecord × Ahead) : Type 0 where
+record Applied (form : Form) (w : List ℕ) (a : Ahead) (x : AtomRecord × Ahead) : Type 0 where
   pub inner : List TokenContent
   pub parts : ahead a ≡ Mark OpenParen ∷ (inner ++ (Mark CloseParen ∷ ahead x.1))
   pub relation : w ≡ x.0.relation
   pub separated : Separated IsTermText inner x.0.terms
   pub short : AreShort inner
-  pub few : FewTerms x.0
+  pub few : (FewTerms form) x.0
 
-applied_ok : (w : List ℕ) (a : Ahead) (x : AtomRecord × Ahead) → applied_at w a ≡ Ok x → Applied w a x
+applied_ok : (form : Form) → (w : List ℕ) (a : Ahead) (x : AtomRecord × Ahead) → applied_at form w a ≡ Ok x → Applied form w a x
 unfolding applied_at
-applied_ok w a x e =
+applied_ok form w a x e =
     let p = bind_ok (sign_at OpenParen a) _ x e in
-    let q = bind_ok (terms_at p.0) _ x p.2 in
-    let l = terms_ok p.0 q.0 q.1 in
-    subst (λ (z : AtomRecord × Ahead). Applied w a z) (ok_is (atom_record w q.0.0, q.0.1) x q.2)
+    let q = bind_ok (terms_at form p.0) _ x p.2 in
+    let l = terms_ok form p.0 q.0 q.1 in
+    subst (λ (z : AtomRecord × Ahead). Applied form w a z) (ok_is (atom_record w q.0.0, q.0.1) x q.2)
     (record { inner = l.inner; parts = sign_ok OpenParen a p.0 p.1 ∙ ap (λ (ts : List TokenContent). Mark OpenParen ∷ ts) l.parts; relation = refl; separated = l.separated; short = l.short; few = l.few })
 
-abbrev AtomRead : Close → Ahead → AtomRecord × Bool × Ahead → Type 0
-AtomRead close a i = ItemRead IsAtomText FewTerms close a i
+abbrev AtomRead : (form : Form) → Close → Ahead → AtomRecord × Bool × Ahead → Type 0
+AtomRead form close a i = ItemRead IsAtomText (FewTerms form) close a i
 
-atom_ok : (close : Close) (a : Ahead) (i : AtomRecord × Bool × Ahead) → atom_at close true a ≡ Ok i → AtomRead close a i
+atom_ok : (form : Form) → (close : Close) (a : Ahead) (i : AtomRecord × Bool × Ahead) → atom_at form close true a ≡ Ok i → AtomRead form close a i
 unfolding atom_at
-atom_ok close a i e =
+atom_ok form close a i e =
     let p = bind_ok (next_at a) _ i e in
     let q = bind_ok (relation_in p.0.0.token p.0.0.at) _ i p.2 in
-    let s = bind_ok (applied_at q.0 p.0.1) _ i q.2 in
+    let s = bind_ok (applied_at form q.0 p.0.1) _ i q.2 in
     let m = bind_ok (goes_on_at close s.0.1) _ i s.2 in
     let u = relation_ok p.0.0.token p.0.0.at q.0 q.1 in
-    let x = applied_ok q.0 p.0.1 s.0 s.1 in
+    let x = applied_ok form q.0 p.0.1 s.0 s.1 in
     let first : ahead a ≡ Word q.0 ∷ ahead p.0.1 = next_token a p.0.0 p.0.1 p.1 (word_not_finish p.0.0.token q.0 u.is) ∙ ap (λ (t : TokenContent). t ∷ ahead p.0.1) u.is in
     let tail : ahead p.0.1 ≡ Mark OpenParen ∷ (x.inner ++ (Mark CloseParen ∷ after close m.0.0 (ahead m.0.1))) =
     x.parts ∙ ap (λ (ts : List TokenContent). Mark OpenParen ∷ (x.inner ++ (Mark CloseParen ∷ ts))) (goes_on_ok close s.0.1 m.0 m.1)
     in
-    subst (λ (z : AtomRecord × Bool × Ahead). AtomRead close a z) (ok_is (s.0.0, m.0.0, m.0.1) i m.2)
+    subst (λ (z : AtomRecord × Bool × Ahead). AtomRead form close a z) (ok_is (s.0.0, m.0.0, m.0.1) i m.2)
     (record {
       front = Word q.0 ∷ Mark OpenParen ∷ (x.inner ++ (Mark CloseParen ∷ []));
       parts = first ∙ ap (λ (ts : List TokenContent). Word q.0 ∷ ts) (tail ∙ ap (λ (ts : List TokenContent). Mark OpenParen ∷ ts) (sym (append_assoc x.inner (Mark CloseParen ∷ []) (after close m.0.0 (ahead m.0.1)))));
@@ -434,44 +436,44 @@ atom_ok close a i e =
       fits = x.few;
     })
 
-abbrev pub AtomsRead : Close → Ahead → List AtomRecord × Ahead → Type 0
-AtomsRead close a r = Listed IsAtomText FewTerms close 8 a r
+abbrev pub AtomsRead : (form : Form) → Close → Ahead → List AtomRecord × Ahead → Type 0
+AtomsRead form close a r = Listed IsAtomText (FewTerms form) close (most_atoms form) a r
 
-pub atoms_ok : (close : Close) (a : Ahead) (r : List AtomRecord × Ahead) → atoms_at close a ≡ Ok r → AtomsRead close a r
+pub atoms_ok : (form : Form) → (close : Close) (a : Ahead) (r : List AtomRecord × Ahead) → atoms_at form close a ≡ Ok r → AtomsRead form close a r
 unfolding atoms_at
-atoms_ok close a r e = listed_ok IsAtomText FewTerms close (atom_at close) 8 a r (atom_ok close) (atom_needs close) e
+atoms_ok form close a r e = listed_ok IsAtomText (FewTerms form) close (atom_at form close) (most_atoms form) a r (atom_ok form close) (atom_needs form close) e
 
 -- atoms, if any
-pub record AtomsIfAnyRead (close : Close) (a : Ahead) (r : List AtomRecord × Ahead) : Type 0 where
+pub record AtomsIfAnyRead (form : Form) (close : Close) (a : Ahead) (r : List AtomRecord × Ahead) : Type 0 where
   pub inner : List TokenContent
   pub parts : ahead a ≡ inner ++ closing close (ahead r.1)
   pub are : AreAtomsIfAny inner r.0
   pub short : AreShort inner
-  pub few : length r.0 ≤ 8
-  pub fits : AllByRecursion FewTerms r.0
+  pub few : length r.0 ≤ most_atoms form
+  pub fits : AllByRecursion (FewTerms form) r.0
 
-from_atoms : (close : Close) (a : Ahead) (xs : List AtomRecord) (b : Ahead) → AtomsRead close a (xs, b) → AtomsIfAnyRead close a (xs, b)
-from_atoms close a [] b l = absurd l.separated
-from_atoms close a (x ∷ xs) b l = record { inner = l.inner; parts = l.parts; are = l.separated; short = l.short; few = l.few; fits = l.fits }
+from_atoms : (form : Form) → (close : Close) (a : Ahead) (xs : List AtomRecord) (b : Ahead) → AtomsRead form close a (xs, b) → AtomsIfAnyRead form close a (xs, b)
+from_atoms form close a [] b l = absurd l.separated
+from_atoms form close a (x ∷ xs) b l = record { inner = l.inner; parts = l.parts; are = l.separated; short = l.short; few = l.few; fits = l.fits }
 
 next_close : (close : Close) (a : Ahead) (l : LexemeContent) (b : Ahead) → next_at a ≡ Ok (l, b) → is_close close l.token ≡ true → ahead a ≡ closing close (ahead b)
 next_close (By s) a l b e h = next_sign s a l b e h
 next_close End a l b e h = next_end a l b e h
 
-atoms_if_any_ok : (close : Close) (a : Ahead) (r : List AtomRecord × Ahead) → atoms_if_any_at close a ≡ Ok r → AtomsIfAnyRead close a r
+atoms_if_any_ok : (form : Form) → (close : Close) (a : Ahead) (r : List AtomRecord × Ahead) → atoms_if_any_at form close a ≡ Ok r → AtomsIfAnyRead form close a r
 unfolding atoms_if_any_at
-atoms_if_any_ok close a r e =
+atoms_if_any_ok form close a r e =
     let p = bind_ok (next_at a) _ r e in
     elim (chosen (is_close close p.0.0.token) _ _ r p.2) [
       | inl (h, m) ↦
-          subst (λ (z : List AtomRecord × Ahead). AtomsIfAnyRead close a z) (ok_is ([], p.0.1) r m)
+          subst (λ (z : List AtomRecord × Ahead). AtomsIfAnyRead form close a z) (ok_is ([], p.0.1) r m)
           (record { inner = []; parts = next_close close a p.0.0 p.0.1 p.1 h; are = refl; short = tt; few = omega arith; fits = tt })
-      | inr (h, m) ↦ from_atoms close a r.0 r.1 (atoms_ok close a r m)
+      | inr (h, m) ↦ from_atoms form close a r.0 r.1 (atoms_ok form close a r m)
     ]
 
 -- ---- queries and commands
 
-pub record QueryRead (a : Ahead) (q : QueryParts) : Type 0 where
+pub record QueryRead (form : Form) (a : Ahead) (q : QueryParts) : Type 0 where
   pub posts : List TokenContent
   pub heads : List TokenContent
   pub body : List TokenContent
@@ -485,20 +487,20 @@ pub record QueryRead (a : Ahead) (q : QueryParts) : Type 0 where
   pub short_posts : AreShort posts
   pub short_heads : AreShort heads
   pub short_body : AreShort body
-  pub fits : FitsQuery (query_record q.0 q.1 q.2)
+  pub fits : (FitsQuery form) (query_record q.0 q.1 q.2)
 
-pub parts_ok : (a : Ahead) (q : QueryParts) → parts_at a ≡ Ok q → QueryRead a q
+pub parts_ok : (form : Form) → (a : Ahead) (q : QueryParts) → parts_at form a ≡ Ok q → QueryRead form a q
 unfolding parts_at
-parts_ok a q e =
+parts_ok form a q e =
     let s = bind_ok (sign_at OpenBrace a) _ q e in
-    let ps = bind_ok (atoms_if_any_at (By CloseBrace) s.0) _ q s.2 in
-    let hs = bind_ok (atoms_at (By Arrow) ps.0.1) _ q ps.2 in
-    let bs = bind_ok (atoms_if_any_at End hs.0.1) _ q hs.2 in
+    let ps = bind_ok (atoms_if_any_at form (By CloseBrace) s.0) _ q s.2 in
+    let hs = bind_ok (atoms_at form (By Arrow) ps.0.1) _ q ps.2 in
+    let bs = bind_ok (atoms_if_any_at form End hs.0.1) _ q hs.2 in
     let l = sign_lexeme OpenBrace a s.0 s.1 in
-    let x = atoms_if_any_ok (By CloseBrace) s.0 ps.0 ps.1 in
-    let y = atoms_ok (By Arrow) ps.0.1 hs.0 hs.1 in
-    let z = atoms_if_any_ok End hs.0.1 bs.0 bs.1 in
-    subst (λ (z : QueryParts). QueryRead a z) (ok_is (ps.0.0, hs.0.0, bs.0.0, s.0) q bs.2)
+    let x = atoms_if_any_ok form (By CloseBrace) s.0 ps.0 ps.1 in
+    let y = atoms_ok form (By Arrow) ps.0.1 hs.0 hs.1 in
+    let z = atoms_if_any_ok form End hs.0.1 bs.0 bs.1 in
+    subst (λ (z : QueryParts). QueryRead form a z) (ok_is (ps.0.0, hs.0.0, bs.0.0, s.0) q bs.2)
     (record {
       posts = x.inner;
       heads = y.inner;
@@ -516,21 +518,21 @@ parts_ok a q e =
       fits = (x.few, y.few, z.few, x.fits, y.fits, z.fits);
     })
 
-query_tokens : (a : Ahead) (q : QueryParts) (r : QueryRead a q) → ahead a ≡ Mark OpenBrace ∷ (r.posts ++ (Mark CloseBrace ∷ (r.heads ++ (Mark Arrow ∷ r.body))))
-query_tokens a q r = ap tokens_of r.behind ∙ ap (λ (t : TokenContent). t ∷ ahead q.3) r.is_brace ∙ ap (λ (ts : List TokenContent). Mark OpenBrace ∷ ts) r.parts
+query_tokens : (form : Form) → (a : Ahead) (q : QueryParts) (r : (QueryRead form) a q) → ahead a ≡ Mark OpenBrace ∷ (r.posts ++ (Mark CloseBrace ∷ (r.heads ++ (Mark Arrow ∷ r.body))))
+query_tokens form a q r = ap tokens_of r.behind ∙ ap (λ (t : TokenContent). t ∷ ahead q.3) r.is_brace ∙ ap (λ (ts : List TokenContent). Mark OpenBrace ∷ ts) r.parts
 
-query_short : (a : Ahead) (q : QueryParts) (r : QueryRead a q) → AreShort (ahead a)
-query_short a q r = subst AreShort (sym (query_tokens a q r)) (tt, AreShort-join r.posts (Mark CloseBrace ∷ (r.heads ++ (Mark Arrow ∷ r.body))) r.short_posts (tt, AreShort-join r.heads (Mark Arrow ∷ r.body) r.short_heads (tt, r.short_body)))
+query_short : (form : Form) → (a : Ahead) (q : QueryParts) (r : (QueryRead form) a q) → AreShort (ahead a)
+query_short form a q r = subst AreShort (sym (query_tokens form a q r)) (tt, AreShort-join r.posts (Mark CloseBrace ∷ (r.heads ++ (Mark Arrow ∷ r.body))) r.short_posts (tt, AreShort-join r.heads (Mark Arrow ∷ r.body) r.short_heads (tt, r.short_body)))
 
-pub query_fits : (a : Ahead) (q : QueryParts) → QueryRead a q → FitsQueryGrammar a.lexemes (query_record q.0 q.1 q.2)
-query_fits a q r = record {
-  sentence = (r.posts, r.heads, r.body, query_tokens a q r, r.are_posts, r.are_heads, r.are_body);
-  short = query_short a q r;
+pub query_fits : (form : Form) → (a : Ahead) (q : QueryParts) → QueryRead form a q → FitsQueryGrammar form a.lexemes (query_record q.0 q.1 q.2)
+query_fits form a q r = record {
+  sentence = (r.posts, r.heads, r.body, query_tokens form a q r, r.are_posts, r.are_heads, r.are_body);
+  short = query_short form a q r;
   fits = r.fits;
 }
 
 -- what is read as a command's parts
-pub record PostRead (ls : List LexemeContent) (w : List ℕ) (q : QueryParts) : Type 0 where
+pub record PostRead (form : Form) (ls : List LexemeContent) (w : List ℕ) (q : QueryParts) : Type 0 where
   pub word : LexemeContent
   pub name : LexemeContent
   pub rest : Ahead
@@ -538,25 +540,25 @@ pub record PostRead (ls : List LexemeContent) (w : List ℕ) (q : QueryParts) : 
   pub is_word : word.token ≡ Word (codes "post")
   pub is_name : name.token ≡ Word w
   pub short : length w ≤ 32
-  pub query : QueryRead rest q
+  pub query : (QueryRead form) rest q
 
 -- what is read as a whole command
-pub record WholeRead (ls : List LexemeContent) (c : CommandContent) : Type 0 where
-  pub fits : FitsGrammar ls c
+pub record WholeRead (form : Form) (ls : List LexemeContent) (c : CommandContent) : Type 0 where
+  pub fits : (FitsGrammar form) ls c
   pub restricted : IsRestrictedCommand c
 
-abbrev pub PartsRead : List LexemeContent → Parts → Type 0
-PartsRead ls (posted w q) = PostRead ls w q
-PartsRead ls (whole c) = WholeRead ls c
+abbrev pub PartsRead : (form : Form) → List LexemeContent → Parts → Type 0
+PartsRead form ls (posted w q) = PostRead form ls w q
+PartsRead form ls (whole c) = WholeRead form ls c
 
-post_ok : (l : LexemeContent) (a : Ahead) (p : Parts) → l.token ≡ Word (codes "post") → post_parts a ≡ Ok p → PartsRead (l ∷ a.lexemes) p
+post_ok : (form : Form) → (l : LexemeContent) (a : Ahead) (p : Parts) → l.token ≡ Word (codes "post") → post_parts form a ≡ Ok p → PartsRead form (l ∷ a.lexemes) p
 unfolding post_parts
-post_ok l a p is e =
+post_ok form l a p is e =
     let n = bind_ok (next_at a) _ p e in
     let w = bind_ok (name_in n.0.0.token n.0.0.at) _ p n.2 in
-    let q = bind_ok (parts_at n.0.1) _ p w.2 in
+    let q = bind_ok (parts_at form n.0.1) _ p w.2 in
     let k = name_ok n.0.0.token n.0.0.at w.0 w.1 in
-    subst (λ (z : Parts). PartsRead (l ∷ a.lexemes) z) (ok_is (posted w.0 q.0) p q.2)
+    subst (λ (z : Parts). PartsRead form (l ∷ a.lexemes) z) (ok_is (posted w.0 q.0) p q.2)
     (record {
       word = l;
       name = n.0.0;
@@ -565,29 +567,29 @@ post_ok l a p is e =
       is_word = is;
       is_name = k.is;
       short = k.short;
-      query = parts_ok n.0.1 q.0 q.1;
+      query = parts_ok form n.0.1 q.0 q.1;
     })
 
-relation_read : (l : LexemeContent) (a : Ahead) (c : CommandContent) → l.token ≡ Word (codes "relation") → relation_at a ≡ Ok c → WholeRead (l ∷ a.lexemes) c
+relation_read : (form : Form) → (l : LexemeContent) (a : Ahead) (c : CommandContent) → l.token ≡ Word (codes "relation") → relation_at form a ≡ Ok c → WholeRead form (l ∷ a.lexemes) c
 unfolding relation_at
-relation_read l a c is e =
+relation_read form l a c is e =
     let p = bind_ok (next_at a) _ c e in
     let q = bind_ok (relation_in p.0.0.token p.0.0.at) _ c p.2 in
-    let n = bind_ok (count_at 8 p.0.1) _ c q.2 in
+    let n = bind_ok (count_at (most_terms form) p.0.1) _ c q.2 in
     let f = bind_ok (end_at n.0.1) _ c n.2 in
     let u = relation_ok p.0.0.token p.0.0.at q.0 q.1 in
-    let k = count_ok 8 p.0.1 n.0 n.1 in
+    let k = count_ok (most_terms form) p.0.1 n.0 n.1 in
     let first : ahead a ≡ Word q.0 ∷ ahead p.0.1 = next_token a p.0.0 p.0.1 p.1 (word_not_finish p.0.0.token q.0 u.is) ∙ ap (λ (t : TokenContent). t ∷ ahead p.0.1) u.is in
     let rest : ahead p.0.1 ≡ Literal (Number k.number) ∷ [] = k.parts ∙ ap (λ (ts : List TokenContent). Literal (Number k.number) ∷ ts) (end_ok n.0.1 f.0 f.1) in
     let tokens : l.token ∷ ahead a ≡ Word (codes "relation") ∷ Word q.0 ∷ Literal (Number k.number) ∷ [] =
     ap (λ (t : TokenContent). t ∷ ahead a) is ∙ ap (λ (ts : List TokenContent). Word (codes "relation") ∷ ts) (first ∙ ap (λ (ts : List TokenContent). Word q.0 ∷ ts) rest)
     in
-    subst (λ (z : CommandContent). WholeRead (l ∷ a.lexemes) z) (ok_is (Relation q.0 n.0.0) c f.2)
+    subst (λ (z : CommandContent). WholeRead form (l ∷ a.lexemes) z) (ok_is (Relation q.0 n.0.0) c f.2)
     (record { fits = record { sentence = (k.number, tokens, u.upper, k.count); short = subst AreShort (sym tokens) (omega arith, (u.short, (tt, tt))); fits = (k.some, k.few) }; restricted = tt })
 
-limits_read : (l : LexemeContent) (a : Ahead) (c : CommandContent) → l.token ≡ Word (codes "limits") → limits_at a ≡ Ok c → WholeRead (l ∷ a.lexemes) c
+limits_read : (form : Form) → (l : LexemeContent) (a : Ahead) (c : CommandContent) → l.token ≡ Word (codes "limits") → limits_at a ≡ Ok c → WholeRead form (l ∷ a.lexemes) c
 unfolding limits_at
-limits_read l a c is e =
+limits_read form l a c is e =
     let m = bind_ok (count_at MAX_COUNT a) _ c e in
     let n = bind_ok (count_at MAX_COUNT m.0.1) _ c m.2 in
     let f = bind_ok (end_at n.0.1) _ c n.2 in
@@ -597,95 +599,95 @@ limits_read l a c is e =
     let tokens : l.token ∷ ahead a ≡ Word (codes "limits") ∷ Literal (Number pool.number) ∷ Literal (Number journal.number) ∷ [] =
     ap (λ (t : TokenContent). t ∷ ahead a) is ∙ ap (λ (ts : List TokenContent). Word (codes "limits") ∷ ts) (pool.parts ∙ ap (λ (ts : List TokenContent). Literal (Number pool.number) ∷ ts) rest)
     in
-    subst (λ (z : CommandContent). WholeRead (l ∷ a.lexemes) z) (ok_is (Limits m.0.0 n.0.0) c f.2)
+    subst (λ (z : CommandContent). WholeRead form (l ∷ a.lexemes) z) (ok_is (Limits m.0.0 n.0.0) c f.2)
     (record { fits = record { sentence = (pool.number, journal.number, tokens, pool.count, journal.count); short = subst AreShort (sym tokens) (omega arith, (tt, (tt, tt))); fits = (pool.some, pool.few, journal.some, journal.few) }; restricted = tt })
 
-withdraw_read : (l : LexemeContent) (a : Ahead) (c : CommandContent) → l.token ≡ Word (codes "withdraw") → withdraw_at a ≡ Ok c → WholeRead (l ∷ a.lexemes) c
+withdraw_read : (form : Form) → (l : LexemeContent) (a : Ahead) (c : CommandContent) → l.token ≡ Word (codes "withdraw") → withdraw_at a ≡ Ok c → WholeRead form (l ∷ a.lexemes) c
 unfolding withdraw_at
-withdraw_read l a c is e =
+withdraw_read form l a c is e =
     let p = bind_ok (next_at a) _ c e in
     let w = bind_ok (name_in p.0.0.token p.0.0.at) _ c p.2 in
     let f = bind_ok (end_at p.0.1) _ c w.2 in
     let k = name_ok p.0.0.token p.0.0.at w.0 w.1 in
     let rest : ahead a ≡ Word w.0 ∷ [] = next_token a p.0.0 p.0.1 p.1 (word_not_finish p.0.0.token w.0 k.is) ∙ ap (λ (t : TokenContent). t ∷ ahead p.0.1) k.is ∙ ap (λ (ts : List TokenContent). Word w.0 ∷ ts) (end_ok p.0.1 f.0 f.1) in
     let tokens : l.token ∷ ahead a ≡ Word (codes "withdraw") ∷ Word w.0 ∷ [] = ap (λ (t : TokenContent). t ∷ ahead a) is ∙ ap (λ (ts : List TokenContent). Word (codes "withdraw") ∷ ts) rest in
-    subst (λ (z : CommandContent). WholeRead (l ∷ a.lexemes) z) (ok_is (Withdraw w.0) c f.2)
+    subst (λ (z : CommandContent). WholeRead form (l ∷ a.lexemes) z) (ok_is (Withdraw w.0) c f.2)
     (record { fits = record { sentence = tokens; short = subst AreShort (sym tokens) (omega arith, (k.short, tt)); fits = tt }; restricted = tt })
 
-insert_read : (l : LexemeContent) (a : Ahead) (c : CommandContent) → l.token ≡ Word (codes "insert") → insert_at a ≡ Ok c → WholeRead (l ∷ a.lexemes) c
+insert_read : (form : Form) → (l : LexemeContent) (a : Ahead) (c : CommandContent) → l.token ≡ Word (codes "insert") → insert_at form a ≡ Ok c → WholeRead form (l ∷ a.lexemes) c
 unfolding insert_at
-insert_read l a c is e =
-    let r = bind_ok (row_at a) _ c e in
-    let f = row_ok a r.0 r.1 in
+insert_read form l a c is e =
+    let r = bind_ok (row_at form a) _ c e in
+    let f = row_ok form a r.0 r.1 in
     let tokens : l.token ∷ ahead a ≡ Word (codes "insert") ∷ ahead a = ap (λ (t : TokenContent). t ∷ ahead a) is in
-    subst (λ (z : CommandContent). WholeRead (l ∷ a.lexemes) z) (ok_is (Insert r.0) c r.2)
+    subst (λ (z : CommandContent). WholeRead form (l ∷ a.lexemes) z) (ok_is (Insert r.0) c r.2)
     (record { fits = record { sentence = (ahead a, tokens, f.sentence); short = subst AreShort (sym tokens) (omega arith, f.short); fits = f.fits }; restricted = tt })
 
-delete_read : (l : LexemeContent) (a : Ahead) (c : CommandContent) → l.token ≡ Word (codes "delete") → delete_at a ≡ Ok c → WholeRead (l ∷ a.lexemes) c
+delete_read : (form : Form) → (l : LexemeContent) (a : Ahead) (c : CommandContent) → l.token ≡ Word (codes "delete") → delete_at form a ≡ Ok c → WholeRead form (l ∷ a.lexemes) c
 unfolding delete_at
-delete_read l a c is e =
-    let r = bind_ok (row_at a) _ c e in
-    let f = row_ok a r.0 r.1 in
+delete_read form l a c is e =
+    let r = bind_ok (row_at form a) _ c e in
+    let f = row_ok form a r.0 r.1 in
     let tokens : l.token ∷ ahead a ≡ Word (codes "delete") ∷ ahead a = ap (λ (t : TokenContent). t ∷ ahead a) is in
-    subst (λ (z : CommandContent). WholeRead (l ∷ a.lexemes) z) (ok_is (Delete r.0) c r.2)
+    subst (λ (z : CommandContent). WholeRead form (l ∷ a.lexemes) z) (ok_is (Delete r.0) c r.2)
     (record { fits = record { sentence = (ahead a, tokens, f.sentence); short = subst AreShort (sym tokens) (omega arith, f.short); fits = f.fits }; restricted = tt })
 
 alone_end : (c d : CommandContent) (a : Ahead) → word_alone c a ≡ Ok d → (ahead a ≡ []) × (c ≡ d)
 unfolding word_alone
 alone_end c d a e = let f = bind_ok (end_at a) _ d e in (end_ok a f.0 f.1, ok_is c d f.2)
 
-publish_read : (l : LexemeContent) (a : Ahead) (c : CommandContent) → l.token ≡ Word (codes "publish") → word_alone Publish a ≡ Ok c → WholeRead (l ∷ a.lexemes) c
-publish_read l a c is e =
+publish_read : (form : Form) → (l : LexemeContent) (a : Ahead) (c : CommandContent) → l.token ≡ Word (codes "publish") → word_alone Publish a ≡ Ok c → WholeRead form (l ∷ a.lexemes) c
+publish_read form l a c is e =
     let f = alone_end Publish c a e in
     let tokens : l.token ∷ ahead a ≡ Word (codes "publish") ∷ [] = ap (λ (t : TokenContent). t ∷ ahead a) is ∙ ap (λ (ts : List TokenContent). Word (codes "publish") ∷ ts) f.0 in
-    subst (λ (z : CommandContent). WholeRead (l ∷ a.lexemes) z) f.1
+    subst (λ (z : CommandContent). WholeRead form (l ∷ a.lexemes) z) f.1
     (record { fits = record { sentence = tokens; short = subst AreShort (sym tokens) (omega arith, tt); fits = tt }; restricted = tt })
 
-show_read : (l : LexemeContent) (a : Ahead) (c : CommandContent) → l.token ≡ Word (codes "show") → word_alone Show a ≡ Ok c → WholeRead (l ∷ a.lexemes) c
-show_read l a c is e =
+show_read : (form : Form) → (l : LexemeContent) (a : Ahead) (c : CommandContent) → l.token ≡ Word (codes "show") → word_alone Show a ≡ Ok c → WholeRead form (l ∷ a.lexemes) c
+show_read form l a c is e =
     let f = alone_end Show c a e in
     let tokens : l.token ∷ ahead a ≡ Word (codes "show") ∷ [] = ap (λ (t : TokenContent). t ∷ ahead a) is ∙ ap (λ (ts : List TokenContent). Word (codes "show") ∷ ts) f.0 in
-    subst (λ (z : CommandContent). WholeRead (l ∷ a.lexemes) z) f.1
+    subst (λ (z : CommandContent). WholeRead form (l ∷ a.lexemes) z) f.1
     (record { fits = record { sentence = tokens; short = subst AreShort (sym tokens) (omega arith, tt); fits = tt }; restricted = tt })
 
-whole_ok : (ls : List LexemeContent) (r : Result CommandContent TextFault) (p : Parts) → ((c : CommandContent) → r ≡ Ok c → WholeRead ls c) → whole_parts r ≡ Ok p → PartsRead ls p
-whole_ok ls r p read e = let c = bind_ok r (λ c. Ok (whole c)) p e in subst (λ (z : Parts). PartsRead ls z) (ok_is (whole c.0) p c.2) (read c.0 c.1)
+whole_ok : (form : Form) → (ls : List LexemeContent) (r : Result CommandContent TextFault) (p : Parts) → ((c : CommandContent) → r ≡ Ok c → WholeRead form ls c) → whole_parts r ≡ Ok p → PartsRead form ls p
+whole_ok form ls r p read e = let c = bind_ok r (λ c. Ok (whole c)) p e in subst (λ (z : Parts). PartsRead form ls z) (ok_is (whole c.0) p c.2) (read c.0 c.1)
 
 -- what stands behind a command word
-parts_of_ok : (word : CommandWord) (l : LexemeContent) (a : Ahead) (p : Parts) → l.token ≡ Word (bytes_of word) → parts_of word a ≡ Ok p → PartsRead (l ∷ a.lexemes) p
-parts_of_ok words.Relation l a p is e = whole_ok (l ∷ a.lexemes) (relation_at a) p (λ c h. relation_read l a c is h) e
-parts_of_ok words.Limits l a p is e = whole_ok (l ∷ a.lexemes) (limits_at a) p (λ c h. limits_read l a c is h) e
-parts_of_ok words.Post l a p is e = post_ok l a p is e
-parts_of_ok words.Withdraw l a p is e = whole_ok (l ∷ a.lexemes) (withdraw_at a) p (λ c h. withdraw_read l a c is h) e
-parts_of_ok words.Insert l a p is e = whole_ok (l ∷ a.lexemes) (insert_at a) p (λ c h. insert_read l a c is h) e
-parts_of_ok words.Delete l a p is e = whole_ok (l ∷ a.lexemes) (delete_at a) p (λ c h. delete_read l a c is h) e
-parts_of_ok words.Publish l a p is e = whole_ok (l ∷ a.lexemes) (word_alone Publish a) p (λ c h. publish_read l a c is h) e
-parts_of_ok words.Show l a p is e = whole_ok (l ∷ a.lexemes) (word_alone Show a) p (λ c h. show_read l a c is h) e
+parts_of_ok : (form : Form) → (word : CommandWord) (l : LexemeContent) (a : Ahead) (p : Parts) → l.token ≡ Word (bytes_of word) → parts_of form word a ≡ Ok p → PartsRead form (l ∷ a.lexemes) p
+parts_of_ok form words.Relation l a p is e = whole_ok form (l ∷ a.lexemes) (relation_at form a) p (λ c h. relation_read form l a c is h) e
+parts_of_ok form words.Limits l a p is e = whole_ok form (l ∷ a.lexemes) (limits_at a) p (λ c h. limits_read form l a c is h) e
+parts_of_ok form words.Post l a p is e = post_ok form l a p is e
+parts_of_ok form words.Withdraw l a p is e = whole_ok form (l ∷ a.lexemes) (withdraw_at a) p (λ c h. withdraw_read form l a c is h) e
+parts_of_ok form words.Insert l a p is e = whole_ok form (l ∷ a.lexemes) (insert_at form a) p (λ c h. insert_read form l a c is h) e
+parts_of_ok form words.Delete l a p is e = whole_ok form (l ∷ a.lexemes) (delete_at form a) p (λ c h. delete_read form l a c is h) e
+parts_of_ok form words.Publish l a p is e = whole_ok form (l ∷ a.lexemes) (word_alone Publish a) p (λ c h. publish_read form l a c is h) e
+parts_of_ok form words.Show l a p is e = whole_ok form (l ∷ a.lexemes) (word_alone Show a) p (λ c h. show_read form l a c is h) e
 
-parts_from_ok : (l : LexemeContent) (a : Ahead) (p : Parts) (t : TokenContent) → l.token ≡ t → parts_from (command_word_in t) l.at a ≡ Ok p → PartsRead (l ∷ a.lexemes) p
-parts_from_ok l a p (Word w) is e = by_case (command_word w) refl e
+parts_from_ok : (form : Form) → (l : LexemeContent) (a : Ahead) (p : Parts) (t : TokenContent) → l.token ≡ t → parts_from form (command_word_in t) l.at a ≡ Ok p → PartsRead form (l ∷ a.lexemes) p
+parts_from_ok form l a p (Word w) is e = by_case (command_word w) refl e
   where
-    by_case : (o : Option CommandWord) → command_word w ≡ o → parts_from o l.at a ≡ Ok p → PartsRead (l ∷ a.lexemes) p
+    by_case : (o : Option CommandWord) → command_word w ≡ o → parts_from form o l.at a ≡ Ok p → PartsRead form (l ∷ a.lexemes) p
     by_case None d h = absurd (never_ok Shape l.at p h)
-    by_case (Some word) d h = parts_of_ok word l a p (is ∙ ap (λ (v : List ℕ). Word v) (command_word-is w word d)) h
-parts_from_ok l a p (Mark s) is e = absurd (never_ok Shape l.at p e)
-parts_from_ok l a p (Literal v) is e = absurd (never_ok Shape l.at p e)
-parts_from_ok l a p (Bad k) is e = absurd (never_ok Shape l.at p e)
-parts_from_ok l a p Finish is e = absurd (never_ok Shape l.at p e)
+    by_case (Some word) d h = parts_of_ok form word l a p (is ∙ ap (λ (v : List ℕ). Word v) (command_word-is w word d)) h
+parts_from_ok form l a p (Mark s) is e = absurd (never_ok Shape l.at p e)
+parts_from_ok form l a p (Literal v) is e = absurd (never_ok Shape l.at p e)
+parts_from_ok form l a p (Bad k) is e = absurd (never_ok Shape l.at p e)
+parts_from_ok form l a p Finish is e = absurd (never_ok Shape l.at p e)
 
-finish_fails : (t : TokenContent) (at : ℕ) (b : Ahead) (p : Parts) → parts_from (command_word_in t) at b ≡ Ok p → t ≡ Finish → ⊥
-finish_fails t at b p e f = never_ok Shape at p (ap (λ (u : TokenContent). parts_from (command_word_in u) at b) (sym f) ∙ e)
+finish_fails : (form : Form) → (t : TokenContent) (at : ℕ) (b : Ahead) (p : Parts) → parts_from form (command_word_in t) at b ≡ Ok p → t ≡ Finish → ⊥
+finish_fails form t at b p e f = never_ok Shape at p (ap (λ (u : TokenContent). parts_from form (command_word_in u) at b) (sym f) ∙ e)
 
-pub command_parts_ok : (a : Ahead) (p : Parts) → command_parts a ≡ Ok p → PartsRead a.lexemes p
+pub command_parts_ok : (form : Form) → (a : Ahead) (p : Parts) → command_parts form a ≡ Ok p → PartsRead form a.lexemes p
 unfolding command_parts
-command_parts_ok a p e =
+command_parts_ok form a p e =
     let n = bind_ok (next_at a) _ p e in
-    let split = next_lexeme a n.0.0 n.0.1 n.1 (finish_fails n.0.0.token n.0.0.at n.0.1 p n.2) in
-    subst (λ (ls : List LexemeContent). PartsRead ls p) (sym split) (parts_from_ok n.0.0 n.0.1 p n.0.0.token refl n.2)
+    let split = next_lexeme a n.0.0 n.0.1 n.1 (finish_fails form n.0.0.token n.0.0.at n.0.1 p n.2) in
+    subst (λ (ls : List LexemeContent). PartsRead form ls p) (sym split) (parts_from_ok form n.0.0 n.0.1 p n.0.0.token refl n.2)
 
 -- a post that was read fits the grammar
-pub post_fits : (ls : List LexemeContent) (w : List ℕ) (q : QueryParts) → PostRead ls w q → FitsGrammar ls (Post w (query_record q.0 q.1 q.2))
-post_fits ls w q r =
-    let f = query_fits r.rest q r.query in
+pub post_fits : (form : Form) → (ls : List LexemeContent) (w : List ℕ) (q : QueryParts) → PostRead form ls w q → FitsGrammar form ls (Post w (query_record q.0 q.1 q.2))
+post_fits form ls w q r =
+    let f = query_fits form r.rest q r.query in
     let tokens : tokens_of ls ≡ Word (codes "post") ∷ Word w ∷ ahead r.rest = ap tokens_of r.split ∙ ap (λ (t : TokenContent). t ∷ r.name.token ∷ ahead r.rest) r.is_word ∙ ap (λ (t : TokenContent). Word (codes "post") ∷ t ∷ ahead r.rest) r.is_name in
     record { sentence = (ahead r.rest, tokens, f.sentence); short = subst AreShort (sym tokens) (omega arith, (r.short, f.short)); fits = f.fits }

@@ -1,14 +1,14 @@
 -- The first fault of a text. (this project's profile)
 use Rattle.std.specs.Prelude.{◌≡◌, ℕ, ◌+◌, ◌<◌, ◌≤◌, List, [], ◌∷◌, ◌++◌, length, fold, codes, Bool, true, false, not, ◌||◌, ◌&&◌, nat_lt, nat_le, Option, Some, None, ◌⊎◌, IsTrue, if◌then◌else◌}
 use Rattle.std.specs.Str.{bytes_eq}
-use Rattle.cq_atom.specs.declared.limits.TheConstants.{MAX_NAME, MAX_ARITY, MAX_ATOMS}
+use Rattle.cq_atom.specs.declared.limits.TheConstants.{MAX_NAME}
 use Rattle.cq_atom.specs.declared.value.Content.TheVariants.{Number, Text}
 use Rattle.cq_atom.specs.declared.term.TermKind.TheVariants.{Variable}
 use Rattle.cq_atom.specs.Text.{begins_with_lower}
 use Rattle.cq_atom.specs.Value.{ValueContent}
 use Rattle.cq_atom.specs.Atom.{AtomRecord, RowRecord}
 use Rattle.cq_atom.specs.Query.{QueryRecord, is_bound}
-use Rattle.cq_text.specs.declared.limits.TheConstants.{MAX_LINE, MAX_COUNT}
+use Rattle.cq_text.specs.declared.limits.TheConstants.{MAX_COUNT}
 use Rattle.cq_text.specs.declared.fault.Kind.{Kind}
 use Rattle.cq_text.specs.declared.fault.Kind.TheVariants.{Shape, Limit, Unbound}
 use Rattle.cq_text.specs.declared.command.CommandKind.TheVariants.{Post}
@@ -17,6 +17,8 @@ use Rattle.cq_text.specs.declared.token.Token.TheVariants.{Mark, Word, Literal, 
 use Rattle.cq_text.specs.Token.{TokenContent, LexemeContent, flaw}
 use Rattle.cq_text.specs.Lexing.{is_blank, lexemes_of}
 use Rattle.cq_text.specs.Grammar.{CommandContent, count_of, IsSentence, IsQueryText, IsRowText, FitsGrammar, FitsQueryGrammar}
+use Rattle.cq_text.specs.declared.form.Form.{Form}
+use Rattle.cq_text.specs.Forms.{most_atoms, most_bytes, most_terms}
 
 -- ---- what may still come
 
@@ -49,23 +51,23 @@ abbrev pub opening : Place
 opening = record { commas = 0; atoms = 0; most = None }
 
 -- The numbers behind these words are counts with a range.
-abbrev pub most_behind : List ℕ → Option ℕ → Option ℕ
-most_behind w most = if bytes_eq w (codes "relation") then Some MAX_ARITY else (if bytes_eq w (codes "limits") then Some MAX_COUNT else most)
+abbrev pub most_behind : (form : Form) → List ℕ → Option ℕ → Option ℕ
+most_behind form w most = if bytes_eq w (codes "relation") then Some (most_terms form) else (if bytes_eq w (codes "limits") then Some MAX_COUNT else most)
 
-abbrev pub behind_token : Place → TokenContent → Place
-behind_token p (Mark Comma) = record { commas = p.commas + 1; atoms = p.atoms; most = None }
-behind_token p (Mark OpenParen) = record { commas = 0; atoms = p.atoms; most = None }
-behind_token p (Mark CloseParen) = record { commas = 0; atoms = p.atoms + 1; most = None }
-behind_token p (Mark OpenBrace) = opening
-behind_token p (Mark CloseBrace) = opening
-behind_token p (Mark Arrow) = opening
-behind_token p (Word w) = record { commas = p.commas; atoms = p.atoms; most = most_behind w p.most }
-behind_token p (Literal v) = p
-behind_token p (Bad kind) = p
-behind_token p Finish = p
+abbrev pub behind_token : (form : Form) → Place → TokenContent → Place
+behind_token form p (Mark Comma) = record { commas = p.commas + 1; atoms = p.atoms; most = None }
+behind_token form p (Mark OpenParen) = record { commas = 0; atoms = p.atoms; most = None }
+behind_token form p (Mark CloseParen) = record { commas = 0; atoms = p.atoms + 1; most = None }
+behind_token form p (Mark OpenBrace) = opening
+behind_token form p (Mark CloseBrace) = opening
+behind_token form p (Mark Arrow) = opening
+behind_token form p (Word w) = record { commas = p.commas; atoms = p.atoms; most = most_behind form w p.most }
+behind_token form p (Literal v) = p
+behind_token form p (Bad kind) = p
+behind_token form p Finish = p
 
-unfoldable pub place_behind : List TokenContent → Place
-place_behind ts = fold behind_token opening ts
+unfoldable pub place_behind : (form : Form) → List TokenContent → Place
+place_behind form ts = fold (behind_token form) opening ts
 
 -- A count that is 0, negative or above the most.
 abbrev pub is_out_of_range : Option ℕ → ValueContent → Bool
@@ -74,31 +76,31 @@ is_out_of_range (Some most) (Number n) = not (nat_le 1 (count_of n) && nat_le (c
 is_out_of_range (Some most) (Text t) = false
 
 -- A long identifier, a ninth term, the first token of a ninth atom, a count out of its range.
-abbrev pub is_over : Place → TokenContent → Bool
-is_over p (Word w) = nat_lt MAX_NAME (length w) || nat_le MAX_ARITY p.commas || nat_le MAX_ATOMS p.atoms
-is_over p (Literal v) = nat_le MAX_ARITY p.commas || is_out_of_range p.most v
-is_over p (Mark s) = false
-is_over p (Bad kind) = false
-is_over p Finish = false
+abbrev pub is_over : (form : Form) → Place → TokenContent → Bool
+is_over form p (Word w) = nat_lt MAX_NAME (length w) || nat_le (most_terms form) p.commas || nat_le (most_atoms form) p.atoms
+is_over form p (Literal v) = nat_le (most_terms form) p.commas || is_out_of_range p.most v
+is_over form p (Mark s) = false
+is_over form p (Bad kind) = false
+is_over form p Finish = false
 
-abbrev pub IsOver : List TokenContent → TokenContent → Type 0
-IsOver before t = IsTrue (is_over (place_behind before) t)
+abbrev pub IsOver : (form : Form) → List TokenContent → TokenContent → Type 0
+IsOver form before t = IsTrue (is_over form (place_behind form before) t)
 
 -- ---- faults of tokens
 
 -- The kind of fault that a token is after those before it: its own flaw, else `Shape` where nothing completes them, else `Limit`.
-abbrev pub IsFault : (List TokenContent → Type 0) → List TokenContent → TokenContent → Option Kind → Kind → Type 0
-IsFault Whole before t (Some flaw) kind = kind ≡ flaw
-IsFault Whole before t None kind =
+abbrev pub IsFault : (form : Form) → (List TokenContent → Type 0) → List TokenContent → TokenContent → Option Kind → Kind → Type 0
+IsFault form Whole before t (Some flaw) kind = kind ≡ flaw
+IsFault form Whole before t None kind =
     ((kind ≡ Shape) × (IsViable Whole (before ++ (t ∷ [])) → ⊥))
-    ⊎ ((kind ≡ Limit) × IsViable Whole (before ++ (t ∷ [])) × IsOver before t)
+    ⊎ ((kind ≡ Limit) × IsViable Whole (before ++ (t ∷ [])) × IsOver form before t)
 
 -- The first fault of the lexemes after those before, of a text that ends at end.
-abbrev pub FirstTokenFault : (List TokenContent → Type 0) → List TokenContent → List LexemeContent → ℕ → Kind → ℕ → Type 0
-FirstTokenFault Whole before [] end kind offset = (Whole before → ⊥) × (kind ≡ Shape) × (offset ≡ end)
-FirstTokenFault Whole before (l ∷ ls) end kind offset =
-    (IsFault Whole before l.token (flaw l.token) kind × (offset ≡ l.at))
-    ⊎ (IsViable Whole (before ++ (l.token ∷ [])) × (IsOver before l.token → ⊥) × FirstTokenFault Whole (before ++ (l.token ∷ [])) ls end kind offset)
+abbrev pub FirstTokenFault : (form : Form) → (List TokenContent → Type 0) → List TokenContent → List LexemeContent → ℕ → Kind → ℕ → Type 0
+FirstTokenFault form Whole before [] end kind offset = (Whole before → ⊥) × (kind ≡ Shape) × (offset ≡ end)
+FirstTokenFault form Whole before (l ∷ ls) end kind offset =
+    (IsFault form Whole before l.token (flaw l.token) kind × (offset ≡ l.at))
+    ⊎ (IsViable Whole (before ++ (l.token ∷ [])) × (IsOver form before l.token → ⊥) × FirstTokenFault form Whole (before ++ (l.token ∷ [])) ls end kind offset)
 
 -- ---- unbound variables
 
@@ -139,33 +141,33 @@ IsUnboundAt ls query offset = first_unbound_at query.body (behind_brace ls) ≡ 
 -- ---- texts
 
 -- A text of a command fits the grammar and its limits, and has an unbound variable.
-abbrev pub UnboundInCommand : List LexemeContent → ℕ → Type 0
-UnboundInCommand ls offset = (name : List ℕ) × (query : QueryRecord) × FitsGrammar ls (Post name query) × IsUnboundAt ls query offset
+abbrev pub UnboundInCommand : (form : Form) → List LexemeContent → ℕ → Type 0
+UnboundInCommand form ls offset = (name : List ℕ) × (query : QueryRecord) × FitsGrammar form ls (Post name query) × IsUnboundAt ls query offset
 
-abbrev pub UnboundInQuery : List LexemeContent → ℕ → Type 0
-UnboundInQuery ls offset = (query : QueryRecord) × FitsQueryGrammar ls query × IsUnboundAt ls query offset
+abbrev pub UnboundInQuery : (form : Form) → List LexemeContent → ℕ → Type 0
+UnboundInQuery form ls offset = (query : QueryRecord) × FitsQueryGrammar form ls query × IsUnboundAt ls query offset
 
 -- A text that is too long has its fault at the limit. Any other has the first fault of its tokens, or else that of a variable.
-abbrev pub FirstFaultOf : (List TokenContent → Type 0) → (List LexemeContent → ℕ → Type 0) → List ℕ → Kind → ℕ → Type 0
-FirstFaultOf Whole UnboundIn text kind offset =
-    ((MAX_LINE < length text) × (kind ≡ Limit) × (offset ≡ MAX_LINE))
-    ⊎ ((length text ≤ MAX_LINE) × (FirstTokenFault Whole [] (lexemes_of text) (length text) kind offset ⊎ ((kind ≡ Unbound) × UnboundIn (lexemes_of text) offset)))
+abbrev pub FirstFaultOf : (form : Form) → (List TokenContent → Type 0) → (List LexemeContent → ℕ → Type 0) → List ℕ → Kind → ℕ → Type 0
+FirstFaultOf form Whole UnboundIn text kind offset =
+    ((most_bytes form < length text) × (kind ≡ Limit) × (offset ≡ most_bytes form))
+    ⊎ ((length text ≤ most_bytes form) × (FirstTokenFault form Whole [] (lexemes_of text) (length text) kind offset ⊎ ((kind ≡ Unbound) × UnboundIn (lexemes_of text) offset)))
 
 -- The first fault of a text that is read as a command: a blank text that is not too long has none.
-abbrev pub FirstFault : List ℕ → Kind → ℕ → Type 0
-FirstFault text kind offset = (length text ≤ MAX_LINE → IsTrue (is_blank text) → ⊥) × FirstFaultOf IsCommandText UnboundInCommand text kind offset
+abbrev pub FirstFault : (form : Form) → List ℕ → Kind → ℕ → Type 0
+FirstFault form text kind offset = (length text ≤ most_bytes form → IsTrue (is_blank text) → ⊥) × FirstFaultOf form IsCommandText (UnboundInCommand form) text kind offset
 
 -- The first fault of a text that is read as a query.
-abbrev pub FirstQueryFault : List ℕ → Kind → ℕ → Type 0
-FirstQueryFault text kind offset = FirstFaultOf IsLoneQuery UnboundInQuery text kind offset
+abbrev pub FirstQueryFault : (form : Form) → List ℕ → Kind → ℕ → Type 0
+FirstQueryFault form text kind offset = FirstFaultOf form IsLoneQuery (UnboundInQuery form) text kind offset
 
 -- A ground atom has no variable, so none that is unbound.
 abbrev pub UnboundInRow : List LexemeContent → ℕ → Type 0
 UnboundInRow ls offset = ⊥
 
 -- The first fault of a text that is read as a ground atom.
-abbrev pub FirstRowFault : List ℕ → Kind → ℕ → Type 0
-FirstRowFault text kind offset = FirstFaultOf IsLoneRow UnboundInRow text kind offset
+abbrev pub FirstRowFault : (form : Form) → List ℕ → Kind → ℕ → Type 0
+FirstRowFault form text kind offset = FirstFaultOf form IsLoneRow UnboundInRow text kind offset
 
 -- ---- one reading
 

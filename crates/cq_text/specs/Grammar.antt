@@ -2,20 +2,22 @@
 -- (the form `{posts} heads <- body` and the range restriction: Gupta et al., SIGMOD 2011; all else: this project's profile)
 use Rattle.std.specs.Prelude.{◌≡◌, ℕ, ℤ, pos, negsuc, ◌≤◌, List, [], ◌∷◌, ◌++◌, length, codes, ◌⊎◌, IsTrue}
 use Rattle.std.specs.List.{AllByRecursion}
-use Rattle.cq_atom.specs.declared.limits.TheConstants.{MAX_NAME, MAX_ARITY, MAX_ATOMS}
+use Rattle.cq_atom.specs.declared.limits.TheConstants.{MAX_NAME}
 use Rattle.cq_atom.specs.declared.value.Content.TheVariants.{Number, Text}
 use Rattle.cq_atom.specs.declared.term.TermKind.TheVariants.{Constant, Variable}
 use Rattle.cq_atom.specs.Text.{begins_with_upper, begins_with_lower}
 use Rattle.cq_atom.specs.Value.{ValueContent}
 use Rattle.cq_atom.specs.Atom.{TermContent, AtomRecord, RowRecord}
 use Rattle.cq_atom.specs.Query.{QueryRecord, is_bound}
-use Rattle.cq_text.specs.declared.limits.TheConstants.{MAX_LINE, MAX_COUNT}
+use Rattle.cq_text.specs.declared.limits.TheConstants.{MAX_COUNT}
 use Rattle.cq_text.specs.declared.command.CommandKind.{CommandKind}
 use Rattle.cq_text.specs.declared.command.CommandKind.TheVariants.{Blank, Relation, Limits, Post, Withdraw, Insert, Delete, Publish, Show}
 use Rattle.cq_text.specs.declared.token.Sign.TheVariants.{OpenBrace, CloseBrace, OpenParen, CloseParen, Comma, Arrow}
 use Rattle.cq_text.specs.declared.token.Token.TheVariants.{Mark, Word, Literal, Bad, Finish}
 use Rattle.cq_text.specs.Token.{TokenContent, LexemeContent, tokens_of}
 use Rattle.cq_text.specs.Lexing.{is_blank, lexemes_of}
+use Rattle.cq_text.specs.declared.form.Form.{Form}
+use Rattle.cq_text.specs.Forms.{most_atoms, most_bytes, most_terms}
 
 -- A command by names, queries and rows as contracts see them.
 abbrev pub CommandContent : Type 0
@@ -88,23 +90,23 @@ IsShort (Literal v) = Unit {0}
 IsShort (Bad kind) = Unit {0}
 IsShort Finish = Unit {0}
 
-abbrev pub FewTerms : AtomRecord → Type 0
-FewTerms atom = length atom.terms ≤ MAX_ARITY
+abbrev pub FewTerms : (form : Form) → AtomRecord → Type 0
+FewTerms form atom = length atom.terms ≤ most_terms form
 
-abbrev pub FitsQuery : QueryRecord → Type 0
-FitsQuery query = (length query.posts ≤ MAX_ATOMS) × (length query.heads ≤ MAX_ATOMS) × (length query.body ≤ MAX_ATOMS)
-    × AllByRecursion FewTerms query.posts × AllByRecursion FewTerms query.heads × AllByRecursion FewTerms query.body
+abbrev pub FitsQuery : (form : Form) → QueryRecord → Type 0
+FitsQuery form query = (length query.posts ≤ most_atoms form) × (length query.heads ≤ most_atoms form) × (length query.body ≤ most_atoms form)
+    × AllByRecursion (FewTerms form) query.posts × AllByRecursion (FewTerms form) query.heads × AllByRecursion (FewTerms form) query.body
 
-abbrev pub FitsCommand : CommandContent → Type 0
-FitsCommand Blank = Unit {0}
-FitsCommand (Relation name arity) = (1 ≤ arity) × (arity ≤ MAX_ARITY)
-FitsCommand (Limits pool journal) = (1 ≤ pool) × (pool ≤ MAX_COUNT) × (1 ≤ journal) × (journal ≤ MAX_COUNT)
-FitsCommand (Post name query) = FitsQuery query
-FitsCommand (Withdraw name) = Unit {0}
-FitsCommand (Insert row) = length row.values ≤ MAX_ARITY
-FitsCommand (Delete row) = length row.values ≤ MAX_ARITY
-FitsCommand Publish = Unit {0}
-FitsCommand Show = Unit {0}
+abbrev pub FitsCommand : (form : Form) → CommandContent → Type 0
+FitsCommand form Blank = Unit {0}
+FitsCommand form (Relation name arity) = (1 ≤ arity) × (arity ≤ most_terms form)
+FitsCommand form (Limits pool journal) = (1 ≤ pool) × (pool ≤ MAX_COUNT) × (1 ≤ journal) × (journal ≤ MAX_COUNT)
+FitsCommand form (Post name query) = FitsQuery form query
+FitsCommand form (Withdraw name) = Unit {0}
+FitsCommand form (Insert row) = length row.values ≤ most_terms form
+FitsCommand form (Delete row) = length row.values ≤ most_terms form
+FitsCommand form Publish = Unit {0}
+FitsCommand form Show = Unit {0}
 
 -- ---- the range restriction
 
@@ -129,31 +131,31 @@ IsRestrictedCommand Show = Unit {0}
 -- ---- what a text stands for
 
 -- The lexemes fit the grammar of a command and its limits.
-pub record FitsGrammar (ls : List LexemeContent) (command : CommandContent) : Type 0 where
+pub record FitsGrammar (form : Form) (ls : List LexemeContent) (command : CommandContent) : Type 0 where
   pub sentence : IsSentence (tokens_of ls) command
   pub short : AllByRecursion IsShort (tokens_of ls)
-  pub fits : FitsCommand command
+  pub fits : (FitsCommand form) command
 
 -- The text is no longer than a line may be, and blank, or it fits the grammar and each variable is bound.
-abbrev pub StandsFor : List ℕ → CommandContent → Type 0
-StandsFor text command = (length text ≤ MAX_LINE) × (((command ≡ Blank) × IsTrue (is_blank text)) ⊎ (FitsGrammar (lexemes_of text) command × IsRestrictedCommand command))
+abbrev pub StandsFor : (form : Form) → List ℕ → CommandContent → Type 0
+StandsFor form text command = (length text ≤ most_bytes form) × (((command ≡ Blank) × IsTrue (is_blank text)) ⊎ (FitsGrammar form (lexemes_of text) command × IsRestrictedCommand command))
 
 -- The lexemes fit the grammar of a query alone and its limits.
-pub record FitsQueryGrammar (ls : List LexemeContent) (query : QueryRecord) : Type 0 where
+pub record FitsQueryGrammar (form : Form) (ls : List LexemeContent) (query : QueryRecord) : Type 0 where
   pub sentence : IsQueryText (tokens_of ls) query
   pub short : AllByRecursion IsShort (tokens_of ls)
-  pub fits : FitsQuery query
+  pub fits : (FitsQuery form) query
 
 -- The lexemes fit the grammar of a ground atom alone and its limits.
-pub record FitsRowGrammar (ls : List LexemeContent) (row : RowRecord) : Type 0 where
+pub record FitsRowGrammar (form : Form) (ls : List LexemeContent) (row : RowRecord) : Type 0 where
   pub sentence : IsRowText (tokens_of ls) row
   pub short : AllByRecursion IsShort (tokens_of ls)
-  pub fits : length row.values ≤ MAX_ARITY
+  pub fits : length row.values ≤ most_terms form
 
 -- The text is no longer than a line may be, fits the grammar of a query, and each variable is bound.
-abbrev pub StandsForQuery : List ℕ → QueryRecord → Type 0
-StandsForQuery text query = (length text ≤ MAX_LINE) × FitsQueryGrammar (lexemes_of text) query × IsRestricted query
+abbrev pub StandsForQuery : (form : Form) → List ℕ → QueryRecord → Type 0
+StandsForQuery form text query = (length text ≤ most_bytes form) × FitsQueryGrammar form (lexemes_of text) query × IsRestricted query
 
 -- The text is no longer than a line may be, and its tokens are those of the row, a ground atom, within the limits.
-abbrev pub StandsForRow : List ℕ → RowRecord → Type 0
-StandsForRow text row = (length text ≤ MAX_LINE) × FitsRowGrammar (lexemes_of text) row
+abbrev pub StandsForRow : (form : Form) → List ℕ → RowRecord → Type 0
+StandsForRow form text row = (length text ≤ most_bytes form) × FitsRowGrammar form (lexemes_of text) row

@@ -1,6 +1,7 @@
 pub mod Token
 pub mod Lexing
 pub mod Field
+pub mod Forms
 pub mod Grammar
 pub mod Fault
 pub mod Views

@@ -7,10 +7,11 @@ use Rattle.cq_atom.specs.declared.term.TermKind.TheVariants.{Constant, Variable}
 use Rattle.cq_atom.specs.Value.{ValueContent}
 use Rattle.cq_atom.specs.Atom.{TermContent, AtomRecord, RowRecord}
 use Rattle.cq_atom.specs.Query.{QueryRecord}
-use Rattle.cq_text.specs.declared.limits.TheConstants.{MAX_LINE}
 use Rattle.cq_text.specs.Token.{tokens_of}
 use Rattle.cq_text.specs.Lexing.{lexemes_of}
 use Rattle.cq_text.specs.Grammar.{IsAtomText, IsShort, FewTerms}
+use Rattle.cq_text.specs.declared.form.Form.{Form}
+use Rattle.cq_text.specs.Forms.{most_bytes}
 
 -- The byte `"`.
 abbrev pub quote_mark : ℕ
@@ -72,5 +73,5 @@ abbrev pub printed_query : QueryRecord → List ℕ
 printed_query q = codes "{" ++ printed_atoms q.posts ++ codes "} " ++ printed_atoms q.heads ++ codes " <-" ++ printed_body q.body
 
 -- The text is no longer than a line may be, and its tokens are those of the atom, within the limits.
-abbrev pub StandsForAtom : List ℕ → AtomRecord → Type 0
-StandsForAtom text a = (length text ≤ MAX_LINE) × IsAtomText (tokens_of (lexemes_of text)) a × AllByRecursion IsShort (tokens_of (lexemes_of text)) × FewTerms a
+abbrev pub StandsForAtom : (form : Form) → List ℕ → AtomRecord → Type 0
+StandsForAtom form text a = (length text ≤ most_bytes form) × IsAtomText (tokens_of (lexemes_of text)) a × AllByRecursion IsShort (tokens_of (lexemes_of text)) × FewTerms form a

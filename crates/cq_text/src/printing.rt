@@ -1,11 +1,13 @@
 //! The printed form of queries, atoms and rows.
 
-ghost use Rattle.std.specs.Prelude.{◌≡◌, ◌++◌, codes, string_bytes, encode_utf8, IfOk, OnOk};
+ghost use Rattle.std.specs.Prelude.{◌≡◌, ◌≤◌, ◌++◌, length, codes, string_bytes, encode_utf8, IfOk, OnOk};
 ghost use Rattle.std.specs.Fmt.{signed_decimal};
 ghost use Rattle.std.specs.List.{join_by, All};
 ghost use Rattle.cq_atom.specs.Value.{IsValue};
 ghost use Rattle.cq_text.specs.Print.{is_escaped, escaped, printed_text, printed_value, printed_term, printed_atom, printed_row, printed_values, printed_atoms, printed_body, printed_query, StandsForAtom};
-ghost use Rattle.cq_text.specs.Grammar.{StandsForQuery, StandsForRow};
+ghost use Rattle.cq_text.specs.declared.form.Form.TheVariants.{One, Two};
+ghost use Rattle.cq_text.specs.Forms.{most_terms};
+ghost use Rattle.cq_text.specs.Grammar.{FewTerms, FitsQuery, StandsForQuery, StandsForRow};
 ghost use Rattle.cq_text.specs.Steps.Sound.{IsSoundTerm, IsSoundAtom, IsSoundRow, IsSoundQuery};
 ghost use Rattle.cq_text.specs.Steps.Separators.{separator_at};
 
@@ -174,7 +176,10 @@ fn push_row<A: Allocator>(printed: &mut String<A>, row: &Row<A>) -> Result<(), A
 /// `AllocError` where a growth was refused.
 pub fn print_query<A: Allocator + Copy>(alloc: A, query: &Query<A>) -> Result<String<A>, AllocError>
     ensures printed { IfOk result (λ text. string_bytes text ≡ printed_query query.now) }
-    ensures reads_back { IfOk result (λ text. StandsForQuery (string_bytes text) query.now) }
+    // In format 2 it is read as what was printed.
+    ensures reads_back { IfOk result (λ text. StandsForQuery Two (string_bytes text) query.now) }
+    // In format 1 too, where it keeps that format's limits.
+    ensures reads_back_in_one { IfOk result (λ text. FitsQuery One query.now → StandsForQuery One (string_bytes text) query.now) }
 {
     let mut printed = String::new(alloc);
     push_query(&mut printed, query)?;
@@ -187,7 +192,10 @@ pub fn print_query<A: Allocator + Copy>(alloc: A, query: &Query<A>) -> Result<St
 /// `AllocError` where a growth was refused.
 pub fn print_atom<A: Allocator + Copy>(alloc: A, atom: &Atom<A>) -> Result<String<A>, AllocError>
     ensures printed { IfOk result (λ text. string_bytes text ≡ printed_atom atom.now) }
-    ensures reads_back { IfOk result (λ text. StandsForAtom (string_bytes text) atom.now) }
+    // In format 2 it is read as what was printed.
+    ensures reads_back { IfOk result (λ text. StandsForAtom Two (string_bytes text) atom.now) }
+    // In format 1 too, where it keeps that format's limits.
+    ensures reads_back_in_one { IfOk result (λ text. FewTerms One atom.now → StandsForAtom One (string_bytes text) atom.now) }
 {
     let mut printed = String::new(alloc);
     push_atom(&mut printed, atom)?;
@@ -200,7 +208,10 @@ pub fn print_atom<A: Allocator + Copy>(alloc: A, atom: &Atom<A>) -> Result<Strin
 /// `AllocError` where a growth was refused.
 pub fn print_row<A: Allocator + Copy>(alloc: A, row: &Row<A>) -> Result<String<A>, AllocError>
     ensures printed { IfOk result (λ text. string_bytes text ≡ printed_row row.now) }
-    ensures reads_back { IfOk result (λ text. StandsForRow (string_bytes text) row.now) }
+    // In format 2 it is read as what was printed.
+    ensures reads_back { IfOk result (λ text. StandsForRow Two (string_bytes text) row.now) }
+    // In format 1 too, where it keeps that format's limits.
+    ensures reads_back_in_one { IfOk result (λ text. length row.now.values ≤ most_terms One → StandsForRow One (string_bytes text) row.now) }
 {
     let mut printed = String::new(alloc);
     push_row(&mut printed, row)?;

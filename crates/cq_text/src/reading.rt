@@ -6,6 +6,8 @@ ghost use Rattle.cq_atom.specs.Query.{QueryRecord};
 ghost use Rattle.cq_text.specs.declared.fault.Kind.{Kind};
 ghost use Rattle.cq_text.specs.Grammar.{CommandContent, StandsFor, StandsForQuery, StandsForRow};
 ghost use Rattle.cq_text.specs.Fault.{FirstFault, FirstQueryFault, FirstRowFault, HasOneReading};
+ghost use Rattle.cq_text.specs.declared.form.Form.{Form};
+ghost use Rattle.cq_text.specs.Forms.{most_bytes};
 ghost use Rattle.cq_text.specs.Views.{OrNoMemory, IfFault};
 ghost use Rattle.cq_text.specs.Steps.Lists.{row_at, query_at};
 ghost use Rattle.cq_text.specs.Steps.Lexemes.{Gives, ahead_of_text};
@@ -19,8 +21,8 @@ mod steps;
 use self::lexemes::limit;
 use crate::command::{Command, CommandKind};
 use crate::fault::TextFault;
+use crate::form::Form;
 use crate::lexing::is_blank;
-use crate::limits::MAX_LINE;
 use cq_atom::{Query, Row};
 use std::alloc::Allocator;
 use std::marker::Model;
@@ -45,32 +47,32 @@ impl<'a, A: Allocator> Model for Reader<'a, A> {
 }
 
 /// Whether a text is longer than a line may be.
-fn is_too_long(text: &[u8]) -> bool
-    ensures { IsTrue result ↔ (MAX_LINE < length text.now) }
+fn is_too_long(text: &[u8], form: Form) -> bool
+    ensures { IsTrue result ↔ (most_bytes form < length text.now) }
 {
-    text.len() > MAX_LINE
+    text.len() > form.max_bytes()
 }
 
 /// The command of a text that is not blank.
-fn command_in<A: Allocator + Copy>(alloc: A, text: &[u8]) -> Result<Command<A>, TextFault>
-    ensures { Gives (λ command. command) result (command_at (ahead_of_text text.now)) }
+fn command_in<A: Allocator + Copy>(alloc: A, text: &[u8], form: Form) -> Result<Command<A>, TextFault>
+    ensures { Gives (λ command. command) result (command_at form (ahead_of_text text.now)) }
 {
-    Reader::new(alloc, text).command()
+    Reader::new(alloc, text).command(form)
 }
 
-fn query_in<A: Allocator + Copy>(alloc: A, text: &[u8]) -> Result<Query<A>, TextFault>
-    ensures { Gives (λ query. query) result (query_at (ahead_of_text text.now)) }
+fn query_in<A: Allocator + Copy>(alloc: A, text: &[u8], form: Form) -> Result<Query<A>, TextFault>
+    ensures { Gives (λ query. query) result (query_at form (ahead_of_text text.now)) }
 {
-    Reader::new(alloc, text).query()
+    Reader::new(alloc, text).query(form)
 }
 
-fn row_in<A: Allocator + Copy>(alloc: A, text: &[u8]) -> Result<Row<A>, TextFault>
-    ensures { Gives (λ row. row) result (row_at (ahead_of_text text.now)) }
+fn row_in<A: Allocator + Copy>(alloc: A, text: &[u8], form: Form) -> Result<Row<A>, TextFault>
+    ensures { Gives (λ row. row) result (row_at form (ahead_of_text text.now)) }
 {
-    Reader::new(alloc, text).row()
+    Reader::new(alloc, text).row(form)
 }
 
-/// The command that a line stands for.
+/// The command that a line of a script in this form stands for.
 ///
 /// A line is blank where it has spaces, tabs and carriage returns alone, or `#` as its first other
 /// byte.
@@ -78,75 +80,87 @@ fn row_in<A: Allocator + Copy>(alloc: A, text: &[u8]) -> Result<Row<A>, TextFaul
 /// # Errors
 /// The first fault of the text, with its kind and its offset in bytes; or `NoMemory` where a growth
 /// was refused, which may be before a later fault is seen.
-pub fn read_command<A: Allocator + Copy>(alloc: A, text: &[u8]) -> Result<Command<A>, TextFault>
+pub fn read_command<A: Allocator + Copy>(
+    alloc: A,
+    text: &[u8],
+    form: Form,
+) -> Result<Command<A>, TextFault>
     // What is read is what the text stands for.
-    ensures found { IfOk result (λ command. StandsFor text.now command) }
+    ensures found { IfOk result (λ command. StandsFor form text.now command) }
     // A text that stands for a command is read as it.
-    ensures only { (command : CommandContent) → StandsFor text.now command → OrNoMemory result (Ok command) }
+    ensures only { (command : CommandContent) → StandsFor form text.now command → OrNoMemory result (Ok command) }
     // A fault that is answered is the first one.
-    ensures fault { IfFault result (λ kind offset. FirstFault text.now kind offset) }
+    ensures fault { IfFault result (λ kind offset. FirstFault form text.now kind offset) }
     // A text that has a first fault is refused with it.
-    ensures only_fault { (kind : Kind) (offset : ℕ) → FirstFault text.now kind offset → OrNoMemory result (Err (TextFault.At kind offset)) }
+    ensures only_fault { (kind : Kind) (offset : ℕ) → FirstFault form text.now kind offset → OrNoMemory result (Err (TextFault.At kind offset)) }
 {
-    if is_too_long(text) {
-        return Err(limit(MAX_LINE));
+    if is_too_long(text, form) {
+        return Err(limit(form.max_bytes()));
     }
     if is_blank(text) {
         return Ok(CommandKind::Blank);
     }
-    command_in(alloc, text)
+    command_in(alloc, text, form)
 }
 
-/// The query that a text stands for: `{posts} heads <- body`. A query's text is never blank.
+/// The query that a text stands for, within the limits of the form: `{posts} heads <- body`. A query's text is never blank.
 ///
 /// # Errors
 /// The first fault of the text, with its kind and its offset in bytes; or `NoMemory` where a growth
 /// was refused, which may be before a later fault is seen.
-pub fn read_query<A: Allocator + Copy>(alloc: A, text: &[u8]) -> Result<Query<A>, TextFault>
+pub fn read_query<A: Allocator + Copy>(
+    alloc: A,
+    text: &[u8],
+    form: Form,
+) -> Result<Query<A>, TextFault>
     // What is read is what the text stands for.
-    ensures found { IfOk result (λ query. StandsForQuery text.now query) }
+    ensures found { IfOk result (λ query. StandsForQuery form text.now query) }
     // A text that stands for a query is read as it.
-    ensures only { (query : QueryRecord) → StandsForQuery text.now query → OrNoMemory result (Ok query) }
+    ensures only { (query : QueryRecord) → StandsForQuery form text.now query → OrNoMemory result (Ok query) }
     // A fault that is answered is the first one.
-    ensures fault { IfFault result (λ kind offset. FirstQueryFault text.now kind offset) }
+    ensures fault { IfFault result (λ kind offset. FirstQueryFault form text.now kind offset) }
     // A text that has a first fault is refused with it.
-    ensures only_fault { (kind : Kind) (offset : ℕ) → FirstQueryFault text.now kind offset → OrNoMemory result (Err (TextFault.At kind offset)) }
+    ensures only_fault { (kind : Kind) (offset : ℕ) → FirstQueryFault form text.now kind offset → OrNoMemory result (Err (TextFault.At kind offset)) }
 {
-    if is_too_long(text) {
-        return Err(limit(MAX_LINE));
+    if is_too_long(text, form) {
+        return Err(limit(form.max_bytes()));
     }
-    query_in(alloc, text)
+    query_in(alloc, text, form)
 }
 
-/// The row that a text stands for: a ground atom, `R(1, "a", B)`, in which an upper-case identifier is
+/// The row that a text stands for, within the limits of the form: a ground atom, `R(1, "a", B)`, in which an upper-case identifier is
 /// the text of its letters. A ground atom's text is never blank.
 ///
 /// # Errors
 /// The first fault of the text, with its kind and its offset in bytes: a variable is `Shape`, since a
 /// row has none. Or `NoMemory` where a growth was refused, which may be before a later fault is seen.
-pub fn read_ground_atom<A: Allocator + Copy>(alloc: A, text: &[u8]) -> Result<Row<A>, TextFault>
+pub fn read_ground_atom<A: Allocator + Copy>(
+    alloc: A,
+    text: &[u8],
+    form: Form,
+) -> Result<Row<A>, TextFault>
     // What is read is what the text stands for.
-    ensures found { IfOk result (λ row. StandsForRow text.now row) }
+    ensures found { IfOk result (λ row. StandsForRow form text.now row) }
     // A text that stands for a row is read as it.
-    ensures only { (row : RowRecord) → StandsForRow text.now row → OrNoMemory result (Ok row) }
+    ensures only { (row : RowRecord) → StandsForRow form text.now row → OrNoMemory result (Ok row) }
     // A fault that is answered is the first one.
-    ensures fault { IfFault result (λ kind offset. FirstRowFault text.now kind offset) }
+    ensures fault { IfFault result (λ kind offset. FirstRowFault form text.now kind offset) }
     // A text that has a first fault is refused with it.
-    ensures only_fault { (kind : Kind) (offset : ℕ) → FirstRowFault text.now kind offset → OrNoMemory result (Err (TextFault.At kind offset)) }
+    ensures only_fault { (kind : Kind) (offset : ℕ) → FirstRowFault form text.now kind offset → OrNoMemory result (Err (TextFault.At kind offset)) }
 {
-    if is_too_long(text) {
-        return Err(limit(MAX_LINE));
+    if is_too_long(text, form) {
+        return Err(limit(form.max_bytes()));
     }
-    row_in(alloc, text)
+    row_in(alloc, text, form)
 }
 
-/// Each text has one reading: it stands for one value and has no fault, or it has one first fault and
+/// In each form a text has one reading: it stands for one value and has no fault, or it has one first fault and
 /// stands for nothing. This is a law of the definitions alone, so there is nothing to do.
 pub fn one_reading()
     // Of a text that is read as a command.
-    ensures commands { (text : List ℕ) → HasOneReading (λ command. StandsFor text command) (λ kind offset. FirstFault text kind offset) }
+    ensures commands { (form : Form) (text : List ℕ) → HasOneReading (λ command. StandsFor form text command) (λ kind offset. FirstFault form text kind offset) }
     // Of a text that is read as a query.
-    ensures queries { (text : List ℕ) → HasOneReading (λ query. StandsForQuery text query) (λ kind offset. FirstQueryFault text kind offset) }
+    ensures queries { (form : Form) (text : List ℕ) → HasOneReading (λ query. StandsForQuery form text query) (λ kind offset. FirstQueryFault form text kind offset) }
     // Of a text that is read as a ground atom.
-    ensures rows { (text : List ℕ) → HasOneReading (λ row. StandsForRow text row) (λ kind offset. FirstRowFault text kind offset) }
+    ensures rows { (form : Form) (text : List ℕ) → HasOneReading (λ row. StandsForRow form text row) (λ kind offset. FirstRowFault form text kind offset) }
 {}

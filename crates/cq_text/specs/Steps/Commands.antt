@@ -1,6 +1,5 @@
 -- The words that commands begin with, and reading commands from left to right, as the reader's methods do.
 use Rattle.std.specs.Prelude.{ℕ, ℤ, List, ◌&&◌, nat_le, Option, Some, None, Result, Ok, if◌then◌else◌, codes}
-use Rattle.cq_atom.specs.declared.limits.TheConstants.{MAX_ARITY}
 use Rattle.cq_atom.specs.Value.{number_of}
 use Rattle.cq_text.specs.declared.fault.Kind.TheVariants.{Shape, Limit}
 use Rattle.cq_text.specs.declared.fault.TextFault.{TextFault}
@@ -14,6 +13,8 @@ use Rattle.std.specs.Str.{bytes_eq}
 use Rattle.cq_text.specs.declared.command.CommandWord.TheVariants as words
 use Rattle.cq_text.specs.Steps.Lexemes.{Ahead, ◌>>=◌, fault, next_at, name_in, relation_in, end_at}
 use Rattle.cq_text.specs.Steps.Lists.{row_at, query_at}
+use Rattle.cq_text.specs.declared.form.Form.{Form}
+use Rattle.cq_text.specs.Forms.{most_terms}
 
 -- The command word that an identifier is.
 abbrev pub command_word : List ℕ → Option CommandWord
@@ -54,11 +55,11 @@ count_at most a = do
   n ← count_in most l.0.token l.0.at
   Ok (n, l.1)
 
-unfoldable pub relation_at : Ahead → Result CommandContent TextFault
-relation_at a = do
+unfoldable pub relation_at : (form : Form) → Ahead → Result CommandContent TextFault
+relation_at form a = do
   l ← next_at a
   name ← relation_in l.0.token l.0.at
-  arity ← count_at MAX_ARITY l.1
+  arity ← count_at (most_terms form) l.1
   rest ← end_at arity.1
   Ok (Relation name arity.0)
 
@@ -69,11 +70,11 @@ limits_at a = do
   rest ← end_at journal.1
   Ok (Limits pool.0 journal.0)
 
-unfoldable pub post_at : Ahead → Result CommandContent TextFault
-post_at a = do
+unfoldable pub post_at : (form : Form) → Ahead → Result CommandContent TextFault
+post_at form a = do
   l ← next_at a
   name ← name_in l.0.token l.0.at
-  query ← query_at l.1
+  query ← query_at form l.1
   Ok (Post name query)
 
 unfoldable pub withdraw_at : Ahead → Result CommandContent TextFault
@@ -83,14 +84,14 @@ withdraw_at a = do
   rest ← end_at l.1
   Ok (Withdraw name)
 
-unfoldable pub insert_at : Ahead → Result CommandContent TextFault
-insert_at a = do
-  row ← row_at a
+unfoldable pub insert_at : (form : Form) → Ahead → Result CommandContent TextFault
+insert_at form a = do
+  row ← row_at form a
   Ok (Insert row)
 
-unfoldable pub delete_at : Ahead → Result CommandContent TextFault
-delete_at a = do
-  row ← row_at a
+unfoldable pub delete_at : (form : Form) → Ahead → Result CommandContent TextFault
+delete_at form a = do
+  row ← row_at form a
   Ok (Delete row)
 
 unfoldable pub word_alone : CommandContent → Ahead → Result CommandContent TextFault
@@ -99,19 +100,19 @@ word_alone command a = do
   Ok command
 
 -- What stands behind a command word.
-abbrev pub command_of : CommandWord → Ahead → Result CommandContent TextFault
-command_of words.Relation a = relation_at a
-command_of words.Limits a = limits_at a
-command_of words.Post a = post_at a
-command_of words.Withdraw a = withdraw_at a
-command_of words.Insert a = insert_at a
-command_of words.Delete a = delete_at a
-command_of words.Publish a = word_alone Publish a
-command_of words.Show a = word_alone Show a
+abbrev pub command_of : (form : Form) → CommandWord → Ahead → Result CommandContent TextFault
+command_of form words.Relation a = relation_at form a
+command_of form words.Limits a = limits_at a
+command_of form words.Post a = post_at form a
+command_of form words.Withdraw a = withdraw_at a
+command_of form words.Insert a = insert_at form a
+command_of form words.Delete a = delete_at form a
+command_of form words.Publish a = word_alone Publish a
+command_of form words.Show a = word_alone Show a
 
-abbrev pub command_from : Option CommandWord → ℕ → Ahead → Result CommandContent TextFault
-command_from None at a = fault Shape at
-command_from (Some word) at a = command_of word a
+abbrev pub command_from : (form : Form) → Option CommandWord → ℕ → Ahead → Result CommandContent TextFault
+command_from form None at a = fault Shape at
+command_from form (Some word) at a = command_of form word a
 
 -- The command word that a token is.
 abbrev pub command_word_in : TokenContent → Option CommandWord
@@ -127,7 +128,7 @@ command_word_at a = do
   l ← next_at a
   Ok (command_word_in l.0.token, l.0.at, l.1)
 
-unfoldable pub command_at : Ahead → Result CommandContent TextFault
-command_at a = do
+unfoldable pub command_at : (form : Form) → Ahead → Result CommandContent TextFault
+command_at form a = do
   l ← next_at a
-  command_from (command_word_in l.0.token) l.0.at l.1
+  command_from form (command_word_in l.0.token) l.0.at l.1

@@ -1,6 +1,5 @@
 -- Reading terms, atoms, rows and queries from left to right, as the reader's methods do.
 use Rattle.std.specs.Prelude.{ℕ, zero, suc, List, [], ◌∷◌, Bool, true, false, Option, Some, None, Result, Ok, if◌then◌else◌}
-use Rattle.cq_atom.specs.declared.limits.TheConstants.{MAX_ARITY, MAX_ATOMS}
 use Rattle.cq_atom.specs.Value.{ValueContent}
 use Rattle.cq_atom.specs.Atom.{TermContent, AtomRecord, RowRecord}
 use Rattle.cq_atom.specs.Query.{QueryRecord}
@@ -13,6 +12,8 @@ use Rattle.cq_text.specs.Token.{LexemeContent, flaw}
 use Rattle.cq_text.specs.Fault.{is_unbound}
 use Rattle.cq_text.specs.Steps.Binding.{binds_both}
 use Rattle.cq_text.specs.Steps.Lexemes.{Ahead, ◌>>=◌, fault, unless_flawed, next_at, is_finish, relation_in, term_in, value_in, sign_at, end_at, is_close, goes_on_at}
+use Rattle.cq_text.specs.declared.form.Form.{Form}
+use Rattle.cq_text.specs.Forms.{most_atoms, most_terms}
 
 -- What an item of a list gives: the item, whether more come, and what is ahead. It takes whether there is room for it.
 abbrev pub Item : Type 0 → Type 0
@@ -33,33 +34,33 @@ term_at room a = do
   x ← term_in l.0.token l.0.at
   if room then (goes_on_at (By CloseParen) l.1 >>= λ m. Ok (x, m.0, m.1)) else fault Limit l.0.at
 
-unfoldable pub terms_at : Ahead → Result (List TermContent × Ahead) TextFault
-terms_at a = listed_at term_at MAX_ARITY a
+unfoldable pub terms_at : (form : Form) → Ahead → Result (List TermContent × Ahead) TextFault
+terms_at form a = listed_at term_at (most_terms form) a
 
 abbrev pub atom_record : List ℕ → List TermContent → AtomRecord
 atom_record relation terms = record { relation = relation; terms = terms }
 
 -- What stands behind a relation's name.
-unfoldable pub applied_at : List ℕ → Ahead → Result (AtomRecord × Ahead) TextFault
-applied_at relation a = do
+unfoldable pub applied_at : (form : Form) → List ℕ → Ahead → Result (AtomRecord × Ahead) TextFault
+applied_at form relation a = do
   inner ← sign_at OpenParen a
-  xs ← terms_at inner
+  xs ← terms_at form inner
   Ok (atom_record relation xs.0, xs.1)
 
-unfoldable pub atom_at : Close → Item AtomRecord
-atom_at close room a = do
+unfoldable pub atom_at : (form : Form) → Close → Item AtomRecord
+atom_at form close room a = do
   l ← next_at a
   relation ← relation_in l.0.token l.0.at
-  if room then (applied_at relation l.1 >>= λ x. goes_on_at close x.1 >>= λ m. Ok (x.0, m.0, m.1)) else fault Limit l.0.at
+  if room then (applied_at form relation l.1 >>= λ x. goes_on_at close x.1 >>= λ m. Ok (x.0, m.0, m.1)) else fault Limit l.0.at
 
-unfoldable pub atoms_at : Close → Ahead → Result (List AtomRecord × Ahead) TextFault
-atoms_at close a = listed_at (atom_at close) MAX_ATOMS a
+unfoldable pub atoms_at : (form : Form) → Close → Ahead → Result (List AtomRecord × Ahead) TextFault
+atoms_at form close a = listed_at (atom_at form close) (most_atoms form) a
 
 -- What closes, or atoms and what closes.
-unfoldable pub atoms_if_any_at : Close → Ahead → Result (List AtomRecord × Ahead) TextFault
-atoms_if_any_at close a = do
+unfoldable pub atoms_if_any_at : (form : Form) → Close → Ahead → Result (List AtomRecord × Ahead) TextFault
+atoms_if_any_at form close a = do
   l ← next_at a
-  if is_close close l.0.token then Ok ([], l.1) else atoms_at close a
+  if is_close close l.0.token then Ok ([], l.1) else atoms_at form close a
 
 unfoldable pub value_at : Item ValueContent
 value_at room a = do
@@ -67,19 +68,19 @@ value_at room a = do
   v ← value_in l.0.token l.0.at
   if room then (goes_on_at (By CloseParen) l.1 >>= λ m. Ok (v, m.0, m.1)) else fault Limit l.0.at
 
-unfoldable pub values_at : Ahead → Result (List ValueContent × Ahead) TextFault
-values_at a = listed_at value_at MAX_ARITY a
+unfoldable pub values_at : (form : Form) → Ahead → Result (List ValueContent × Ahead) TextFault
+values_at form a = listed_at value_at (most_terms form) a
 
 abbrev pub row_record : List ℕ → List ValueContent → RowRecord
 row_record relation values = record { relation = relation; values = values }
 
 -- A ground atom and the end.
-unfoldable pub row_at : Ahead → Result RowRecord TextFault
-row_at a = do
+unfoldable pub row_at : (form : Form) → Ahead → Result RowRecord TextFault
+row_at form a = do
   l ← next_at a
   relation ← relation_in l.0.token l.0.at
   inner ← sign_at OpenParen l.1
-  values ← values_at inner
+  values ← values_at form inner
   rest ← end_at values.1
   Ok (row_record relation values.0)
 
@@ -116,10 +117,10 @@ bound_query posts heads body a =
     if binds_both body posts heads then Ok (query_record posts heads body) else unbound_fault body a
 
 -- A query, up to the end.
-unfoldable pub query_at : Ahead → Result QueryRecord TextFault
-query_at a = do
+unfoldable pub query_at : (form : Form) → Ahead → Result QueryRecord TextFault
+query_at form a = do
   inner ← sign_at OpenBrace a
-  posts ← atoms_if_any_at (By CloseBrace) inner
-  heads ← atoms_at (By Arrow) posts.1
-  body ← atoms_if_any_at End heads.1
+  posts ← atoms_if_any_at form (By CloseBrace) inner
+  heads ← atoms_at form (By Arrow) posts.1
+  body ← atoms_if_any_at form End heads.1
   bound_query posts.0 heads.0 body.0 inner

@@ -7,11 +7,11 @@ ghost use Rattle.cq_text.specs.Steps.Lexemes.{Gives};
 
 use crate::command::{Command, CommandKind, CommandWord};
 use crate::fault::TextFault;
+use crate::form::Form;
 use crate::limits::MAX_COUNT;
 use crate::reading::Reader;
 use crate::reading::lexemes::{limit, new_name, shape};
 use crate::token::{TextLexeme, TextToken, Token};
-use cq_atom::MAX_ARITY;
 use std::alloc::Allocator;
 
 /// The number that a token is.
@@ -68,11 +68,11 @@ impl<'a, A: Allocator + Copy> Reader<'a, A> {
 
     /// The declaration of a relation, and the end.
     #[tactic(auto, unfolding(crate::specs::Steps::Commands::relation_at, crate::specs::Steps::Lexemes::relation_name_at))]
-    fn relation(&mut self) -> Result<Command<A>, TextFault>
-        ensures { Gives (λ command. command) result (relation_at self.old) }
+    fn relation(&mut self, form: Form) -> Result<Command<A>, TextFault>
+        ensures { Gives (λ command. command) result (relation_at form self.old) }
     {
         let (word, _at) = self.relation_name()?;
-        let arity = self.count(MAX_ARITY)?;
+        let arity = self.count(form.max_terms())?;
         self.end()?;
         let name = new_name(self.alloc, word)?;
         Ok(CommandKind::Relation { name, arity })
@@ -90,11 +90,11 @@ impl<'a, A: Allocator + Copy> Reader<'a, A> {
     }
 
     #[tactic(auto, unfolding(crate::specs::Steps::Commands::post_at, crate::specs::Steps::Lexemes::name_at))]
-    fn post(&mut self) -> Result<Command<A>, TextFault>
-        ensures { Gives (λ command. command) result (post_at self.old) }
+    fn post(&mut self, form: Form) -> Result<Command<A>, TextFault>
+        ensures { Gives (λ command. command) result (post_at form self.old) }
     {
         let name = self.name()?;
-        let query = self.query()?;
+        let query = self.query(form)?;
         Ok(CommandKind::Post { name, query })
     }
 
@@ -108,18 +108,18 @@ impl<'a, A: Allocator + Copy> Reader<'a, A> {
     }
 
     #[tactic(auto, unfolding(crate::specs::Steps::Commands::insert_at))]
-    fn insert(&mut self) -> Result<Command<A>, TextFault>
-        ensures { Gives (λ command. command) result (insert_at self.old) }
+    fn insert(&mut self, form: Form) -> Result<Command<A>, TextFault>
+        ensures { Gives (λ command. command) result (insert_at form self.old) }
     {
-        let row = self.row()?;
+        let row = self.row(form)?;
         Ok(CommandKind::Insert { row })
     }
 
     #[tactic(auto, unfolding(crate::specs::Steps::Commands::delete_at))]
-    fn delete(&mut self) -> Result<Command<A>, TextFault>
-        ensures { Gives (λ command. command) result (delete_at self.old) }
+    fn delete(&mut self, form: Form) -> Result<Command<A>, TextFault>
+        ensures { Gives (λ command. command) result (delete_at form self.old) }
     {
-        let row = self.row()?;
+        let row = self.row(form)?;
         Ok(CommandKind::Delete { row })
     }
 
@@ -133,16 +133,16 @@ impl<'a, A: Allocator + Copy> Reader<'a, A> {
     }
 
     /// What stands behind a command word.
-    fn command_of(&mut self, word: CommandWord) -> Result<Command<A>, TextFault>
-        ensures { Gives (λ command. command) result (command_of word self.old) }
+    fn command_of(&mut self, form: Form, word: CommandWord) -> Result<Command<A>, TextFault>
+        ensures { Gives (λ command. command) result (command_of form word self.old) }
     {
         match word {
-            CommandWord::Relation => self.relation(),
+            CommandWord::Relation => self.relation(form),
             CommandWord::Limits => self.limits(),
-            CommandWord::Post => self.post(),
+            CommandWord::Post => self.post(form),
             CommandWord::Withdraw => self.withdraw(),
-            CommandWord::Insert => self.insert(),
-            CommandWord::Delete => self.delete(),
+            CommandWord::Insert => self.insert(form),
+            CommandWord::Delete => self.delete(form),
             CommandWord::Publish => self.word_alone(CommandKind::Publish),
             CommandWord::Show => self.word_alone(CommandKind::Show),
         }
@@ -158,12 +158,12 @@ impl<'a, A: Allocator + Copy> Reader<'a, A> {
     }
 
     #[tactic(auto, unfolding(crate::specs::Steps::Commands::command_at, crate::specs::Steps::Commands::command_word_at))]
-    pub(crate) fn command(&mut self) -> Result<Command<A>, TextFault>
-        ensures { Gives (λ command. command) result (command_at self.old) }
+    pub(crate) fn command(&mut self, form: Form) -> Result<Command<A>, TextFault>
+        ensures { Gives (λ command. command) result (command_at form self.old) }
     {
         let (word, at) = self.command_word()?;
         match word {
-            Some(word) => self.command_of(word),
+            Some(word) => self.command_of(form, word),
             None => Err(shape(at)),
         }
     }

@@ -6,13 +6,15 @@ ghost use Rattle.cq_atom.specs.Atom.{is_arity};
 ghost use Rattle.cq_text.specs.Steps.Lists.{value_at, values_at, row_record, row_at, next_unbound_at, atom_record, term_at, terms_at, applied_at, atom_at, atoms_at, atoms_if_any_at, unbound_at, first_unbound_from, query_record, unbound_fault, bound_query, query_at};
 ghost use Rattle.cq_text.specs.Steps.Lexemes.{Gives, Fails};
 ghost use Rattle.cq_text.specs.Steps.Binding.{binds_both};
+ghost use Rattle.cq_atom.specs.declared.limits.TheConstants.{MAX_ATOMS};
 
 use crate::binding::{binds_both, is_unbound};
 use crate::fault::{Kind, TextFault};
+use crate::form::Form;
 use crate::reading::Reader;
 use crate::reading::lexemes::{is_finish, limit, shape, term_in, value_in};
 use crate::token::{Close, Sign};
-use cq_atom::{Atom, Bad, MAX_ARITY, MAX_ATOMS, Query, Row, Term, Value};
+use cq_atom::{Atom, Bad, Query, Row, Term, Value};
 use std::alloc::Allocator;
 
 fn new_row<A: Allocator>(
@@ -84,13 +86,13 @@ impl<'a, A: Allocator + Copy> Reader<'a, A> {
     }
 
     /// Terms, and the bracket behind them.
-    fn terms(&mut self) -> Result<Vec<Term<A>, A>, TextFault>
-        ensures terms { Gives (λ v. (v.items, self.new)) result (terms_at self.old) }
+    fn terms(&mut self, form: Form) -> Result<Vec<Term<A>, A>, TextFault>
+        ensures terms { Gives (λ v. (v.items, self.new)) result (terms_at form self.old) }
         ensures arity { IfOk result (λ v. IsTrue (is_arity (length v.items))) }
     {
         let mut terms = Vec::new(self.alloc);
         'terms: loop {
-            let (term, has_more) = self.term(terms.len() < MAX_ARITY)?;
+            let (term, has_more) = self.term(terms.len() < form.max_terms())?;
             terms.push(term)?;
             if !has_more {
                 return Ok(terms);
@@ -100,38 +102,38 @@ impl<'a, A: Allocator + Copy> Reader<'a, A> {
 
     /// The atom of a relation's name that was read.
     #[tactic(auto, unfolding(crate::specs::Steps::Lists::applied_at))]
-    fn applied(&mut self, relation: &str) -> Result<Atom<A>, TextFault>
+    fn applied(&mut self, form: Form, relation: &str) -> Result<Atom<A>, TextFault>
         requires { IsTrue (is_relation_name relation.now) }
-        ensures { Gives (λ atom. (atom, self.new)) result (applied_at relation.now self.old) }
+        ensures { Gives (λ atom. (atom, self.new)) result (applied_at form relation.now self.old) }
     {
         self.sign(Sign::OpenParen)?;
-        let terms = self.terms()?;
+        let terms = self.terms(form)?;
         new_atom(self.alloc, relation, terms)
     }
 
     /// An atom, and whether more come.
     #[tactic(auto, unfolding(crate::specs::Steps::Lists::atom_at, crate::specs::Steps::Lexemes::relation_name_at))]
-    fn atom(&mut self, close: Close, has_room: bool) -> Result<(Atom<A>, bool), TextFault>
-        ensures { Gives (λ x. (x.0, x.1, self.new)) result (atom_at close has_room self.old) }
+    fn atom(&mut self, form: Form, close: Close, has_room: bool) -> Result<(Atom<A>, bool), TextFault>
+        ensures { Gives (λ x. (x.0, x.1, self.new)) result (atom_at form close has_room self.old) }
     {
         let (relation, at) = self.relation_name()?;
         if !has_room {
             return Err(limit(at));
         }
-        let atom = self.applied(relation)?;
+        let atom = self.applied(form, relation)?;
         let has_more = self.goes_on(close)?;
         Ok((atom, has_more))
     }
 
     /// Atoms, and what closes them.
-    fn atoms(&mut self, close: Close) -> Result<Vec<Atom<A>, A>, TextFault>
-        ensures atoms { Gives (λ v. (v.items, self.new)) result (atoms_at close self.old) }
+    fn atoms(&mut self, form: Form, close: Close) -> Result<Vec<Atom<A>, A>, TextFault>
+        ensures atoms { Gives (λ v. (v.items, self.new)) result (atoms_at form close self.old) }
         ensures some { IfOk result (λ v. 1 ≤ length v.items) }
         ensures few { IfOk result (λ v. length v.items ≤ MAX_ATOMS) }
     {
         let mut atoms = Vec::new(self.alloc);
         'atoms: loop {
-            let (atom, has_more) = self.atom(close, atoms.len() < MAX_ATOMS)?;
+            let (atom, has_more) = self.atom(form, close, atoms.len() < form.max_atoms())?;
             atoms.push(atom)?;
             if !has_more {
                 return Ok(atoms);
@@ -141,14 +143,14 @@ impl<'a, A: Allocator + Copy> Reader<'a, A> {
 
     /// What closes, or atoms and what closes them.
     #[tactic(auto, unfolding(crate::specs::Steps::Lists::atoms_if_any_at, crate::specs::Steps::Lexemes::passes_at))]
-    fn atoms_if_any(&mut self, close: Close) -> Result<Vec<Atom<A>, A>, TextFault>
-        ensures atoms { Gives (λ v. (v.items, self.new)) result (atoms_if_any_at close self.old) }
+    fn atoms_if_any(&mut self, form: Form, close: Close) -> Result<Vec<Atom<A>, A>, TextFault>
+        ensures atoms { Gives (λ v. (v.items, self.new)) result (atoms_if_any_at form close self.old) }
         ensures few { IfOk result (λ v. length v.items ≤ MAX_ATOMS) }
     {
         if self.passes(close)? {
             return Ok(Vec::new(self.alloc));
         }
-        self.atoms(close)
+        self.atoms(form, close)
     }
 
     /// A constant of a ground atom, and whether more come.
@@ -167,13 +169,13 @@ impl<'a, A: Allocator + Copy> Reader<'a, A> {
     }
 
     /// The constants of a ground atom, and the bracket behind them.
-    fn values(&mut self) -> Result<Vec<Value<A>, A>, TextFault>
-        ensures values { Gives (λ v. (v.items, self.new)) result (values_at self.old) }
+    fn values(&mut self, form: Form) -> Result<Vec<Value<A>, A>, TextFault>
+        ensures values { Gives (λ v. (v.items, self.new)) result (values_at form self.old) }
         ensures arity { IfOk result (λ v. IsTrue (is_arity (length v.items))) }
     {
         let mut values = Vec::new(self.alloc);
         'values: loop {
-            let (value, has_more) = self.value(values.len() < MAX_ARITY)?;
+            let (value, has_more) = self.value(values.len() < form.max_terms())?;
             values.push(value)?;
             if !has_more {
                 return Ok(values);
@@ -183,12 +185,12 @@ impl<'a, A: Allocator + Copy> Reader<'a, A> {
 
     /// A ground atom, and the end.
     #[tactic(auto, unfolding(crate::specs::Steps::Lists::row_at, crate::specs::Steps::Lexemes::relation_name_at))]
-    pub(crate) fn row(&mut self) -> Result<Row<A>, TextFault>
-        ensures { Gives (λ row. row) result (row_at self.old) }
+    pub(crate) fn row(&mut self, form: Form) -> Result<Row<A>, TextFault>
+        ensures { Gives (λ row. row) result (row_at form self.old) }
     {
         let (relation, _at) = self.relation_name()?;
         self.sign(Sign::OpenParen)?;
-        let values = self.values()?;
+        let values = self.values(form)?;
         self.end()?;
         new_row(self.alloc, relation, values)
     }
@@ -268,14 +270,14 @@ impl<'a, A: Allocator + Copy> Reader<'a, A> {
 
     /// A query, up to the end.
     #[tactic(auto, unfolding(crate::specs::Steps::Lists::query_at))]
-    pub(crate) fn query(&mut self) -> Result<Query<A>, TextFault>
-        ensures { Gives (λ query. query) result (query_at self.old) }
+    pub(crate) fn query(&mut self, form: Form) -> Result<Query<A>, TextFault>
+        ensures { Gives (λ query. query) result (query_at form self.old) }
     {
         self.sign(Sign::OpenBrace)?;
         let mut behind = self.again();
-        let posts = self.atoms_if_any(Close::By(Sign::CloseBrace))?;
-        let heads = self.atoms(Close::By(Sign::Arrow))?;
-        let body = self.atoms_if_any(Close::End)?;
+        let posts = self.atoms_if_any(form, Close::By(Sign::CloseBrace))?;
+        let heads = self.atoms(form, Close::By(Sign::Arrow))?;
+        let body = self.atoms_if_any(form, Close::End)?;
         behind.bound_query(posts, heads, body)
     }
 }

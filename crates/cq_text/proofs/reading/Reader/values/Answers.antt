@@ -1,6 +1,7 @@
 use Rattle.std.proofs.Common.{rules, ◌≡◌, length, vec_len, arith}
 use Rattle.std.proofs.lemmas.Result.{err_from_is_err_and}
 use Rattle.cq_text.specs.Steps.Lists.{value_at, values_at}
+use Rattle.cq_text.specs.Forms.{most_terms}
 use Rattle.cq_text.proofs.Loops.{value_needs, begins, step_fails, step_more, step_done, step_room, some_arity}
 use Rattle.cq_text.proofs.reading.Reader.values.Goals as goal
 
@@ -8,38 +9,38 @@ pub values-init : goal.values-init
 unfolding values_at
 values-init g c = record {
   few = search rules;
-  goes_on = begins value_at 8 c.new-values.result.items (vec_len c.new-values.result) c.args.self.now c.new-values.ensures.items c.new-values.ensures.len;
+  goes_on = begins value_at (most_terms c.args.form) c.new-values.result.items (vec_len c.new-values.result) c.args.self.now c.new-values.ensures.items c.new-values.ensures.len;
 }
 
 pub returns-in_err-value-clause-values : goal.returns-in_err-value-clause-values
 returns-in_err-value-clause-values g c =
     let p = err_from_is_err_and c.from_residual.result c.from_residual.ensures.1 in
-    let h = rw c.len.ensures at c.in_err-value.ensures in
-    rw (p.1, p.2) (step_fails value_at c.in_err-value.field-0.0 8 c.values.values.items (vec_len c.values.values) c.values.self (values_at c.args.self.now) value_needs c.values.invariant.few c.values.invariant.goes_on h)
+    let h = rw (c.len.ensures, c.max_terms.ensures) at c.in_err-value.ensures in
+    rw (p.1, p.2) (step_fails value_at c.in_err-value.field-0.0 (most_terms c.args.form) c.values.values.items (vec_len c.values.values) c.values.self (values_at c.args.form c.args.self.now) value_needs c.values.invariant.few c.values.invariant.goes_on h)
 
 pub returns-then-not-has_more-clause-values : goal.returns-then-not-has_more-clause-values
 returns-then-not-has_more-clause-values g c =
-    let h = rw (c.len.ensures, c.if-not-has_more.true) at c.in_ok-value.ensures in
-    rw c.in_ok-push.ensures.items (step_done value_at 8 c.values.values.items (vec_len c.values.values) c.values.self c.value.new.self c.in_ok-value.value (values_at c.args.self.now) value_needs c.values.invariant.few c.values.invariant.goes_on h)
+    let h = rw (c.len.ensures, c.max_terms.ensures, c.if-not-has_more.true) at c.in_ok-value.ensures in
+    rw c.in_ok-push.ensures.items (step_done value_at (most_terms c.args.form) c.values.values.items (vec_len c.values.values) c.values.self c.value.new.self c.in_ok-value.value (values_at c.args.form c.args.self.now) value_needs c.values.invariant.few c.values.invariant.goes_on h)
 
 pub values-smaller : goal.values-smaller
 values-smaller g c =
-    let h = rw c.len.ensures at c.in_ok-value.ensures in
-    let lt = step_room value_at 8 (vec_len c.values.values) c.values.self _ value_needs c.values.invariant.few h in
+    let h = rw (c.len.ensures, c.max_terms.ensures) at c.in_ok-value.ensures in
+    let lt = step_room value_at (most_terms c.args.form) (vec_len c.values.values) c.values.self _ value_needs c.values.invariant.few h in
     omega (arith, lt, c.in_ok-push.ensures.len)
 
 pub values-preserved : goal.values-preserved
 values-preserved g c =
-    let h = rw (c.len.ensures, c.if-not-has_more.false) at c.in_ok-value.ensures in
-    let lt = step_room value_at 8 (vec_len c.values.values) c.values.self _ value_needs c.values.invariant.few h in
+    let h = rw (c.len.ensures, c.max_terms.ensures, c.if-not-has_more.false) at c.in_ok-value.ensures in
+    let lt = step_room value_at (most_terms c.args.form) (vec_len c.values.values) c.values.self _ value_needs c.values.invariant.few h in
     record {
       few = omega (arith, lt, c.in_ok-push.ensures.len);
-      goes_on = rw (c.in_ok-push.ensures.len, c.in_ok-push.ensures.items) (step_more value_at 8 c.values.values.items (vec_len c.values.values) c.values.self c.value.new.self c.in_ok-value.value (values_at c.args.self.now) value_needs c.values.invariant.few c.values.invariant.goes_on h);
+      goes_on = rw (c.in_ok-push.ensures.len, c.in_ok-push.ensures.items) (step_more value_at (most_terms c.args.form) c.values.values.items (vec_len c.values.values) c.values.self c.value.new.self c.in_ok-value.value (values_at c.args.form c.args.self.now) value_needs c.values.invariant.few c.values.invariant.goes_on h);
     }
 
 pub returns-then-not-has_more-clause-arity : goal.returns-then-not-has_more-clause-arity
 returns-then-not-has_more-clause-arity g c =
-    let h = rw c.len.ensures at c.in_ok-value.ensures in
-    let lt = step_room value_at 8 (vec_len c.values.values) c.values.self _ value_needs c.values.invariant.few h in
+    let h = rw (c.len.ensures, c.max_terms.ensures) at c.in_ok-value.ensures in
+    let lt = step_room value_at (most_terms c.args.form) (vec_len c.values.values) c.values.self _ value_needs c.values.invariant.few h in
     let count : length c.push.new.self.items ≡ vec_len c.push.new.self = search rules in
-    rw (count, c.in_ok-push.ensures.len) (some_arity (vec_len c.values.values) lt)
+    rw (count, c.in_ok-push.ensures.len) (some_arity c.args.form (vec_len c.values.values) lt)
