@@ -4,6 +4,7 @@ use Rattle.std.specs.Prelude.{Result, Ok, Err, OnOk, IfErr}
 use Rattle.cq_text.specs.declared.fault.Kind.{Kind}
 use Rattle.cq_text.specs.declared.fault.TextFault.{TextFault}
 use Rattle.cq_text.specs.declared.fault.TextFault.TheVariants.{At}
+use Rattle.cq_text.specs.declared.form.Form.TheVariants.{One}
 use Rattle.cq_text.specs.Grammar.{CommandContent, StandsFor}
 use Rattle.cq_text.specs.Fault.{FirstFault}
 use Rattle.cq_text.specs.Views.{OrNoMemory, OfFault}
@@ -23,8 +24,8 @@ on_ok (Err e) P p = tt
 
 -- a line that is read as a command is read as nothing else
 pub only_command : (line : List ℕ) (command : CommandContent)
-    → ((other : CommandContent) → StandsFor line other → OrNoMemory {X = CommandContent} (Ok command) (Ok other))
-    → ((kind : Kind) (offset : ℕ) → FirstFault line kind offset → OrNoMemory {X = CommandContent} (Ok command) (Err (At kind offset)))
+    → ((other : CommandContent) → StandsFor One line other → OrNoMemory {X = CommandContent} (Ok command) (Ok other))
+    → ((kind : Kind) (offset : ℕ) → FirstFault One line kind offset → OrNoMemory {X = CommandContent} (Ok command) (Err (At kind offset)))
     → (reading : Reading) → IsReading line reading → reading ≡ Reads command
 only_command line command only only_fault (Reads other) h =
     elim (only other h) [ inl e ↦ let same : other ≡ command = cc in ap Reads same | inr e ↦ cc ]
@@ -33,15 +34,15 @@ only_command line command only only_fault (Faulty kind offset) h =
 
 -- a line that has a fault has no other reading
 pub only_the_fault : (line : List ℕ) (fault : TextFault) (kind : Kind) (offset : ℕ) → fault ≡ At kind offset
-    → ((other : CommandContent) → StandsFor line other → OrNoMemory {X = CommandContent} (Err fault) (Ok other))
-    → ((k : Kind) (o : ℕ) → FirstFault line k o → OrNoMemory {X = CommandContent} (Err fault) (Err (At k o)))
+    → ((other : CommandContent) → StandsFor One line other → OrNoMemory {X = CommandContent} (Err fault) (Ok other))
+    → ((k : Kind) (o : ℕ) → FirstFault One line k o → OrNoMemory {X = CommandContent} (Err fault) (Err (At k o)))
     → (reading : Reading) → IsReading line reading → reading ≡ Faulty kind offset
 only_the_fault line fault kind offset is only only_fault (Reads other) h =
     elim (only other h) [ inl e ↦ cc | inr e ↦ cc ]
 only_the_fault line fault kind offset is only only_fault (Faulty k o) h =
     elim (only_fault k o h) [ inl e ↦ let one : k ≡ kind = cc in let two : o ≡ offset = cc in ap (λ x. Faulty x o) one ∙ ap (Faulty kind) two | inr e ↦ cc ]
 
-pub the_fault : (line : List ℕ) (fault : TextFault) (kind : Kind) (offset : ℕ) → fault ≡ At kind offset → OfFault fault (λ k o. FirstFault line k o) → IsReading line (Faulty kind offset)
+pub the_fault : (line : List ℕ) (fault : TextFault) (kind : Kind) (offset : ℕ) → fault ≡ At kind offset → OfFault fault (λ k o. FirstFault One line k o) → IsReading line (Faulty kind offset)
 the_fault line fault kind offset is h = rw is at h
 
 module _ {W A : Type 0} (taken : W → Option (List ℕ)) (failures : W → ℕ) (first now : Output W A) where

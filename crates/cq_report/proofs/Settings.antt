@@ -1,6 +1,7 @@
 -- Lines of a setup, one after another.
 use Rattle.std.proofs.Common.{◌≡◌, ℕ, ◌<◌, List, [], ◌∷◌, ◌++◌, true, false, length, map, refl, sym, ap, subst, ◌∙◌, append_assoc, append-nil}
 use Rattle.std.specs.Prelude.{Result, Ok, Err, Bool, IfOk, MatchBool}
+use Rattle.cq_text.specs.declared.form.Form.TheVariants.{One}
 use Rattle.cq_text.specs.Grammar.{CommandContent, StandsFor}
 use Rattle.cq_report.specs.declared.sessions.fault.ServeFault.{ServeFault}
 use Rattle.cq_report.specs.declared.sessions.sheet.Line.{Line}
@@ -74,7 +75,7 @@ begins_none [] are = tt
 begins_none (reading ∷ behind) are = absurd are
 
 -- what is known of a command holds of the line that is read so
-pub set_by : (line : List ℕ) (command : CommandContent) (setup setup' : SetupRecord) (sheet sheet' : SheetRecord) (r : Result Bool ServeFault) → StandsFor line command → ((reading : Reading) → IsReading line reading → reading ≡ Reads command)
+pub set_by : (line : List ℕ) (command : CommandContent) (setup setup' : SetupRecord) (sheet sheet' : SheetRecord) (r : Result Bool ServeFault) → StandsFor One line command → ((reading : Reading) → IsReading line reading → reading ≡ Reads command)
     → IfOk r (λ is_set. MatchBool is_set (Sets setup sheet setup' sheet' (Reads command)) (Stays setup sheet setup' sheet' (Reads command)))
     → IfOk r (λ is_set. MatchBool is_set (SetsLine setup sheet setup' sheet' line) (IsBehind setup sheet setup' sheet' line))
 set_by line command setup setup' sheet sheet' (Ok true) found only h = record { reading = Reads command; is = found; sets = h }

@@ -3,13 +3,13 @@
 ghost use Rattle.std.specs.Prelude.{◌≡◌, ◌==◌, ◌++◌, [], length, OnOk, OnErr};
 ghost use Rattle.cq_report.specs.Steps.Kept.{kept};
 
-use cq_text::MAX_LINE;
+use cq_text::MAX_BYTES;
 use std::alloc::{AllocError, Allocator};
 use std::marker::Model;
 
-/// How many bytes of a line are kept: one more than a line may have, so that a longer one is known
+/// How many bytes of a line are kept: one more than a line of any form may have, so that a longer one is known
 /// to be too long.
-pub(crate) const KEPT: usize = MAX_LINE + 1;
+pub(crate) const KEPT: usize = MAX_BYTES + 1;
 
 /// The front of a line, as far as it was read, and no more of it than is kept.
 #[derive(Drop)]

@@ -18,7 +18,7 @@ use crate::stage::Stage;
 use cq_board::{Edit, EditKind, Limits};
 use cq_desk::Event;
 use cq_rel::CatalogFault;
-use cq_text::{Command, CommandKind, Sink, TextFault, read_command};
+use cq_text::{Command, CommandKind, Form, Sink, TextFault, read_command};
 use std::alloc::{AllocError, Allocator};
 use std::marker::Model;
 use std::mem;
@@ -181,7 +181,7 @@ impl<A: Allocator + Copy> Machine<A> {
         ensures fails { IfErr result (λ fault. Fails W.write_failures output.old output.new fault) }
         ensures nothing { IfErr result (λ fault. IfMemory fault (Puts W.taken W.write_failures output.old output.new [])) }
     {
-        match read_command(self.alloc, line) {
+        match read_command(self.alloc, line, Form::One) {
             Ok(command) => self.serve(command, output),
             Err(TextFault::At { kind, offset }) => put_reply(
                 fault_line(self.alloc, kind, offset),

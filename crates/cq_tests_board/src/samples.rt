@@ -2,7 +2,7 @@
 
 use cq_board::{Board, Edit, EditKind, Limits, Why};
 use cq_rel::Catalog;
-use cq_text::{CommandKind, read_command};
+use cq_text::{CommandKind, Form, read_command};
 use std::alloc::{AllocError, Allocator};
 
 pub const LIMITS: Limits = Limits {
@@ -29,7 +29,7 @@ pub const TRAVEL: [&str; 8] = [
 
 /// The edit that a line of a script asks for; a line of no edit is want of memory.
 pub fn edit<A: Allocator + Copy>(alloc: A, line: &str) -> Result<Edit<A>, AllocError> {
-    match read_command(alloc, line.as_bytes()) {
+    match read_command(alloc, line.as_bytes(), Form::One) {
         Ok(CommandKind::Post { name, query }) => Ok(EditKind::Post { name, query }),
         Ok(CommandKind::Withdraw { name }) => Ok(EditKind::Withdraw { name }),
         Ok(CommandKind::Insert { row }) => Ok(EditKind::Insert { row }),

@@ -5,13 +5,13 @@ use cq_atom::{Name, Query, Row};
 use cq_board::{Board, ScratchFault, Why};
 use cq_rel::Catalog;
 use cq_tests_growths::{Outcome, Tried, refusals};
-use cq_text::{CommandKind, read_command};
+use cq_text::{CommandKind, Form, read_command};
 use std::alloc::{AllocError, Allocator};
 use std::test::Fail;
 
 /// The row that a line inserts.
 fn row<A: Allocator + Copy>(alloc: A, line: &str) -> Result<Row<A>, AllocError> {
-    match read_command(alloc, line.as_bytes()) {
+    match read_command(alloc, line.as_bytes(), Form::One) {
         Ok(CommandKind::Insert { row }) => Ok(row),
         _ => Err(AllocError),
     }
@@ -27,7 +27,7 @@ fn rows<A: Allocator + Copy>(alloc: A, lines: &[&str]) -> Result<Vec<Row<A>, A>,
 
 /// The name and the query that a line posts.
 fn posting<A: Allocator + Copy>(alloc: A, line: &str) -> Result<(Name<A>, Query<A>), AllocError> {
-    match read_command(alloc, line.as_bytes()) {
+    match read_command(alloc, line.as_bytes(), Form::One) {
         Ok(CommandKind::Post { name, query }) => Ok((name, query)),
         _ => Err(AllocError),
     }

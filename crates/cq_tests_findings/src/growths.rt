@@ -4,7 +4,7 @@ use crate::samples::{QUERIES, Sample, add_all, are_counts, begun, came, change, 
 use cq_atom::{Meter, Query};
 use cq_findings::Findings;
 use cq_tests_growths::{Outcome, Tried, refusals};
-use cq_text::read_query;
+use cq_text::{Form, read_query};
 use std::alloc::{AllocError, Allocator};
 
 /// The sample with its queries and the row `T(1, 2)`.
@@ -56,7 +56,10 @@ fn added<A: Allocator + Copy>(sample: &mut Sample<A>, query: &Query<A>) -> Outco
 
 impl Tried for Adding {
     fn tried<A: Allocator + Copy>(alloc: A) -> Outcome {
-        match (ready(alloc), read_query(alloc, b"{} R(x) <- T(x, y), U(y)")) {
+        match (
+            ready(alloc),
+            read_query(alloc, b"{} R(x) <- T(x, y), U(y)", Form::One),
+        ) {
             (Ok(mut sample), Ok(query)) => added(&mut sample, &query),
             _ => Outcome::Unready,
         }

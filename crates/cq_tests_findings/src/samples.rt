@@ -3,7 +3,7 @@
 use cq_atom::Meter;
 use cq_findings::Findings;
 use cq_rel::{Catalog, CatalogFault, Tables};
-use cq_text::{read_ground_atom, read_query};
+use cq_text::{Form, read_ground_atom, read_query};
 use std::alloc::{AllocError, Allocator};
 
 /// Tables over `T` of arity 2 and `U` of arity 1, and findings over them.
@@ -45,7 +45,7 @@ pub fn add<A: Allocator + Copy>(
     text: &str,
     visits: &mut Meter,
 ) -> Result<usize, AllocError> {
-    match read_query(alloc, text.as_bytes()) {
+    match read_query(alloc, text.as_bytes(), Form::One) {
         Ok(query) => sample.findings.add(&query, &sample.tables, visits),
         Err(_) => Err(AllocError),
     }
@@ -67,7 +67,7 @@ pub fn add_all<A: Allocator + Copy>(
 
 /// Whether the row of the text came into the tables, which did not have it.
 pub fn came<A: Allocator + Copy>(alloc: A, tables: &mut Tables<A>, text: &str) -> bool {
-    match read_ground_atom(alloc, text.as_bytes()) {
+    match read_ground_atom(alloc, text.as_bytes(), Form::One) {
         Ok(row) => tables.insert(row) == Ok(()),
         Err(_) => false,
     }
@@ -80,7 +80,7 @@ pub fn gain<A: Allocator + Copy>(
     text: &str,
     visits: &mut Meter,
 ) -> Result<(), AllocError> {
-    match read_ground_atom(alloc, text.as_bytes()) {
+    match read_ground_atom(alloc, text.as_bytes(), Form::One) {
         Ok(row) => sample.findings.gain(&sample.tables, &row, visits),
         Err(_) => Err(AllocError),
     }
@@ -93,7 +93,7 @@ fn went<A: Allocator + Copy>(
     text: &str,
     visits: &mut Meter,
 ) -> bool {
-    match read_ground_atom(alloc, text.as_bytes()) {
+    match read_ground_atom(alloc, text.as_bytes(), Form::One) {
         Ok(row) => {
             sample.findings.lose(&row, visits);
             sample.tables.delete(&row) == Ok(())

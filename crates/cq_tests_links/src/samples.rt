@@ -3,12 +3,12 @@
 use cq_atom::{Meter, Query};
 use cq_links::Links;
 use cq_match::Edge;
-use cq_text::read_query;
+use cq_text::{Form, read_query};
 use std::alloc::{AllocError, Allocator};
 
 /// The query of the text; a text of no query is want of memory.
 pub fn query<A: Allocator + Copy>(alloc: A, text: &str) -> Result<Query<A>, AllocError> {
-    match read_query(alloc, text.as_bytes()) {
+    match read_query(alloc, text.as_bytes(), Form::One) {
         Ok(query) => Ok(query),
         Err(_) => Err(AllocError),
     }

@@ -4,7 +4,7 @@ use cq_atom::{Name, Value};
 use cq_board::{Board, Edit, EditKind, Limits};
 use cq_rel::Catalog;
 use cq_report::report;
-use cq_text::{read_ground_atom, read_query};
+use cq_text::{Form, read_ground_atom, read_query};
 use std::alloc::{AllocError, Allocator};
 use std::test::Fail;
 
@@ -15,7 +15,10 @@ const LIMITS: Limits = Limits {
 
 /// The edit that posts the query of that text; texts of no name and no query are want of memory.
 pub fn post<A: Allocator + Copy>(alloc: A, name: &str, text: &str) -> Result<Edit<A>, AllocError> {
-    match (Name::new(alloc, name), read_query(alloc, text.as_bytes())) {
+    match (
+        Name::new(alloc, name),
+        read_query(alloc, text.as_bytes(), Form::One),
+    ) {
         (Ok(name), Ok(query)) => Ok(EditKind::Post { name, query }),
         _ => Err(AllocError),
     }
@@ -23,7 +26,7 @@ pub fn post<A: Allocator + Copy>(alloc: A, name: &str, text: &str) -> Result<Edi
 
 /// The edit that inserts the row of that text.
 fn insert<A: Allocator + Copy>(alloc: A, text: &str) -> Result<Edit<A>, AllocError> {
-    match read_ground_atom(alloc, text.as_bytes()) {
+    match read_ground_atom(alloc, text.as_bytes(), Form::One) {
         Ok(row) => Ok(EditKind::Insert { row }),
         Err(_) => Err(AllocError),
     }

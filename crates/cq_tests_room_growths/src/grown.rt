@@ -4,7 +4,7 @@ use cq_board::{Board, Edit, EditKind, Limits};
 use cq_desk::Live;
 use cq_rel::Catalog;
 use cq_tests_tally::Tally;
-use cq_text::{CommandKind, read_command};
+use cq_text::{CommandKind, Form, read_command};
 use std::alloc::Allocator;
 
 /// A state whose growths are refused in turn.
@@ -54,7 +54,7 @@ impl<A: Allocator + Copy> Grown<A> for Tally<A> {
 
 /// The edit of the line, if it posts a query.
 fn posting<A: Allocator + Copy>(alloc: A, line: &str) -> Option<Edit<A>> {
-    match read_command(alloc, line.as_bytes()) {
+    match read_command(alloc, line.as_bytes(), Form::One) {
         Ok(CommandKind::Post { name, query }) => Some(EditKind::Post { name, query }),
         _ => None,
     }

@@ -3,7 +3,7 @@
 use cq_atom::{Name, Query, Row};
 use cq_board::{Edit, EditKind, Why};
 use cq_desk::Reply;
-use cq_text::{CommandKind, print_query, print_row, read_command};
+use cq_text::{CommandKind, Form, print_query, print_row, read_command};
 use std::alloc::{AllocError, Global};
 
 /// The sessions with the numbers below this one write, the others only look.
@@ -64,7 +64,7 @@ pub fn may_be(number: usize, reply: &Reply<Why>) -> bool {
 
 /// The edit that a line of a script asks for; a line of no edit is want of memory.
 fn edit(alloc: Global, line: &str) -> Result<Edit, AllocError> {
-    match read_command(alloc, line.as_bytes()) {
+    match read_command(alloc, line.as_bytes(), Form::One) {
         Ok(CommandKind::Post { name, query }) => Ok(EditKind::Post { name, query }),
         Ok(CommandKind::Withdraw { name }) => Ok(EditKind::Withdraw { name }),
         Ok(CommandKind::Insert { row }) => Ok(EditKind::Insert { row }),

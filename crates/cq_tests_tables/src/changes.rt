@@ -6,7 +6,7 @@ use cq_atom::{Meter, Query, Row};
 use cq_ground::Groundings;
 use cq_rel::{Catalog, CatalogFault, Tables};
 use cq_tests_growths::{Outcome, Tried, refusals};
-use cq_text::{print_values, read_ground_atom, read_query};
+use cq_text::{Form, print_values, read_ground_atom, read_query};
 use std::alloc::{AllocError, Allocator, Global};
 use std::test::Fail;
 
@@ -22,7 +22,7 @@ pub fn gain<A: Allocator + Copy>(
     text: &str,
     meter: &mut Meter,
 ) -> Result<(), AllocError> {
-    match read_ground_atom(alloc, text.as_bytes()) {
+    match read_ground_atom(alloc, text.as_bytes(), Form::One) {
         Ok(row) => found.gain(query, tables, &row, meter),
         Err(_) => Err(AllocError),
     }
@@ -36,7 +36,7 @@ fn lose<A: Allocator + Copy>(
     text: &str,
     meter: &mut Meter,
 ) -> bool {
-    match read_ground_atom(alloc, text.as_bytes()) {
+    match read_ground_atom(alloc, text.as_bytes(), Form::One) {
         Ok(row) => {
             found.lose(query, &row, meter);
             true
@@ -109,7 +109,7 @@ fn other_change_of(
     told: &[(&'static str, u64, &'static str)],
 ) -> Result<Option<&'static str>, AllocError> {
     let (Ok(query), Ok(mut tables)) = (
-        read_query(alloc, text.as_bytes()),
+        read_query(alloc, text.as_bytes(), Form::One),
         pairs(alloc, [].as_slice()),
     ) else {
         return Err(AllocError);
@@ -195,7 +195,8 @@ fn begun(alloc: Global) -> Result<Tables, CatalogFault> {
 
 /// Whether one list of changes is kept for the query of that text.
 fn keep_of(alloc: Global, text: &str, draws: &mut Draws) -> Result<bool, AllocError> {
-    let (Ok(query), Ok(mut tables)) = (read_query(alloc, text.as_bytes()), begun(alloc)) else {
+    let (Ok(query), Ok(mut tables)) = (read_query(alloc, text.as_bytes(), Form::One), begun(alloc))
+    else {
         return Err(AllocError);
     };
     let mut found = Groundings::all(alloc, &query, &tables, &mut Meter::new())?;
@@ -291,9 +292,9 @@ fn gain_a_loop<A: Allocator + Copy>(
 impl Tried for Gaining {
     fn tried<A: Allocator + Copy>(alloc: A) -> Outcome {
         let (Ok(query), Ok(mut tables), Ok(row)) = (
-            read_query(alloc, PATHS.as_bytes()),
+            read_query(alloc, PATHS.as_bytes(), Form::One),
             pairs(alloc, PATH_ROWS.as_slice()),
-            read_ground_atom(alloc, LOOP.as_bytes()),
+            read_ground_atom(alloc, LOOP.as_bytes(), Form::One),
         ) else {
             return Outcome::Unready;
         };

@@ -4,7 +4,7 @@ use crate::samples::{delete, insert, pairs, travel};
 use cq_atom::Meter;
 use cq_ground::{Groundings, reads};
 use cq_rel::Tables;
-use cq_text::{print_values, read_ground_atom, read_query};
+use cq_text::{Form, print_values, read_ground_atom, read_query};
 use std::alloc::{AllocError, Allocator, Global};
 use std::test::Fail;
 
@@ -18,7 +18,7 @@ pub fn all<A: Allocator + Copy>(
     text: &str,
     meter: &mut Meter,
 ) -> Result<Groundings<A>, AllocError> {
-    match read_query(alloc, text.as_bytes()) {
+    match read_query(alloc, text.as_bytes(), Form::One) {
         Ok(query) => Groundings::all(alloc, &query, tables, meter),
         Err(_) => Err(AllocError),
     }
@@ -80,7 +80,7 @@ fn kramer_waits(rt: HostRuntime) -> Result<(), Fail> {
 
 /// Whether the values of the row of that text are a grounding; `None` where the text is none of a row.
 fn has(alloc: Global, found: &Groundings, text: &str) -> Option<bool> {
-    match read_ground_atom(alloc, text.as_bytes()) {
+    match read_ground_atom(alloc, text.as_bytes(), Form::One) {
         Ok(row) => Some(found.has(row.values())),
         Err(_) => None,
     }
@@ -149,7 +149,7 @@ fn repeated_variables(rt: HostRuntime) -> Result<(), Fail> {
 
 /// Whether the query of that text reads the relation; `None` where the text is none of a query.
 fn query_reads(alloc: Global, text: &str, relation: &str) -> Option<bool> {
-    match read_query(alloc, text.as_bytes()) {
+    match read_query(alloc, text.as_bytes(), Form::One) {
         Ok(query) => Some(reads(&query, relation)),
         Err(_) => None,
     }

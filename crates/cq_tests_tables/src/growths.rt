@@ -6,7 +6,7 @@ use cq_atom::{Meter, Row, Value};
 use cq_ground::Groundings;
 use cq_rel::{Catalog, CatalogFault, RowFault, Tables};
 use cq_tests_growths::{Outcome, Tried, refusals};
-use cq_text::read_ground_atom;
+use cq_text::{Form, read_ground_atom};
 use std::alloc::{AllocError, Allocator};
 
 /// A relation declared in a catalog without relations.
@@ -65,7 +65,7 @@ struct Inserting;
 const FLIGHT: &str = "Flights(122, Paris)";
 
 fn insert_again<A: Allocator + Copy>(alloc: A, tables: &mut Tables<A>) -> bool {
-    match read_ground_atom(alloc, FLIGHT.as_bytes()) {
+    match read_ground_atom(alloc, FLIGHT.as_bytes(), Form::One) {
         Ok(row) => tables.insert(row) == Ok(()),
         Err(_) => false,
     }
@@ -88,7 +88,7 @@ impl Tried for Inserting {
         let Ok(mut tables) = travel_begun(alloc) else {
             return Outcome::Unready;
         };
-        match read_ground_atom(alloc, FLIGHT.as_bytes()) {
+        match read_ground_atom(alloc, FLIGHT.as_bytes(), Form::One) {
             Ok(row) => insert_row(alloc, &mut tables, row),
             Err(_) => Outcome::Unready,
         }

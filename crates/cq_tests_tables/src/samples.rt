@@ -1,7 +1,7 @@
 //! Tables that several tests use.
 
 use cq_rel::{Catalog, CatalogFault, RowFault, Tables};
-use cq_text::read_ground_atom;
+use cq_text::{Form, read_ground_atom};
 use std::alloc::Allocator;
 
 /// The rows of the worked travel setup.
@@ -30,7 +30,7 @@ pub fn insert<A: Allocator + Copy>(
     tables: &mut Tables<A>,
     text: &str,
 ) -> Result<(), RowFault> {
-    match read_ground_atom(alloc, text.as_bytes()) {
+    match read_ground_atom(alloc, text.as_bytes(), Form::One) {
         Ok(row) => tables.insert(row),
         Err(_) => Err(RowFault::NoMemory),
     }
@@ -42,7 +42,7 @@ pub fn delete<A: Allocator + Copy>(
     tables: &mut Tables<A>,
     text: &str,
 ) -> Result<(), RowFault> {
-    match read_ground_atom(alloc, text.as_bytes()) {
+    match read_ground_atom(alloc, text.as_bytes(), Form::One) {
         Ok(row) => tables.delete(&row),
         Err(_) => Err(RowFault::NoMemory),
     }

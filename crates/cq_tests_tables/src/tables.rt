@@ -3,13 +3,13 @@
 use crate::samples::{delete, insert, pairs, travel};
 use cq_atom::Row;
 use cq_rel::{RowFault, Tables};
-use cq_text::{print_row, read_ground_atom};
+use cq_text::{Form, print_row, read_ground_atom};
 use std::alloc::Global;
 use std::test::Fail;
 
 /// Whether the row of the text is there; `None` where the text is none of a row.
 fn has(alloc: Global, tables: &Tables, text: &str) -> Option<bool> {
-    match read_ground_atom(alloc, text.as_bytes()) {
+    match read_ground_atom(alloc, text.as_bytes(), Form::One) {
         Ok(row) => Some(tables.has(&row)),
         Err(_) => None,
     }

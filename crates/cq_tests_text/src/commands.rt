@@ -1,7 +1,7 @@
 //! Commands, one of each kind. What they hold is shown by the cases.
 
 use cq_text::{
-    Command, CommandKind, Kind, MAX_COUNT, MAX_LINE, TextFault, read_command, read_ground_atom,
+    Command, CommandKind, Form, Kind, MAX_COUNT, TextFault, read_command, read_ground_atom,
     read_query,
 };
 use std::alloc::{AllocError, Global};
@@ -24,7 +24,7 @@ fn kind_of(command: &Command) -> (&str, usize, usize) {
 
 /// Whether the line stands for a command of that kind and those numbers.
 fn is_kind(alloc: Global, line: &str, kind: (&str, usize, usize)) -> bool {
-    match read_command(alloc, line.as_bytes()) {
+    match read_command(alloc, line.as_bytes(), Form::One) {
         Ok(command) => kind_of(&command) == kind,
         Err(_) => false,
     }
@@ -54,9 +54,9 @@ fn kinds(rt: HostRuntime) {
 /// The first faults of a text as a line, as a query and as a ground atom.
 fn faults(alloc: Global, text: &str) -> [Option<TextFault>; 3] {
     [
-        read_command(alloc, text.as_bytes()).err(),
-        read_query(alloc, text.as_bytes()).err(),
-        read_ground_atom(alloc, text.as_bytes()).err(),
+        read_command(alloc, text.as_bytes(), Form::One).err(),
+        read_query(alloc, text.as_bytes(), Form::One).err(),
+        read_ground_atom(alloc, text.as_bytes(), Form::One).err(),
     ]
 }
 
@@ -72,9 +72,9 @@ fn at(kind: Kind, offset: usize) -> Option<TextFault> {
 
 #[test]
 fn longest_line(rt: HostRuntime) -> Result<(), Fail> {
-    let end = at(Kind::Shape, MAX_LINE);
+    let end = at(Kind::Shape, 131_072);
     let limit = at(Kind::Limit, 131_072);
-    assert!(rt; faults_of_spaces(rt.alloc(), MAX_LINE)? == [None, end, end]);
+    assert!(rt; faults_of_spaces(rt.alloc(), 131_072)? == [None, end, end]);
     assert!(rt; faults_of_spaces(rt.alloc(), 131_073)? == [limit, limit, limit]);
     Ok(())
 }

@@ -3,8 +3,8 @@
 use cq_atom::{Query, Row};
 use cq_tests_growths::{Outcome, Tried, refusals};
 use cq_text::{
-    Counted, TextFault, WholeFault, print_atom, print_query, print_row, print_values, read_command,
-    read_ground_atom, read_query, read_whole,
+    Counted, Form, TextFault, WholeFault, print_atom, print_query, print_row, print_values,
+    read_command, read_ground_atom, read_query, read_whole,
 };
 use std::alloc::{AllocError, Allocator};
 use std::io::{self, Read};
@@ -16,10 +16,10 @@ struct ReadingLine;
 
 impl Tried for ReadingLine {
     fn tried<A: Allocator + Copy>(alloc: A) -> Outcome {
-        match read_command(alloc, LINE) {
+        match read_command(alloc, LINE, Form::One) {
             Ok(_) => Outcome::Done,
             Err(fault) => Outcome::refused_if(
-                fault == TextFault::NoMemory && read_command(alloc, LINE).is_ok(),
+                fault == TextFault::NoMemory && read_command(alloc, LINE, Form::One).is_ok(),
             ),
         }
     }
@@ -37,10 +37,10 @@ struct ReadingRow;
 
 impl Tried for ReadingRow {
     fn tried<A: Allocator + Copy>(alloc: A) -> Outcome {
-        match read_ground_atom(alloc, ROW) {
+        match read_ground_atom(alloc, ROW, Form::One) {
             Ok(_) => Outcome::Done,
             Err(fault) => Outcome::refused_if(
-                fault == TextFault::NoMemory && read_ground_atom(alloc, ROW).is_ok(),
+                fault == TextFault::NoMemory && read_ground_atom(alloc, ROW, Form::One).is_ok(),
             ),
         }
     }
@@ -57,7 +57,7 @@ const KRAMER: &str = r#"{R("Jerry", x)} R("Kramer", x) <- Flights(x, "Paris"), A
 struct ReadingQuery;
 
 fn is_read<A: Allocator + Copy>(alloc: A) -> Result<bool, TextFault> {
-    let query = read_query(alloc, KRAMER.as_bytes())?;
+    let query = read_query(alloc, KRAMER.as_bytes(), Form::One)?;
     Ok(query.heads().len() == 1 && query.variables().len() == 2)
 }
 
@@ -97,7 +97,7 @@ struct Printing;
 
 impl Tried for Printing {
     fn tried<A: Allocator + Copy>(alloc: A) -> Outcome {
-        match read_query(alloc, KRAMER.as_bytes()) {
+        match read_query(alloc, KRAMER.as_bytes(), Form::One) {
             Ok(query) => printed(alloc, &query),
             Err(_) => Outcome::Unready,
         }
@@ -136,8 +136,8 @@ fn prints<A: Allocator + Copy>(
 impl Tried for PrintingParts {
     fn tried<A: Allocator + Copy>(alloc: A) -> Outcome {
         let (Ok(query), Ok(row)) = (
-            read_query(alloc, KRAMER.as_bytes()),
-            read_ground_atom(alloc, ROW),
+            read_query(alloc, KRAMER.as_bytes(), Form::One),
+            read_ground_atom(alloc, ROW, Form::One),
         ) else {
             return Outcome::Unready;
         };

@@ -2,14 +2,14 @@
 
 use cq_atom::Query;
 use cq_text::{
-    Kind, TextFault, one_reading, print_atom, print_query, print_row, print_values,
+    Form, Kind, TextFault, one_reading, print_atom, print_query, print_row, print_values,
     read_ground_atom, read_query,
 };
 use std::alloc::{AllocError, Global};
 
 /// Whether the text is read as a query that is printed so.
 fn is_query(alloc: Global, text: &str, printed: &str) -> Result<bool, TextFault> {
-    let query = read_query(alloc, text.as_bytes())?;
+    let query = read_query(alloc, text.as_bytes(), Form::One)?;
     let told = print_query(alloc, &query)?;
     Ok(told.as_str() == printed)
 }
@@ -47,7 +47,7 @@ fn queries(rt: HostRuntime) {
 
 /// The fault of the text as a query's, if it has one.
 fn query_fault(alloc: Global, text: &str) -> Option<TextFault> {
-    read_query(alloc, text.as_bytes()).err()
+    read_query(alloc, text.as_bytes(), Form::One).err()
 }
 
 #[test]
@@ -73,7 +73,7 @@ fn has_head(alloc: Global, query: &Query, printed: &str) -> Result<bool, AllocEr
 
 /// The same of the query of that text.
 fn is_head(alloc: Global, text: &str, printed: &str) -> Result<bool, TextFault> {
-    let query = read_query(alloc, text.as_bytes())?;
+    let query = read_query(alloc, text.as_bytes(), Form::One)?;
     Ok(has_head(alloc, &query, printed)?)
 }
 
@@ -91,7 +91,7 @@ fn is_row(
     values: &str,
     printed: &str,
 ) -> Result<bool, TextFault> {
-    let row = read_ground_atom(alloc, text.as_bytes())?;
+    let row = read_ground_atom(alloc, text.as_bytes(), Form::One)?;
     let told = print_row(alloc, &row)?;
     let told_values = print_values(alloc, row.values())?;
     Ok(row.relation() == relation && told.as_str() == printed && told_values.as_str() == values)
@@ -133,7 +133,7 @@ fn rows(rt: HostRuntime) {
 
 /// The fault of the text as a ground atom's, if it has one.
 fn row_fault(alloc: Global, text: &str) -> Option<TextFault> {
-    read_ground_atom(alloc, text.as_bytes()).err()
+    read_ground_atom(alloc, text.as_bytes(), Form::One).err()
 }
 
 #[test]

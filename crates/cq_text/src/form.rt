@@ -3,6 +3,9 @@
 ghost use Rattle.std.specs.Prelude.{◌≡◌};
 ghost use Rattle.cq_text.specs.Forms.{most_terms, most_atoms, most_bytes};
 
+use crate::limits::MAX_BYTES;
+use cq_atom::{MAX_ARITY, MAX_ATOMS};
+
 /// A form of scripts. What may be written is the same in both but for the limits.
 #[derive(Clone, Copy, Debug, PartialEq, Eq)]
 pub enum Form {
@@ -19,7 +22,7 @@ impl Form {
     {
         match self {
             Form::One => 8,
-            Form::Two => 16,
+            Form::Two => MAX_ARITY,
         }
     }
 
@@ -29,7 +32,7 @@ impl Form {
     {
         match self {
             Form::One => 8,
-            Form::Two => 16,
+            Form::Two => MAX_ATOMS,
         }
     }
 
@@ -39,7 +42,7 @@ impl Form {
     {
         match self {
             Form::One => 131_072,
-            Form::Two => 524_288,
+            Form::Two => MAX_BYTES,
         }
     }
 }

@@ -1,5 +1,8 @@
 //! The limits of texts.
 
+/// The most bytes of a line or of a query's text in any form.
+pub const MAX_BYTES: usize = 524_288;
+
 /// The most that `limits` may name, of pending queries and of journal entries.
 pub const MAX_COUNT: usize = 1_000_000;
 

@@ -54,7 +54,11 @@ fn is_too_long(text: &[u8], form: Form) -> bool
 }
 
 /// The command of a text that is not blank.
-fn command_in<A: Allocator + Copy>(alloc: A, text: &[u8], form: Form) -> Result<Command<A>, TextFault>
+fn command_in<A: Allocator + Copy>(
+    alloc: A,
+    text: &[u8],
+    form: Form,
+) -> Result<Command<A>, TextFault>
     ensures { Gives (λ command. command) result (command_at form (ahead_of_text text.now)) }
 {
     Reader::new(alloc, text).command(form)

@@ -5,7 +5,7 @@ use cq_atom::Name;
 use cq_board::{Board, Edit, EditKind, Why};
 use cq_desk::Reply;
 use cq_room::{Front, Pair, Receipt, Room, RoomName, Session};
-use cq_text::{read_ground_atom, read_query};
+use cq_text::{Form, read_ground_atom, read_query};
 use std::alloc::Global;
 use std::sync::Wait;
 use std::thread::{Threads, join};
@@ -21,13 +21,13 @@ pub type Told<N> = Front<Board, N>;
 
 /// The insertion of the row that the text stands for.
 pub fn insertion(alloc: Global, row: &str) -> Result<Edit, Fault> {
-    let row = read_ground_atom(alloc, row.as_bytes())?;
+    let row = read_ground_atom(alloc, row.as_bytes(), Form::One)?;
     Ok(EditKind::Insert { row })
 }
 
 /// The posting of the query that the text stands for.
 fn posting(alloc: Global, name: &str, query: &str) -> Result<Edit, Fault> {
-    let query = read_query(alloc, query.as_bytes())?;
+    let query = read_query(alloc, query.as_bytes(), Form::One)?;
     let name = Name::new(alloc, name)?;
     Ok(EditKind::Post { name, query })
 }

@@ -15,7 +15,7 @@ use crate::sessions::client::Client;
 use crate::sessions::fault::ServeFault;
 use crate::sessions::sheet::Sheet;
 use cq_board::EditKind;
-use cq_text::{Command, CommandKind, TextFault, read_command};
+use cq_text::{Command, CommandKind, Form, TextFault, read_command};
 use std::alloc::{AllocError, Global};
 
 /// Submits the edits that wait, takes the replies down, and answers how many entries are published.
@@ -109,7 +109,7 @@ fn serve_line<C: Client>(
     requires { IsEven sheet.old }
     ensures { OnOk result (LineServed C.opening C.limit (C.known client.old) sheet.old (C.known client.new) sheet.new line.now) }
 {
-    match read_command(alloc, line) {
+    match read_command(alloc, line, Form::One) {
         Ok(command) => serve_command(alloc, client, sheet, command),
         Err(TextFault::At { kind, offset }) => tell(sheet, fault_line(alloc, kind, offset)),
         Err(TextFault::NoMemory) => Err(ServeFault::NoMemory),

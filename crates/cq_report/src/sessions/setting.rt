@@ -13,7 +13,7 @@ use crate::sessions::sheet::Sheet;
 use crate::setup::Setup;
 use cq_board::Limits;
 use cq_rel::CatalogFault;
-use cq_text::{Command, CommandKind, TextFault, read_command};
+use cq_text::{Command, CommandKind, Form, TextFault, read_command};
 use std::alloc::Allocator;
 
 /// What the first lines of SETUP set, what they were answered, and what stands behind them.
@@ -102,7 +102,7 @@ fn set<A: Allocator + Copy>(
 ) -> Result<bool, ServeFault>
     ensures { IfOk result (λ is_set. MatchBool is_set (SetsLine setup.old sheet.old setup.new sheet.new line.now) (IsBehind setup.old sheet.old setup.new sheet.new line.now)) }
 {
-    match read_command(alloc, line) {
+    match read_command(alloc, line, Form::One) {
         Ok(command) => set_command(alloc, setup, sheet, command),
         Err(TextFault::At { kind, offset }) => {
             sheet.tell(Some(fault_line(alloc, kind, offset)?))?;

@@ -113,7 +113,12 @@ impl<'a, A: Allocator + Copy> Reader<'a, A> {
 
     /// An atom, and whether more come.
     #[tactic(auto, unfolding(crate::specs::Steps::Lists::atom_at, crate::specs::Steps::Lexemes::relation_name_at))]
-    fn atom(&mut self, form: Form, close: Close, has_room: bool) -> Result<(Atom<A>, bool), TextFault>
+    fn atom(
+        &mut self,
+        form: Form,
+        close: Close,
+        has_room: bool,
+    ) -> Result<(Atom<A>, bool), TextFault>
         ensures { Gives (λ x. (x.0, x.1, self.new)) result (atom_at form close has_room self.old) }
     {
         let (relation, at) = self.relation_name()?;
