@@ -75,7 +75,7 @@ is_out_of_range None v = false
 is_out_of_range (Some most) (Number n) = not (nat_le 1 (count_of n) && nat_le (count_of n) most)
 is_out_of_range (Some most) (Text t) = false
 
--- A long identifier, a ninth term, the first token of a ninth atom, a count out of its range.
+-- A long identifier, a term too many, the first token of an atom too many, a count out of its range.
 abbrev pub is_over : (form : Form) → Place → TokenContent → Bool
 is_over form p (Word w) = nat_lt MAX_NAME (length w) || nat_le (most_terms form) p.commas || nat_le (most_atoms form) p.atoms
 is_over form p (Literal v) = nat_le (most_terms form) p.commas || is_out_of_range p.most v
