@@ -29,16 +29,16 @@ fn is_row(alloc: Global, relation: &str, samples: &[Sample]) -> Result<bool, Bad
 
 #[test]
 fn atoms_and_rows(rt: HostRuntime) {
-    let most = [ONE; 8];
-    let nine = [ONE; 9];
+    let most = [ONE; 16];
+    let seventeen = [ONE; 17];
     let flight = [Sample::Number(122), Sample::Text("Paris")];
     let table = [
         ("Flights", flight.as_slice(), Ok(true)),
         ("R", most.as_slice(), Ok(true)),
-        ("R", nine.as_slice(), Err(Bad::BadArity)),
+        ("R", seventeen.as_slice(), Err(Bad::BadArity)),
         ("R", [].as_slice(), Err(Bad::BadArity)),
         ("r", [].as_slice(), Err(Bad::BadName)),
-        ("_R", nine.as_slice(), Err(Bad::BadName)),
+        ("_R", seventeen.as_slice(), Err(Bad::BadName)),
     ];
     for (relation, samples, wanted) in table {
         assert!(rt;

@@ -7,10 +7,10 @@ use std::test::Fail;
 
 /// The refusals of a query in their order, by the number of atoms in each part.
 const REFUSED: [(usize, usize, usize, Bad); 6] = [
-    (9, 9, 9, Bad::TooMany { part: Part::Posts }),
-    (8, 9, 9, Bad::TooMany { part: Part::Heads }),
-    (8, 0, 9, Bad::TooMany { part: Part::Body }),
-    (8, 0, 0, Bad::NoHead),
+    (17, 17, 17, Bad::TooMany { part: Part::Posts }),
+    (16, 17, 17, Bad::TooMany { part: Part::Heads }),
+    (16, 0, 17, Bad::TooMany { part: Part::Body }),
+    (16, 0, 0, Bad::NoHead),
     (
         1,
         1,
@@ -69,7 +69,7 @@ fn is_query(alloc: Global, posts: usize, heads: usize, body: usize) -> Result<bo
 
 #[test]
 fn parts_of_a_query(rt: HostRuntime) {
-    for (posts, heads, body) in [(0, 1, 1), (1, 2, 3), (8, 8, 8)] {
+    for (posts, heads, body) in [(0, 1, 1), (1, 2, 3), (16, 16, 16)] {
         let told = is_query(rt.alloc(), posts, heads, body);
         assert!(rt; told == Ok(true), "{posts} {heads} {body}");
     }

@@ -33,7 +33,7 @@ fn refusals_of_a_declaration(rt: HostRuntime) -> Result<(), Fail> {
         ("flights", 0, CatalogFault::BadName),
         (LETTERS_33, 2, CatalogFault::BadName),
         ("Flights", 0, CatalogFault::BadArity),
-        ("Flights", 9, CatalogFault::BadArity),
+        ("Flights", 17, CatalogFault::BadArity),
         ("Flights", 3, CatalogFault::Declared),
     ] {
         assert!(rt;
@@ -63,7 +63,7 @@ fn full_catalog(rt: HostRuntime) {
         assert!(rt; told == Ok(()), "{number}");
     }
     for (name, arity, fault) in [
-        ("S", 9, CatalogFault::BadArity),
+        ("S", 17, CatalogFault::BadArity),
         ("R63", 1, CatalogFault::Declared),
         ("S", 1, CatalogFault::CatalogFull),
     ] {

@@ -111,7 +111,9 @@ fn csv_faults(rt: HostRuntime) {
         (LONG, 1, None),
         (b"", 1, None),
         (b"", 0, Some(CsvFault::BadArity)),
-        (b"", 9, Some(CsvFault::BadArity)),
+        (b"1,2,3,4,5,6,7,8,9", 9, None),
+        (b"", 16, None),
+        (b"", 17, Some(CsvFault::BadArity)),
     ] {
         assert!(rt; fault_of(rt.alloc(), text, "T", arity) == fault, "{text:?}");
     }
