@@ -1,5 +1,5 @@
 -- Insert lines from CSV. (this project's profile)
-use Rattle.std.specs.Prelude.{◌≡◌, ℕ, Bool, ◌++◌, ◌-◌, List, [], ◌∷◌, codes, map, Option, Some, None, Result, Ok, Err, nat_le, ◌&&◌, if◌then◌else◌, flat_map}
+use Rattle.std.specs.Prelude.{◌≡◌, ◌==◌, ℕ, Bool, ◌++◌, ◌+◌, ◌-◌, List, [], ◌∷◌, codes, map, Option, Some, None, Result, Ok, Err, nat_le, ◌&&◌, if◌then◌else◌, flat_map}
 use Rattle.std.specs.Io.KnownBytes.{Appends}
 use Rattle.cq_text.specs.Device.{TakesFront}
 use Rattle.cq_atom.specs.Text.{is_relation_name}
@@ -11,15 +11,20 @@ use Rattle.cq_rel.specs.Csv.{csv_records, records_fault, row_of_record}
 use Rattle.cq_cli.specs.declared.rows.RowsFault.{RowsFault}
 use Rattle.cq_cli.specs.declared.rows.RowsFault.TheVariants.{BadName, BadArity, Read, Write, Width, Text, NoMemory}
 
--- The digit `1`, or one up to `8`.
+-- A digit from `1` to `9`.
 abbrev pub is_arity_digit : ℕ → Bool
-is_arity_digit b = nat_le 49 b && nat_le b 56
+is_arity_digit b = nat_le 49 b && nat_le b 57
 
--- An arity is written as one digit from 1 to 8, and nothing beside it.
+-- The digit `1`, and one from `0` to `6` behind it.
+abbrev pub are_arity_digits : ℕ → ℕ → Bool
+are_arity_digits b c = (b == 49) && (nat_le 48 c && nat_le c 54)
+
+-- An arity is written in decimal, from 1 to 16, without a zero in front and with nothing beside it.
 abbrev pub arity_of : List ℕ → Option ℕ
 arity_of [] = None
 arity_of (b ∷ []) = if is_arity_digit b then Some (b - 48) else None
-arity_of (b ∷ c ∷ rest) = None
+arity_of (b ∷ c ∷ []) = if are_arity_digits b c then Some (10 + (c - 48)) else None
+arity_of (b ∷ c ∷ d ∷ rest) = None
 
 -- An arity, or what is wrong with the word for it.
 abbrev pub arity_or_fault : Option ℕ → Result ℕ RowsFault

@@ -49,12 +49,13 @@ impl From<AllocError> for RowsFault {
     }
 }
 
-/// The arity that a word stands for: one digit from 1 to 8, and nothing beside it.
+/// The arity that a word stands for: a number from 1 to 16 in decimal, without a zero in front, and nothing beside it.
 fn arity_of(word: &str) -> Option<usize>
     ensures { result ≡ arity_of word.now }
 {
     match word.as_bytes() {
-        [digit @ b'1'..=b'8'] => Some(usize::from(*digit - b'0')),
+        [digit @ b'1'..=b'9'] => Some(usize::from(*digit - b'0')),
+        [b'1', digit @ b'0'..=b'6'] => Some(10 + usize::from(*digit - b'0')),
         _ => None,
     }
 }

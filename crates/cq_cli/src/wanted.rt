@@ -5,7 +5,7 @@ use std::alloc::{AllocError, Global};
 use std::convert::AsStr;
 
 /// The number that `--version` tells; CHANGELOG.md says what came with each.
-const VERSION: &str = "0.5.0";
+const VERSION: &str = "0.6.0";
 
 const ABOUT: &str = "A live coordination board for entangled queries.";
 
@@ -25,6 +25,7 @@ docs/formats.md describes the language, its replies, the report, CSV and session
 const ABOUT_REPLAY: &str = "Reads a script on standard input, and writes its replies and reports.";
 
 const BEHIND_REPLAY: &str = "Lines of a script:
+  board FORM                                 the form of the script, 1 or 2 (first line)
   relation NAME ARITY                        declares a database relation (setup)
   limits POOL JOURNAL                        the most pending queries and entries (setup)
   post NAME {POSTCONDITIONS} HEADS <- BODY   a query becomes pending
@@ -147,7 +148,7 @@ fn rows_command<'a>(alloc: Global) -> Result<Command<'a>, AllocError> {
         .arg(word(
             alloc,
             "ARITY",
-            "How many fields a record has: one digit, 1 to 8",
+            "How many fields a record has: a number, 1 to 16",
         ))?
         .arg(memory(
             alloc,

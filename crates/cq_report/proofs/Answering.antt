@@ -4,7 +4,7 @@ use Rattle.std.specs.Prelude.{Result, Ok, Err, OnOk, IfErr}
 use Rattle.cq_text.specs.declared.fault.Kind.{Kind}
 use Rattle.cq_text.specs.declared.fault.TextFault.{TextFault}
 use Rattle.cq_text.specs.declared.fault.TextFault.TheVariants.{At}
-use Rattle.cq_text.specs.declared.form.Form.TheVariants.{One}
+use Rattle.cq_text.specs.declared.form.Form.{Form}
 use Rattle.cq_text.specs.Grammar.{CommandContent, StandsFor}
 use Rattle.cq_text.specs.Fault.{FirstFault}
 use Rattle.cq_text.specs.Views.{OrNoMemory, OfFault}
@@ -23,27 +23,27 @@ on_ok (Ok x) P p = p
 on_ok (Err e) P p = tt
 
 -- a line that is read as a command is read as nothing else
-pub only_command : (line : List ℕ) (command : CommandContent)
-    → ((other : CommandContent) → StandsFor One line other → OrNoMemory {X = CommandContent} (Ok command) (Ok other))
-    → ((kind : Kind) (offset : ℕ) → FirstFault One line kind offset → OrNoMemory {X = CommandContent} (Ok command) (Err (At kind offset)))
-    → (reading : Reading) → IsReading line reading → reading ≡ Reads command
-only_command line command only only_fault (Reads other) h =
+pub only_command : (form : Form) (line : List ℕ) (command : CommandContent)
+    → ((other : CommandContent) → StandsFor form line other → OrNoMemory {X = CommandContent} (Ok command) (Ok other))
+    → ((kind : Kind) (offset : ℕ) → FirstFault form line kind offset → OrNoMemory {X = CommandContent} (Ok command) (Err (At kind offset)))
+    → (reading : Reading) → IsReading form line reading → reading ≡ Reads command
+only_command form line command only only_fault (Reads other) h =
     elim (only other h) [ inl e ↦ let same : other ≡ command = cc in ap Reads same | inr e ↦ cc ]
-only_command line command only only_fault (Faulty kind offset) h =
+only_command form line command only only_fault (Faulty kind offset) h =
     elim (only_fault kind offset h) [ inl e ↦ cc | inr e ↦ cc ]
 
 -- a line that has a fault has no other reading
-pub only_the_fault : (line : List ℕ) (fault : TextFault) (kind : Kind) (offset : ℕ) → fault ≡ At kind offset
-    → ((other : CommandContent) → StandsFor One line other → OrNoMemory {X = CommandContent} (Err fault) (Ok other))
-    → ((k : Kind) (o : ℕ) → FirstFault One line k o → OrNoMemory {X = CommandContent} (Err fault) (Err (At k o)))
-    → (reading : Reading) → IsReading line reading → reading ≡ Faulty kind offset
-only_the_fault line fault kind offset is only only_fault (Reads other) h =
+pub only_the_fault : (form : Form) (line : List ℕ) (fault : TextFault) (kind : Kind) (offset : ℕ) → fault ≡ At kind offset
+    → ((other : CommandContent) → StandsFor form line other → OrNoMemory {X = CommandContent} (Err fault) (Ok other))
+    → ((k : Kind) (o : ℕ) → FirstFault form line k o → OrNoMemory {X = CommandContent} (Err fault) (Err (At k o)))
+    → (reading : Reading) → IsReading form line reading → reading ≡ Faulty kind offset
+only_the_fault form line fault kind offset is only only_fault (Reads other) h =
     elim (only other h) [ inl e ↦ cc | inr e ↦ cc ]
-only_the_fault line fault kind offset is only only_fault (Faulty k o) h =
+only_the_fault form line fault kind offset is only only_fault (Faulty k o) h =
     elim (only_fault k o h) [ inl e ↦ let one : k ≡ kind = cc in let two : o ≡ offset = cc in ap (λ x. Faulty x o) one ∙ ap (Faulty kind) two | inr e ↦ cc ]
 
-pub the_fault : (line : List ℕ) (fault : TextFault) (kind : Kind) (offset : ℕ) → fault ≡ At kind offset → OfFault fault (λ k o. FirstFault One line k o) → IsReading line (Faulty kind offset)
-the_fault line fault kind offset is h = rw is at h
+pub the_fault : (form : Form) (line : List ℕ) (fault : TextFault) (kind : Kind) (offset : ℕ) → fault ≡ At kind offset → OfFault fault (λ k o. FirstFault form line k o) → IsReading form line (Faulty kind offset)
+the_fault form line fault kind offset is h = rw is at h
 
 module _ {W A : Type 0} (taken : W → Option (List ℕ)) (failures : W → ℕ) (first now : Output W A) where
   -- bytes that were put, by the clauses of the buffer
@@ -56,16 +56,16 @@ module _ {W A : Type 0} (taken : W → Option (List ℕ)) (failures : W → ℕ)
   Put-from bytes (Err faults.Thread) ok err is = cc
   Put-from bytes (Err (faults.Read turn)) ok err is = cc
 
-  module _ (old new : State) (line : List ℕ) (reading : Reading) (only : (other : Reading) → IsReading line other → other ≡ reading) where
+  module _ (form : Form) (old new : State) (line : List ℕ) (reading : Reading) (only : (other : Reading) → IsReading form line other → other ≡ reading) where
     pub reads_ok : (r : Result (Unit {0}) RunFault) → OnOk r (new ≡ next old reading) → Put taken failures first now (reply old reading) r
-        → OnOk r ((other : Reading) → IsReading line other → (new ≡ next old other) × Puts taken failures first now (reply old other))
+        → OnOk r ((other : Reading) → IsReading form line other → (new ≡ next old other) × Puts taken failures first now (reply old other))
     reads_ok (Ok done) s p = λ other h.
         let e = only other h in
         (subst (λ (o : Reading). new ≡ next old o) (sym e) s, subst (λ (o : Reading). Puts taken failures first now (reply old o)) (sym e) p)
     reads_ok (Err fault) s p = tt
 
     pub reads_err : (r : Result (Unit {0}) RunFault) → Put taken failures first now (reply old reading) r
-        → IfErr r (λ fault. (other : Reading) → IsReading line other → Breaks taken failures first now (reply old other) fault)
+        → IfErr r (λ fault. (other : Reading) → IsReading form line other → Breaks taken failures first now (reply old other) fault)
     reads_err (Ok done) p = tt
     reads_err (Err fault) p = λ other h. subst (λ (o : Reading). Breaks taken failures first now (reply old o) fault) (sym (only other h)) p.0
 

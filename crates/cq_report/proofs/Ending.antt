@@ -7,7 +7,7 @@ use Rattle.cq_report.specs.declared.fault.RunFault.{RunFault}
 use Rattle.cq_report.specs.declared.fault.RunFault.TheVariants as faults
 use Rattle.cq_report.specs.Lines.{lines_of, whole_lines}
 use Rattle.cq_report.specs.Reading.{Reading}
-use Rattle.cq_report.specs.Output.{AreReadings, output}
+use Rattle.cq_report.specs.Output.{AreReadings, AreReadFrom, output}
 use Rattle.cq_report.specs.Steps.Written.{Passes}
 use Rattle.cq_report.specs.Run.{IfRead, WroteWholeLines}
 use Rattle.cq_report.specs.Steps.Replay.{Replayed, BrokeOff}
@@ -46,6 +46,6 @@ module _ {W A : Type 0} (taken : W → Option (List ℕ)) (failures : W → ℕ)
         bytes = b.bytes;
         read = b.read;
         readings = b.served.readings;
-        are = subst (λ (ls : List (List ℕ)). AreReadings ls b.served.readings) (sym cut) b.served.are;
-        wrote = λ rs h. rw (← e, ← e') (Passes-all _ _ _ _ _ (b.served.answered rs (subst (λ (ls : List (List ℕ)). AreReadings ls rs) cut h)).1.passed none b.held);
+        are = subst (λ (ls : List (List ℕ)). AreReadFrom begin_state ls b.served.readings) (sym cut) b.served.are;
+        wrote = λ rs h. rw (← e, ← e') (Passes-all _ _ _ _ _ (b.served.answered rs (subst (λ (ls : List (List ℕ)). AreReadFrom begin_state ls rs) cut h)).1.passed none b.held);
       }

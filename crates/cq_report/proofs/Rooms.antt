@@ -1,5 +1,5 @@
 -- What the threads of a room leave, put together.
-use Rattle.std.proofs.Common.{◌≡◌, ℕ, ◌+◌, ◌<◌, ◌≤◌, List, [], ◌∷◌, ◌++◌, length, map, refl, sym, ap, subst, ◌∙◌, append_assoc, append-nil, arith}
+use Rattle.std.proofs.Common.{Option, ◌≡◌, ℕ, ◌+◌, ◌<◌, ◌≤◌, List, [], ◌∷◌, ◌++◌, length, map, refl, sym, ap, subst, ◌∙◌, append_assoc, append-nil, arith}
 use Rattle.std.specs.Prelude.{Result, Ok, Err, IfOk, All, codes}
 use Rattle.std.specs.List.{flat_map, range_with_len}
 use Rattle.std.proofs.lemmas.List.FromFn.{length-range_with_len}
@@ -15,40 +15,44 @@ use Rattle.cq_report.specs.declared.sessions.seat.Done.{Done}
 use Rattle.cq_report.specs.declared.sessions.sheet.Line.{Line}
 use Rattle.cq_report.specs.declared.sessions.sheet.Line.TheVariants.{Told}
 use Rattle.cq_report.specs.declared.stage.Stage.TheVariants as stages
+use Rattle.cq_text.specs.declared.form.Form.{Form}
 use Rattle.cq_report.specs.Lines.{lines_of}
 use Rattle.cq_report.specs.Reading.{Reading}
-use Rattle.cq_report.specs.Machine.{SetupRecord, begin_state}
-use Rattle.cq_report.specs.Output.{AreReadings}
-use Rattle.cq_report.specs.Script.{Sheet, declaration_line, limits_line, entries_from, replies_from, sheets_from, script_of}
+use Rattle.cq_report.specs.Machine.{SetupRecord, begin_state, form_of}
+use Rattle.cq_report.specs.Script.{Sheet, form_line, declaration_line, limits_line, entries_from, replies_from, sheets_from, script_of}
 use Rattle.cq_report.specs.Sessions.{IfWritten, FileServed, FilesServed, SetupServed, Ran, Served, knowns_before, pool_of, setup_sheet}
 use Rattle.cq_report.specs.Steps.Sheets.{SheetRecord, BytesServed, LeavesEach, asks, filled, whole, IsEven}
 use Rattle.cq_report.specs.Steps.Settings.{SetTo, RestBegins}
 use Rattle.cq_report.specs.Steps.Rooms.{AreDone, FirstServes, AllServed, PutEntries, RoomServed, run_fault}
-use Rattle.cq_report.proofs.Settings.{AreReadings-join}
 
 -- ---- what threads left
 
-module _ {C S : Type 0} (opening : PoolRecord) (limit : ℕ) (known : C → List Edit) (client : S → C) (file : S → List ℕ) where
+module _ {C S : Type 0} (form : Form) (opening : PoolRecord) (limit : ℕ) (known : C → List Edit) (form_at : S → Form) (client : S → C) (file : S → List ℕ) where
   abbrev pub leaves : S → Result (Done C) ServeFault → Type 0
-  leaves seat left = IfOk left (λ done. FileServed opening limit (known (client seat)) (file seat) done.sheet.replies (known done.client))
+  leaves seat left = IfOk left (λ done. FileServed (form_at seat) opening limit (known (client seat)) (file seat) done.sheet.replies (known done.client))
 
-  one_served : (seat : S) (done : Done C) (c : C) (sheet : SheetRecord) → c ≡ done.client → sheet ≡ done.sheet → leaves seat (Ok done) → FileServed opening limit (known (client seat)) (file seat) sheet.replies (known c)
-  one_served seat done c sheet is same left =
-      subst (λ (z : SheetRecord). FileServed opening limit (known (client seat)) (file seat) z.replies (known c)) (sym same)
-      (subst (λ (z : C). FileServed opening limit (known (client seat)) (file seat) done.sheet.replies (known z)) (sym is) left)
+  one_served : (seat : S) (done : Done C) (c : C) (sheet : SheetRecord) → form_at seat ≡ form → c ≡ done.client → sheet ≡ done.sheet → leaves seat (Ok done) → FileServed form opening limit (known (client seat)) (file seat) sheet.replies (known c)
+  one_served seat done c sheet at is same left =
+      subst (λ (z : SheetRecord). FileServed form opening limit (known (client seat)) (file seat) z.replies (known c)) (sym same)
+      (subst (λ (z : C). FileServed form opening limit (known (client seat)) (file seat) done.sheet.replies (known z)) (sym is)
+      (subst (λ (z : Form). FileServed z opening limit (known (client seat)) (file seat) done.sheet.replies (known done.client)) at left))
 
-  pub files_served : (seats : List S) (lefts : List (Result (Done C) ServeFault)) (clients : List C) (sheets : List SheetRecord) → LeavesEach leaves seats lefts → length seats ≤ length lefts → AreDone lefts clients sheets
-      → FilesServed opening limit (map (λ seat. known (client seat)) seats) (map file seats) (map (λ sheet. sheet.replies) sheets) (map known clients)
-  files_served [] [] [] [] each many done = tt
-  files_served [] [] [] (sheet ∷ sheets) each many done = absurd done
-  files_served [] [] (c ∷ clients) sheets each many done = absurd done
-  files_served [] (left ∷ lefts) clients sheets each many done = absurd each
-  files_served (seat ∷ seats) [] clients sheets each many done = absurd (omega (arith, many))
-  files_served (seat ∷ seats) (Ok d ∷ lefts) [] sheets each many done = absurd done
-  files_served (seat ∷ seats) (Ok d ∷ lefts) (c ∷ clients) [] each many done = absurd done
-  files_served (seat ∷ seats) (Ok d ∷ lefts) (c ∷ clients) (sheet ∷ sheets) each many done =
-      (one_served seat d c sheet done.0 done.1 each.0, files_served seats lefts clients sheets each.1 (omega (arith, many)) done.2)
-  files_served (seat ∷ seats) (Err fault ∷ lefts) clients sheets each many done = absurd done
+  pub files_served : {D : Type 0} (seats : List S) (ds : List D) (lefts : List (Result (Done C) ServeFault)) (clients : List C) (sheets : List SheetRecord) → map form_at seats ≡ map (λ _. form) ds
+      → LeavesEach leaves seats lefts → length seats ≤ length lefts → AreDone lefts clients sheets
+      → FilesServed form opening limit (map (λ seat. known (client seat)) seats) (map file seats) (map (λ sheet. sheet.replies) sheets) (map known clients)
+  files_served [] ds [] [] [] forms each many done = tt
+  files_served [] ds [] [] (sheet ∷ sheets) forms each many done = absurd done
+  files_served [] ds [] (c ∷ clients) sheets forms each many done = absurd done
+  files_served [] ds (left ∷ lefts) clients sheets forms each many done = absurd each
+  files_served (seat ∷ seats) ds [] clients sheets forms each many done = absurd (omega (arith, many))
+  files_served (seat ∷ seats) [] (left ∷ lefts) clients sheets forms each many done = cc
+  files_served (seat ∷ seats) (x ∷ ds) (Ok d ∷ lefts) [] sheets forms each many done = absurd done
+  files_served (seat ∷ seats) (x ∷ ds) (Ok d ∷ lefts) (c ∷ clients) [] forms each many done = absurd done
+  files_served (seat ∷ seats) (x ∷ ds) (Ok d ∷ lefts) (c ∷ clients) (sheet ∷ sheets) forms each many done =
+      let at : form_at seat ≡ form = cc in
+      let others : map form_at seats ≡ map (λ _. form) ds = cc in
+      (one_served seat d c sheet at done.0 done.1 each.0, files_served seats ds lefts clients sheets others each.1 (omega (arith, many)) done.2)
+  files_served (seat ∷ seats) (x ∷ ds) (Err fault ∷ lefts) clients sheets forms each many done = absurd done
 
 module _ {C : Type 0} where
   pub done_on : (lefts : List (Result (Done C) ServeFault)) (clients : List C) (sheets : List SheetRecord) (left : Result (Done C) ServeFault) (done : Done C) → left ≡ Ok done → AreDone lefts clients sheets
@@ -78,14 +82,14 @@ length_map f [] = refl
 length_map f (x ∷ xs) = let e = length_map f xs in omega (arith, e)
 
 -- SETUP is served by the first of newcomers, and the others are newcomers still
-pub record FirstServed (opening : PoolRecord) (limit : ℕ) (sheet : SheetRecord) (replies : Sheet) (bytes : List ℕ) (knowns : List (List Edit)) (files : List (List ℕ)) : Type 0 where
+pub record FirstServed (form : Form) (opening : PoolRecord) (limit : ℕ) (sheet : SheetRecord) (replies : Sheet) (bytes : List ℕ) (knowns : List (List Edit)) (files : List (List ℕ)) : Type 0 where
   pub known : List Edit
-  pub served : BytesServed opening limit [] sheet known replies bytes
+  pub served : BytesServed form opening limit [] sheet known replies bytes
   pub before : knowns ≡ knowns_before known files
 
-module _ (opening : PoolRecord) (limit : ℕ) (sheet : SheetRecord) (replies : Sheet) (bytes : List ℕ) where
-  first_of_all : {F : Type 0} (knowns knowns' : List (List Edit)) (f : F → List ℕ) (file : F) (files : List F) → FirstServes opening limit ([] ∷ knowns) sheet knowns' replies bytes → knowns ≡ map (λ _. []) files
-      → FirstServed opening limit sheet replies bytes knowns' (f file ∷ map f files)
+module _ (form : Form) (opening : PoolRecord) (limit : ℕ) (sheet : SheetRecord) (replies : Sheet) (bytes : List ℕ) where
+  first_of_all : {F : Type 0} (knowns knowns' : List (List Edit)) (f : F → List ℕ) (file : F) (files : List F) → FirstServes form opening limit ([] ∷ knowns) sheet knowns' replies bytes → knowns ≡ map (λ _. []) files
+      → FirstServed form opening limit sheet replies bytes knowns' (f file ∷ map f files)
   first_of_all knowns [] f file files served others = absurd served
   first_of_all knowns (known ∷ knowns') f file files served others = record {
     known = known;
@@ -93,20 +97,20 @@ module _ (opening : PoolRecord) (limit : ℕ) (sheet : SheetRecord) (replies : S
     before = ap (λ (z : List (List Edit)). known ∷ z) (served.1 ∙ others ∙ sym (map_map (λ _. []) f files));
   }
 
-  pub first_served : {F : Type 0} (knowns knowns' : List (List Edit)) (f : F → List ℕ) (files : List F) → 0 < length files → knowns ≡ map (λ _. []) files → FirstServes opening limit knowns sheet knowns' replies bytes
-      → FirstServed opening limit sheet replies bytes knowns' (map f files)
+  pub first_served : {F : Type 0} (knowns knowns' : List (List Edit)) (f : F → List ℕ) (files : List F) → 0 < length files → knowns ≡ map (λ _. []) files → FirstServes form opening limit knowns sheet knowns' replies bytes
+      → FirstServed form opening limit sheet replies bytes knowns' (map f files)
   first_served knowns knowns' f [] some are served = absurd (omega (arith, some))
   first_served knowns knowns' f (file ∷ files) some are served =
-      first_of_all (map (λ _. []) files) knowns' f file files (subst (λ (z : List (List Edit)). FirstServes opening limit z sheet knowns' replies bytes) are served) refl
+      first_of_all (map (λ _. []) files) knowns' f file files (subst (λ (z : List (List Edit)). FirstServes form opening limit z sheet knowns' replies bytes) are served) refl
 
   pub all_served : {F : Type 0} (knowns knowns' : List (List Edit)) (f : F → List ℕ) (files : List F) (sheets : List Sheet) (ends : List (List Edit)) → 0 < length files → knowns ≡ map (λ _. []) files
-      → FirstServes opening limit knowns sheet knowns' replies bytes → FilesServed opening limit knowns' (map f files) sheets ends → AllServed opening limit sheet bytes replies (map f files) sheets ends
+      → FirstServes form opening limit knowns sheet knowns' replies bytes → FilesServed form opening limit knowns' (map f files) sheets ends → AllServed form opening limit sheet bytes replies (map f files) sheets ends
   all_served knowns knowns' f files sheets ends some are first served =
       let one = first_served knowns knowns' f files some are first in
       record {
         known = one.known;
         setup = one.served;
-        served = subst (λ (z : List (List Edit)). FilesServed opening limit z (map f files) sheets ends) one.before served;
+        served = subst (λ (z : List (List Edit)). FilesServed form opening limit z (map f files) sheets ends) one.before served;
       }
 
 -- ---- all of it
@@ -119,18 +123,22 @@ told_whole : (sheet : Sheet) → filled (map Told sheet) [] ≡ sheet
 told_whole [] = refl
 told_whole (told ∷ sheet) = ap (λ (z : Sheet). told ∷ z) (told_whole sheet)
 
-pub set_even : (bytes rest : List ℕ) (setup : SetupRecord) (sheet : SheetRecord) → SetTo bytes rest setup sheet → IsEven sheet
-set_even bytes rest setup sheet so = subst IsEven (sym so.told) (told_even (setup_sheet begin_state so.front))
+pub set_even : (bytes rest : List ℕ) (heading : Option Form) (setup : SetupRecord) (sheet : SheetRecord) → SetTo bytes rest heading setup sheet → IsEven sheet
+set_even bytes rest heading setup sheet so = subst IsEven (sym so.told) (told_even (setup_sheet begin_state so.front))
 
-pub set_asked : (bytes rest : List ℕ) (setup : SetupRecord) (sheet : SheetRecord) → SetTo bytes rest setup sheet → sheet.asked ≡ []
-set_asked bytes rest setup sheet so = ap (λ (z : SheetRecord). z.asked) so.told
+pub set_asked : (bytes rest : List ℕ) (heading : Option Form) (setup : SetupRecord) (sheet : SheetRecord) → SetTo bytes rest heading setup sheet → sheet.asked ≡ []
+set_asked bytes rest heading setup sheet so = ap (λ (z : SheetRecord). z.asked) so.told
 
-setup_served : (bytes rest : List ℕ) (setup : SetupRecord) (sheet : SheetRecord) (replies : Sheet) (known : List Edit) → SetTo bytes rest setup sheet → RestBegins rest
-    → BytesServed (pool_of setup) setup.limits.journal [] sheet known replies rest → SetupServed bytes setup replies known
-setup_served bytes rest setup sheet replies known so begins b = record {
+setup_served : (bytes rest : List ℕ) (heading : Option Form) (setup : SetupRecord) (sheet : SheetRecord) (replies : Sheet) (known : List Edit) → SetTo bytes rest heading setup sheet → RestBegins (form_of heading) rest
+    → BytesServed (form_of heading) (pool_of setup) setup.limits.journal [] sheet known replies rest → SetupServed bytes heading setup replies known
+setup_served bytes rest heading setup sheet replies known so begins b = record {
+  first = so.lines;
+  rest = lines_of rest;
+  cut = so.cut;
   front = so.front;
   behind = b.lines;
-  are = subst (λ (z : List (List ℕ)). AreReadings z (so.front ++ b.lines)) (sym so.cut) (AreReadings-join so.lines (lines_of rest) so.front b.lines so.are b.are);
+  are_first = so.are;
+  are_behind = b.are;
   set = so.set;
   begins = begins b.lines b.are;
   told = b.told;
@@ -139,14 +147,14 @@ setup_served bytes rest setup sheet replies known so begins b = record {
 }
 
 -- a room that is closed, with all that came of it
-pub room_served : (opening opening1 : PoolRecord) (limit limit1 : ℕ) (sheet : SheetRecord) (rest : List ℕ) (replies : Sheet) (files : List (List ℕ)) (sheets : List Sheet) (knowns : List (List Edit)) (page page1 page2 : List ℕ) → opening1 ≡ opening → limit1 ≡ limit
-    → AllServed opening1 limit1 sheet rest replies files sheets knowns → PutEntries knowns page page1 → page2 ≡ page1 ++ (codes "publish\nshow\n" ++ replies_from (codes "setup") 1 replies ++ sheets_from 0 sheets)
-    → RoomServed opening limit sheet rest files page page2
-room_served opening opening1 limit limit1 sheet rest replies files sheets knowns page page1 page2 is same served put behind = record {
+pub room_served : (form : Form) (opening opening1 : PoolRecord) (limit limit1 : ℕ) (sheet : SheetRecord) (rest : List ℕ) (replies : Sheet) (files : List (List ℕ)) (sheets : List Sheet) (knowns : List (List Edit)) (page page1 page2 : List ℕ) → opening1 ≡ opening → limit1 ≡ limit
+    → AllServed form opening1 limit1 sheet rest replies files sheets knowns → PutEntries knowns page page1 → page2 ≡ page1 ++ (codes "publish\nshow\n" ++ replies_from (codes "setup") 1 replies ++ sheets_from 0 sheets)
+    → RoomServed form opening limit sheet rest files page page2
+room_served form opening opening1 limit limit1 sheet rest replies files sheets knowns page page1 page2 is same served put behind = record {
   replies = replies;
   sheets = sheets;
   knowns = knowns;
-  served = subst (λ (z : ℕ). AllServed opening z sheet rest replies files sheets knowns) same (subst (λ (z : PoolRecord). AllServed z limit1 sheet rest replies files sheets knowns) is served);
+  served = subst (λ (z : ℕ). AllServed form opening z sheet rest replies files sheets knowns) same (subst (λ (z : PoolRecord). AllServed form z limit1 sheet rest replies files sheets knowns) is served);
   journal = put.journal;
   begins = put.begins;
   put = behind ∙ ap (λ (z : List ℕ). z ++ (codes "publish\nshow\n" ++ replies_from (codes "setup") 1 replies ++ sheets_from 0 sheets)) put.put ∙ simp append_assoc;
@@ -163,19 +171,22 @@ not_written serves.Places P Q q = q
 not_written serves.Thread P Q q = q
 not_written serves.NoMemory P Q q = q
 
-pub ran : (bytes rest : List ℕ) (setup : SetupRecord) (sheet : SheetRecord) (opening : PoolRecord) (limit : ℕ) (files : List (List ℕ)) (page page' text : List ℕ) → SetTo bytes rest setup sheet → RestBegins rest → opening ≡ pool_of setup → limit ≡ setup.limits.journal
-    → page ≡ [] → page' ≡ page ++ (flat_map declaration_line setup.catalog ++ limits_line setup.limits) → RoomServed opening limit sheet rest files page' text → Ran bytes files text
-ran bytes rest setup sheet opening limit files page page' text so begins is same empty put room =
-    let served : AllServed (pool_of setup) setup.limits.journal sheet rest room.replies files room.sheets room.knowns =
-    subst (λ (z : ℕ). AllServed (pool_of setup) z sheet rest room.replies files room.sheets room.knowns) same
-    (subst (λ (z : PoolRecord). AllServed z limit sheet rest room.replies files room.sheets room.knowns) is room.served) in
+pub ran : (bytes rest : List ℕ) (heading : Option Form) (setup : SetupRecord) (sheet : SheetRecord) (opening : PoolRecord) (limit : ℕ) (files : List (List ℕ)) (page page' text : List ℕ) → SetTo bytes rest heading setup sheet → RestBegins (form_of heading) rest → opening ≡ pool_of setup → limit ≡ setup.limits.journal
+    → page ≡ [] → page' ≡ page ++ (form_line (form_of heading) ++ flat_map declaration_line setup.catalog ++ limits_line setup.limits) → RoomServed (form_of heading) opening limit sheet rest files page' text → Ran bytes files text
+ran bytes rest heading setup sheet opening limit files page page' text so begins is same empty put room =
+    let form = form_of heading in
+    let served : AllServed form (pool_of setup) setup.limits.journal sheet rest room.replies files room.sheets room.knowns =
+    subst (λ (z : ℕ). AllServed form (pool_of setup) z sheet rest room.replies files room.sheets room.knowns) same
+    (subst (λ (z : PoolRecord). AllServed form z limit sheet rest room.replies files room.sheets room.knowns) is room.served) in
     let behind = entries_from 1 room.journal ++ codes "publish\nshow\n" ++ replies_from (codes "setup") 1 room.replies ++ sheets_from 0 room.sheets in
-    let first : page' ≡ flat_map declaration_line setup.catalog ++ limits_line setup.limits = put ∙ ap (λ (z : List ℕ). z ++ (flat_map declaration_line setup.catalog ++ limits_line setup.limits)) empty in
+    let set_up = form_line form ++ flat_map declaration_line setup.catalog ++ limits_line setup.limits in
+    let first : page' ≡ set_up = put ∙ ap (λ (z : List ℕ). z ++ set_up) empty in
     record {
+      heading = heading;
       set = setup;
       sheet = room.replies;
       known = served.known;
-      setup_served = setup_served bytes rest setup sheet room.replies served.known so begins served.setup;
+      setup_served = setup_served bytes rest heading setup sheet room.replies served.known so begins served.setup;
       sheets = room.sheets;
       knowns = room.knowns;
       files_served = served.served;

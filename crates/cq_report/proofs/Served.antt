@@ -4,10 +4,11 @@ use Rattle.std.proofs.lemmas.List.{nil_from_length}
 use Rattle.cq_report.specs.declared.output.Output.{Output}
 use Rattle.cq_report.specs.declared.fault.RunFault.{RunFault}
 use Rattle.cq_report.specs.declared.fault.RunFault.TheVariants as faults
+use Rattle.cq_text.specs.declared.form.Form.{Form}
 use Rattle.cq_report.specs.Lines.{lines_of}
 use Rattle.cq_report.specs.Reading.{Reading, IsReading}
-use Rattle.cq_report.specs.Machine.{State, next, reply}
-use Rattle.cq_report.specs.Output.{AreReadings, state_after, output_from}
+use Rattle.cq_report.specs.Machine.{State, form_in, next, reply}
+use Rattle.cq_report.specs.Output.{AreReadFrom, state_after, output_from}
 use Rattle.cq_report.specs.Run.{IsOfRead, IsOfOutput, failures_of}
 use Rattle.cq_report.specs.Steps.Written.{Puts, Breaks, Fails}
 use Rattle.cq_report.specs.Steps.Kept.{kept}
@@ -18,17 +19,17 @@ use Rattle.cq_report.specs.Steps.Writing.{Puts-nothing, Puts-then, Puts-breaks, 
 
 -- ---- readings of one list of lines behind another
 
-pub record Parted (lines more : List (List ℕ)) (rs : List Reading) : Type 0 where
+pub record Parted (state : State) (lines more : List (List ℕ)) (rs : List Reading) : Type 0 where
   pub front : List Reading
   pub rest : List Reading
   pub whole : rs ≡ front ++ rest
-  pub are : AreReadings lines front
-  pub follow : AreReadings more rest
+  pub are : AreReadFrom state lines front
+  pub follow : AreReadFrom (state_after state front) more rest
 
-pub part : (lines more : List (List ℕ)) (rs : List Reading) → AreReadings (lines ++ more) rs → Parted lines more rs
-part [] more rs h = record { front = []; rest = rs; whole = refl; are = tt; follow = h }
-part (line ∷ lines) more [] h = absurd h
-part (line ∷ lines) more (r ∷ rs) h = let p = part lines more rs h.1 in record {
+pub part : (state : State) (lines more : List (List ℕ)) (rs : List Reading) → AreReadFrom state (lines ++ more) rs → Parted state lines more rs
+part state [] more rs h = record { front = []; rest = rs; whole = refl; are = tt; follow = h }
+part state (line ∷ lines) more [] h = absurd h
+part state (line ∷ lines) more (r ∷ rs) h = let p = part (next state r) lines more rs h.1 in record {
   front = r ∷ p.front;
   rest = p.rest;
   whole = ap (λ (l : List Reading). r ∷ l) p.whole;
@@ -36,11 +37,11 @@ part (line ∷ lines) more (r ∷ rs) h = let p = part lines more rs h.1 in reco
   follow = p.follow;
 }
 
-pub join : (lines more : List (List ℕ)) (rs qs : List Reading) → AreReadings lines rs → AreReadings more qs → AreReadings (lines ++ more) (rs ++ qs)
-join [] more [] qs h k = k
-join [] more (r ∷ rs) qs h k = absurd h
-join (line ∷ lines) more [] qs h k = absurd h
-join (line ∷ lines) more (r ∷ rs) qs h k = (h.0, join lines more rs qs h.1 k)
+pub join : (state : State) (lines more : List (List ℕ)) (rs qs : List Reading) → AreReadFrom state lines rs → AreReadFrom (state_after state rs) more qs → AreReadFrom state (lines ++ more) (rs ++ qs)
+join state [] more [] qs h k = k
+join state [] more (r ∷ rs) qs h k = absurd h
+join state (line ∷ lines) more [] qs h k = absurd h
+join state (line ∷ lines) more (r ∷ rs) qs h k = (h.0, join (next state r) lines more rs qs h.1 k)
 
 pub output_from-append : (state : State) (rs qs : List Reading) → output_from state (rs ++ qs) ≡ output_from state rs ++ output_from (state_after state rs) qs
 output_from-append state [] qs = refl
@@ -52,20 +53,20 @@ state_after-append state [] qs = refl
 state_after-append state (r ∷ rs) qs = state_after-append (next state r) rs qs
 
 -- the readings of one line
-pub record First (line : List ℕ) (more : List (List ℕ)) (rs : List Reading) : Type 0 where
+pub record First (state : State) (line : List ℕ) (more : List (List ℕ)) (rs : List Reading) : Type 0 where
   pub reading : Reading
   pub rest : List Reading
   pub whole : rs ≡ reading ∷ rest
-  pub is : IsReading line reading
-  pub follow : AreReadings more rest
+  pub is : IsReading (form_in state) line reading
+  pub follow : AreReadFrom (next state reading) more rest
 
-pub first_of_them : (line : List ℕ) (more : List (List ℕ)) (rs : List Reading) → AreReadings (line ∷ more) rs → First line more rs
-first_of_them line more [] h = absurd h
-first_of_them line more (r ∷ rs) h = record { reading = r; rest = rs; whole = refl; is = h.0; follow = h.1 }
+pub first_of_them : (state : State) (line : List ℕ) (more : List (List ℕ)) (rs : List Reading) → AreReadFrom state (line ∷ more) rs → First state line more rs
+first_of_them state line more [] h = absurd h
+first_of_them state line more (r ∷ rs) h = record { reading = r; rest = rs; whole = refl; is = h.0; follow = h.1 }
 
-pub none_of_them : (rs : List Reading) → AreReadings [] rs → rs ≡ []
-none_of_them [] h = refl
-none_of_them (r ∷ rs) h = absurd h
+pub none_of_them : (state : State) (rs : List Reading) → AreReadFrom state [] rs → rs ≡ []
+none_of_them state [] h = refl
+none_of_them state (r ∷ rs) h = absurd h
 
 -- the replies to some lines, and to others
 output_from-split : (state : State) (rs front rest : List Reading) → rs ≡ front ++ rest → output_from state front ++ output_from (state_after state front) rest ≡ output_from state rs
@@ -90,17 +91,17 @@ module _ {W A : Type 0} (taken : W → Option (List ℕ)) (failures : W → ℕ)
   Put now bytes = Puts taken failures first now bytes
 
   answered_none : Answered taken failures first opening [] first opening
-  answered_none rs h = rw (none_of_them rs h) (refl, Puts-nothing taken failures first)
+  answered_none rs h = rw (none_of_them opening rs h) (refl, Puts-nothing taken failures first)
 
   -- one more line was answered
   answered_more : (lines : List (List ℕ)) (line : List ℕ) (now now' : Output W A) (state state' : State) → Answered taken failures first opening lines now state
-      → ((reading : Reading) → IsReading line reading → (state' ≡ next state reading) × Puts taken failures now now' (reply state reading))
+      → ((reading : Reading) → IsReading (form_in state) line reading → (state' ≡ next state reading) × Puts taken failures now now' (reply state reading))
       → Answered taken failures first opening (lines ++ line ∷ []) now' state'
   answered_more lines line now now' state state' a answer rs h =
-      let p = part lines (line ∷ []) rs h in
-      let f = first_of_them line [] p.rest p.follow in
-      let e : rs ≡ p.front ++ (f.reading ∷ []) = p.whole ∙ ap (λ (l : List Reading). p.front ++ l) (f.whole ∙ ap (λ (l : List Reading). f.reading ∷ l) (none_of_them f.rest f.follow)) in
+      let p = part opening lines (line ∷ []) rs h in
       let before = a p.front p.are in
+      let f = first_of_them state line [] p.rest (subst (λ (s : State). AreReadFrom s (line ∷ []) p.rest) (sym before.0) p.follow) in
+      let e : rs ≡ p.front ++ (f.reading ∷ []) = p.whole ∙ ap (λ (l : List Reading). p.front ++ l) (f.whole ∙ ap (λ (l : List Reading). f.reading ∷ l) (none_of_them (next state f.reading) f.rest f.follow)) in
       let here = answer f.reading f.is in
       let out : output_from opening p.front ++ reply state f.reading ≡ output_from opening rs =
       sym (append-nil (output_from opening p.front ++ reply state f.reading)) ∙ output_from-parted opening state rs p.front f.reading [] e before.0 in
@@ -135,13 +136,13 @@ module _ {W A : Type 0} (taken : W → Option (List ℕ)) (failures : W → ℕ)
   }
 
   -- what holds of each reading of what is kept holds of each reading of the line
-  of_kept : (line pending : List ℕ) (P : Reading → Type 0) → line ≡ kept pending → ((reading : Reading) → IsReading line reading → P reading) → (reading : Reading) → IsReading pending reading → P reading
-  of_kept line pending P e h r i = h r (subst (λ (l : List ℕ). IsReading l r) (sym e) (IsReading-kept pending r i))
+  of_kept : (form : Form) (line pending : List ℕ) (P : Reading → Type 0) → line ≡ kept pending → ((reading : Reading) → IsReading form line reading → P reading) → (reading : Reading) → IsReading form pending reading → P reading
+  of_kept form line pending P e h r i = h r (subst (λ (l : List ℕ). IsReading form l r) (sym e) (IsReading-kept form pending r i))
 
   -- LF, behind which the line is answered
   pub Served-line : (now now' : Output W A) (state state' : State) (line bytes : List ℕ) → Served taken failures first opening now state line bytes
-      → (reading : Reading) × IsReading line reading
-      → ((reading : Reading) → IsReading line reading → (state' ≡ next state reading) × Puts taken failures now now' (reply state reading))
+      → (reading : Reading) × IsReading (form_in state) line reading
+      → ((reading : Reading) → IsReading (form_in state) line reading → (state' ≡ next state reading) × Puts taken failures now now' (reply state reading))
       → Served taken failures first opening now' state' [] (bytes ++ 10 ∷ [])
   Served-line now now' state state' line bytes s (r, read) answer = record {
     lines = s.lines ++ s.pending ∷ [];
@@ -151,8 +152,9 @@ module _ {W A : Type 0} (taken : W → Option (List ℕ)) (failures : W → ℕ)
     open_end = tt;
     keeps = sym kept_nil;
     readings = s.readings ++ r ∷ [];
-    are = join s.lines (s.pending ∷ []) s.readings (r ∷ []) s.are (IsReading-whole s.pending r (subst (λ (l : List ℕ). IsReading l r) s.keeps read), tt);
-    answered = answered_more s.lines s.pending now now' state state' s.answered (of_kept line s.pending (λ r'. (state' ≡ next state r') × Puts taken failures now now' (reply state r')) s.keeps answer);
+    are = join opening s.lines (s.pending ∷ []) s.readings (r ∷ []) s.are
+        (subst (λ (z : State). IsReading (form_in z) s.pending r) (s.answered s.readings s.are).0 (IsReading-whole (form_in state) s.pending r (subst (λ (l : List ℕ). IsReading (form_in state) l r) s.keeps read)), tt);
+    answered = answered_more s.lines s.pending now now' state state' s.answered (of_kept (form_in state) line s.pending (λ r'. (state' ≡ next state r') × Puts taken failures now now' (reply state r')) s.keeps answer);
   }
 
   -- what waited was passed on
@@ -172,37 +174,37 @@ module _ {W A : Type 0} (taken : W → Option (List ℕ)) (failures : W → ℕ)
   -- a fault in the answer to a line that others follow
   stopped_at : (lines : List (List ℕ)) (line : List ℕ) (more : List (List ℕ)) (now now' : Output W A) (state : State) (bytes : List ℕ) (fault : RunFault) → Answered taken failures first opening lines now state
       → lines_of bytes ≡ lines ++ (line ∷ more)
-      → ((reading : Reading) → IsReading line reading → Breaks taken failures now now' (reply state reading) fault)
+      → ((reading : Reading) → IsReading (form_in state) line reading → Breaks taken failures now now' (reply state reading) fault)
       → Stopped taken failures first opening now' bytes fault
   stopped_at lines line more now now' state bytes fault a cut breaks rs h =
-      let p = part lines (line ∷ more) rs (subst (λ (ls : List (List ℕ)). AreReadings ls rs) cut h) in
-      let f = first_of_them line more p.rest p.follow in
-      let e : rs ≡ p.front ++ (f.reading ∷ f.rest) = p.whole ∙ ap (λ (l : List Reading). p.front ++ l) f.whole in
+      let p = part opening lines (line ∷ more) rs (subst (λ (ls : List (List ℕ)). AreReadFrom opening ls rs) cut h) in
       let before = a p.front p.are in
+      let f = first_of_them state line more p.rest (subst (λ (s : State). AreReadFrom s (line ∷ more) p.rest) (sym before.0) p.follow) in
+      let e : rs ≡ p.front ++ (f.reading ∷ f.rest) = p.whole ∙ ap (λ (l : List Reading). p.front ++ l) f.whole in
       let here = Puts-breaks taken failures first now now' (output_from opening p.front) (reply state f.reading) fault before.1 (breaks f.reading f.is) in
       let others = output_from (next state f.reading) f.rest in
       subst (λ (l : List ℕ). Breaks taken failures first now' l fault) (output_from-parted opening state rs p.front f.reading f.rest e before.0) (Breaks-more taken failures first now' (output_from opening p.front ++ reply state f.reading) others fault here)
 
   -- a fault in the answer to the line that LF ends
   pub Stopped-line : (now now' : Output W A) (state : State) (line bytes rest : List ℕ) (fault : RunFault) → Served taken failures first opening now state line bytes
-      → ((reading : Reading) → IsReading line reading → Breaks taken failures now now' (reply state reading) fault)
+      → ((reading : Reading) → IsReading (form_in state) line reading → Breaks taken failures now now' (reply state reading) fault)
       → Stopped taken failures first opening now' (bytes ++ (10 ∷ rest)) fault
   Stopped-line now now' state line bytes rest fault s breaks =
       stopped_at s.lines s.pending (lines_of rest) now now' state (bytes ++ (10 ∷ rest)) fault s.answered
       (lines_of_behind s.lines s.pending bytes (10 ∷ rest) s.cut s.no_end ∙ ap (λ (ls : List (List ℕ)). s.lines ++ ls) (lines_of_ended s.pending rest s.open_end))
-      (of_kept line s.pending (λ r. Breaks taken failures now now' (reply state r) fault) s.keeps breaks)
+      (of_kept (form_in state) line s.pending (λ r. Breaks taken failures now now' (reply state r) fault) s.keeps breaks)
 
   -- the last bytes of a line, behind which it is answered
   pub Served-last : (now now' : Output W A) (state state' : State) (line line' bytes last : List ℕ) → Served taken failures first opening now state line bytes → HasNoEnd last → line' ≡ kept (line ++ last)
-      → (reading : Reading) × IsReading line' reading
-      → ((reading : Reading) → IsReading line' reading → (state' ≡ next state reading) × Puts taken failures now now' (reply state reading))
+      → (reading : Reading) × IsReading (form_in state) line' reading
+      → ((reading : Reading) → IsReading (form_in state) line' reading → (state' ≡ next state reading) × Puts taken failures now now' (reply state reading))
       → Served taken failures first opening now' state' [] (bytes ++ (last ++ 10 ∷ []))
   Served-last now now' state state' line line' bytes last s none_ends k read answer =
       subst (λ (bs : List ℕ). Served taken failures first opening now' state' [] bs) (append_assoc bytes last (10 ∷ []))
       (Served-line now now' state state' line' (bytes ++ last) (Served-front now state line line' bytes last s none_ends k) read answer)
 
   pub Stopped-last_bytes : (now now' : Output W A) (state : State) (line line' bytes last rest : List ℕ) (fault : RunFault) → Served taken failures first opening now state line bytes → HasNoEnd last → line' ≡ kept (line ++ last)
-      → ((reading : Reading) → IsReading line' reading → Breaks taken failures now now' (reply state reading) fault)
+      → ((reading : Reading) → IsReading (form_in state) line' reading → Breaks taken failures now now' (reply state reading) fault)
       → Stopped taken failures first opening now' (bytes ++ (last ++ (10 ∷ rest))) fault
   Stopped-last_bytes now now' state line line' bytes last rest fault s none_ends k breaks =
       subst (λ (bs : List ℕ). Stopped taken failures first opening now' bs fault) (append_assoc bytes last (10 ∷ rest))
@@ -210,21 +212,21 @@ module _ {W A : Type 0} (taken : W → Option (List ℕ)) (failures : W → ℕ)
 
   -- the same where nothing was kept of the line, so that the bytes themselves are answered
   pub Served-alone : (now now' : Output W A) (state state' : State) (line bytes whole : List ℕ) → Served taken failures first opening now state line bytes → HasNoEnd whole → length line ≡ 0
-      → (reading : Reading) × IsReading whole reading
-      → ((reading : Reading) → IsReading whole reading → (state' ≡ next state reading) × Puts taken failures now now' (reply state reading))
+      → (reading : Reading) × IsReading (form_in state) whole reading
+      → ((reading : Reading) → IsReading (form_in state) whole reading → (state' ≡ next state reading) × Puts taken failures now now' (reply state reading))
       → Served taken failures first opening now' state' line (bytes ++ (whole ++ 10 ∷ []))
   Served-alone now now' state state' line bytes whole s none_ends n (r, read) answer =
       let none : [] ≡ line = sym (nil_from_length line n) in
       subst (λ (l : List ℕ). Served taken failures first opening now' state' l (bytes ++ (whole ++ 10 ∷ []))) none
-      (Served-last now now' state state' line (kept whole) bytes whole s none_ends (ap (λ (l : List ℕ). kept (l ++ whole)) none) (r, IsReading-kept whole r read)
-      (λ r' i. answer r' (IsReading-whole whole r' i)))
+      (Served-last now now' state state' line (kept whole) bytes whole s none_ends (ap (λ (l : List ℕ). kept (l ++ whole)) none) (r, IsReading-kept (form_in state) whole r read)
+      (λ r' i. answer r' (IsReading-whole (form_in state) whole r' i)))
 
   pub Stopped-alone : (now now' : Output W A) (state : State) (line bytes whole rest : List ℕ) (fault : RunFault) → Served taken failures first opening now state line bytes → HasNoEnd whole → length line ≡ 0
-      → ((reading : Reading) → IsReading whole reading → Breaks taken failures now now' (reply state reading) fault)
+      → ((reading : Reading) → IsReading (form_in state) whole reading → Breaks taken failures now now' (reply state reading) fault)
       → Stopped taken failures first opening now' (bytes ++ (whole ++ (10 ∷ rest))) fault
   Stopped-alone now now' state line bytes whole rest fault s none_ends n breaks =
       Stopped-last_bytes now now' state line (kept whole) bytes whole rest fault s none_ends (ap (λ (l : List ℕ). kept (l ++ whole)) (sym (nil_from_length line n)))
-      (λ r i. breaks r (IsReading-whole whole r i))
+      (λ r i. breaks r (IsReading-whole (form_in state) whole r i))
 
   -- a fault that has nothing to do with a line
   stopped_between : (now now' : Output W A) (state : State) (line bytes rest : List ℕ) (fault : RunFault) → Served taken failures first opening now state line bytes
@@ -232,7 +234,7 @@ module _ {W A : Type 0} (taken : W → Option (List ℕ)) (failures : W → ℕ)
       → Stopped taken failures first opening now' (bytes ++ rest) fault
   stopped_between now now' state line bytes rest fault s breaks rs h =
       let cut = lines_of_behind s.lines s.pending bytes rest s.cut s.no_end in
-      let p = part s.lines (lines_of (s.pending ++ rest)) rs (subst (λ (ls : List (List ℕ)). AreReadings ls rs) cut h) in
+      let p = part opening s.lines (lines_of (s.pending ++ rest)) rs (subst (λ (ls : List (List ℕ)). AreReadFrom opening ls rs) cut h) in
       let others = output_from (state_after opening p.front) p.rest in
       subst (λ (l : List ℕ). Breaks taken failures first now' l fault) (output_from-split opening rs p.front p.rest p.whole) (breaks (output_from opening p.front) others (s.answered p.front p.are).1)
 
@@ -270,8 +272,8 @@ module _ {W A : Type 0} (taken : W → Option (List ℕ)) (failures : W → ℕ)
       let e = lines_all now state line bytes s n in
       record {
         readings = s.readings;
-        are = subst (λ (ls : List (List ℕ)). AreReadings ls s.readings) (sym e) s.are;
-        all = λ rs h. (s.answered rs (subst (λ (ls : List (List ℕ)). AreReadings ls rs) e h)).1;
+        are = subst (λ (ls : List (List ℕ)). AreReadFrom opening ls s.readings) (sym e) s.are;
+        all = λ rs h. (s.answered rs (subst (λ (ls : List (List ℕ)). AreReadFrom opening ls rs) e h)).1;
       }
 
   -- the last line, which no LF ends
@@ -280,8 +282,8 @@ module _ {W A : Type 0} (taken : W → Option (List ℕ)) (failures : W → ℕ)
       ap lines_of s.cut ∙ lines_of_all_ended s.lines s.pending s.no_end ∙ ap (λ (ls : List (List ℕ)). s.lines ++ ls) (lines_of_open s.pending s.open_end (kept_some s.pending (subst (λ (l : List ℕ). 0 < length l) s.keeps n)))
 
   pub Finished-last : (now now' : Output W A) (state state' : State) (line bytes : List ℕ) → Served taken failures first opening now state line bytes → 0 < length line
-      → (reading : Reading) × IsReading line reading
-      → ((reading : Reading) → IsReading line reading → (state' ≡ next state reading) × Puts taken failures now now' (reply state reading))
+      → (reading : Reading) × IsReading (form_in state) line reading
+      → ((reading : Reading) → IsReading (form_in state) line reading → (state' ≡ next state reading) × Puts taken failures now now' (reply state reading))
       → Finished taken failures first opening now' bytes
   unfolding Served-line
   Finished-last now now' state state' line bytes s n read answer =
@@ -290,16 +292,16 @@ module _ {W A : Type 0} (taken : W → Option (List ℕ)) (failures : W → ℕ)
       let f : s.lines ++ s.pending ∷ [] ≡ t.lines = refl in
       record {
         readings = t.readings;
-        are = subst (λ (ls : List (List ℕ)). AreReadings ls t.readings) (sym (e ∙ f)) t.are;
-        all = λ rs h. (t.answered rs (subst (λ (ls : List (List ℕ)). AreReadings ls rs) (e ∙ f) h)).1;
+        are = subst (λ (ls : List (List ℕ)). AreReadFrom opening ls t.readings) (sym (e ∙ f)) t.are;
+        all = λ rs h. (t.answered rs (subst (λ (ls : List (List ℕ)). AreReadFrom opening ls rs) (e ∙ f) h)).1;
       }
 
   pub Stopped-last : (now now' : Output W A) (state : State) (line bytes : List ℕ) (fault : RunFault) → Served taken failures first opening now state line bytes → 0 < length line
-      → ((reading : Reading) → IsReading line reading → Breaks taken failures now now' (reply state reading) fault)
+      → ((reading : Reading) → IsReading (form_in state) line reading → Breaks taken failures now now' (reply state reading) fault)
       → Stopped taken failures first opening now' bytes fault
   Stopped-last now now' state line bytes fault s n breaks =
       stopped_at s.lines s.pending [] now now' state bytes fault s.answered (lines_last now state line bytes s n)
-      (of_kept line s.pending (λ r. Breaks taken failures now now' (reply state r) fault) s.keeps breaks)
+      (of_kept (form_in state) line s.pending (λ r. Breaks taken failures now now' (reply state r) fault) s.keeps breaks)
 
   pub Finished-passed : (now now' : Output W A) (bytes : List ℕ) → Finished taken failures first opening now bytes → Puts taken failures now now' [] → Finished taken failures first opening now' bytes
   Finished-passed now now' bytes f p = record {
@@ -343,8 +345,8 @@ module _ {W A : Type 0} (taken : W → Option (List ℕ)) (failures : W → ℕ)
   IsSound-puts a b bytes p = record { writer = p.writer; failed = p.failed }
 
   -- an answer, whatever the line is read as
-  pub IsSound-answer : (a b : Output W A) (state state' : State) (line : List ℕ) → (reading : Reading) × IsReading line reading
-      → ((reading : Reading) → IsReading line reading → (state' ≡ next state reading) × Puts taken failures a b (reply state reading)) → IsSound failures a b
+  pub IsSound-answer : (a b : Output W A) (state state' : State) (line : List ℕ) → (reading : Reading) × IsReading (form_in state) line reading
+      → ((reading : Reading) → IsReading (form_in state) line reading → (state' ≡ next state reading) × Puts taken failures a b (reply state reading)) → IsSound failures a b
   IsSound-answer a b state state' line (r, i) answer = IsSound-puts a b (reply state r) (answer r i).1
 
   pub Fails-write : (a b : Output W A) (bytes : List ℕ) (fault : RunFault) → Breaks taken failures a b bytes fault → fault ≡ faults.Write → Fails failures a b fault

@@ -7,10 +7,10 @@ use Rattle.cq_desk.specs.declared.reply.Reply.{Reply}
 use Rattle.cq_report.specs.declared.sessions.sheet.Line.{Line}
 use Rattle.cq_report.specs.declared.sessions.sheet.Line.TheVariants.{Told, Asks}
 use Rattle.cq_text.specs.declared.command.CommandKind.TheVariants as commands
+use Rattle.cq_text.specs.declared.form.Form.{Form}
 use Rattle.cq_report.specs.Lines.{lines_of}
-use Rattle.cq_report.specs.Reading.{Reading, Reads, IsReading}
+use Rattle.cq_report.specs.Reading.{Reading, Reads, AreReadIn}
 use Rattle.cq_report.specs.Reply.{published_line}
-use Rattle.cq_report.specs.Output.{AreReadings}
 use Rattle.cq_report.specs.Script.{Sheet}
 use Rattle.cq_report.specs.Sessions.{Served, FileServed, edit_reply}
 use Rattle.cq_report.specs.Steps.Serving.{HasNoEnd}
@@ -136,9 +136,10 @@ module _ (opening : PoolRecord) (limit : ℕ) where
       subst (λ (z : SheetRecord). Onward opening limit known sheet known' z (Reads commands.Publish)) (sym now)
       (publish_at known known' sheet s.rs (record { rs = s.rs; tried = s.tried; submitted = s.submitted; count = refl; after = refl }) refl)
 
+module _ (form : Form) (opening : PoolRecord) (limit : ℕ) where
   -- ---- all lines
 
-  pub served_begin : (known : List Edit) (sheet : SheetRecord) (bytes : List ℕ) → IsEven sheet → sheet.asked ≡ [] → ServedTo opening limit known sheet bytes known sheet bytes
+  pub served_begin : (known : List Edit) (sheet : SheetRecord) (bytes : List ℕ) → IsEven sheet → sheet.asked ≡ [] → ServedTo form opening limit known sheet bytes known sheet bytes
   served_begin known sheet bytes even none = record {
     even = even;
     carries = λ rs n lines behind last are served.
@@ -154,30 +155,30 @@ module _ (opening : PoolRecord) (limit : ℕ) where
 
   -- one line more, by the lines of what is left
   served_on : (known known1 known2 : List Edit) (sheet sheet1 sheet2 : SheetRecord) (bytes rest rest' line : List ℕ) → lines_of rest ≡ line ∷ lines_of rest'
-      → ServedTo opening limit known sheet bytes known1 sheet1 rest → LineServed opening limit known1 sheet1 known2 sheet2 line → ServedTo opening limit known sheet bytes known2 sheet2 rest'
+      → ServedTo form opening limit known sheet bytes known1 sheet1 rest → LineServed form opening limit known1 sheet1 known2 sheet2 line → ServedTo form opening limit known sheet bytes known2 sheet2 rest'
   served_on known known1 known2 sheet sheet1 sheet2 bytes rest rest' line cut so l = record {
     even = l.onward.even;
     carries = λ rs n lines behind last are served.
         let c = l.onward.carries rs n lines behind last served in
-        let b = so.carries c.0 c.1 (l.reading ∷ lines) (c.2 ∷ behind) last (subst (λ (z : List (List ℕ)). AreReadings z (l.reading ∷ lines)) (sym cut) (l.is, are)) c.3 in
-        subst (λ (z : Sheet). BytesServed opening limit known sheet last z bytes) (sym (append_assoc (whole sheet1 c.0) (c.2 ∷ []) behind) ∙ ap (λ (z : Sheet). z ++ behind) c.4) b;
+        let b = so.carries c.0 c.1 (l.reading ∷ lines) (c.2 ∷ behind) last (subst (λ (z : List (List ℕ)). AreReadIn form z (l.reading ∷ lines)) (sym cut) (l.is, are)) c.3 in
+        subst (λ (z : Sheet). BytesServed form opening limit known sheet last z bytes) (sym (append_assoc (whole sheet1 c.0) (c.2 ∷ []) behind) ∙ ap (λ (z : Sheet). z ++ behind) c.4) b;
   }
 
   pub served_line : (known known1 known2 : List Edit) (sheet sheet1 sheet2 : SheetRecord) (bytes rest line behind : List ℕ) → rest ≡ line ++ (10 ∷ behind) → HasNoEnd line
-      → ServedTo opening limit known sheet bytes known1 sheet1 rest → LineServed opening limit known1 sheet1 known2 sheet2 line → ServedTo opening limit known sheet bytes known2 sheet2 behind
+      → ServedTo form opening limit known sheet bytes known1 sheet1 rest → LineServed form opening limit known1 sheet1 known2 sheet2 line → ServedTo form opening limit known sheet bytes known2 sheet2 behind
   served_line known known1 known2 sheet sheet1 sheet2 bytes rest line behind cut no_end so l =
       served_on known known1 known2 sheet sheet1 sheet2 bytes rest behind line (ap lines_of cut ∙ lines_of_ended line behind no_end) so l
 
   pub served_last : (known known1 known2 : List Edit) (sheet sheet1 sheet2 : SheetRecord) (bytes rest : List ℕ) → HasNoEnd rest → 0 < length rest
-      → ServedTo opening limit known sheet bytes known1 sheet1 rest → LineServed opening limit known1 sheet1 known2 sheet2 rest → ServedTo opening limit known sheet bytes known2 sheet2 []
+      → ServedTo form opening limit known sheet bytes known1 sheet1 rest → LineServed form opening limit known1 sheet1 known2 sheet2 rest → ServedTo form opening limit known sheet bytes known2 sheet2 []
   served_last known known1 known2 sheet sheet1 sheet2 bytes rest no_end some so l =
       served_on known known1 known2 sheet sheet1 sheet2 bytes rest [] rest (lines_of_open rest no_end some) so l
 
-  pub served_end : (known known1 known2 : List Edit) (sheet sheet1 : SheetRecord) (replies : Sheet) (bytes : List ℕ) → ServedTo opening limit known sheet bytes known1 sheet1 [] → Ends opening limit known1 sheet1 known2 replies
-      → BytesServed opening limit known sheet known2 replies bytes
+  pub served_end : (known known1 known2 : List Edit) (sheet sheet1 : SheetRecord) (replies : Sheet) (bytes : List ℕ) → ServedTo form opening limit known sheet bytes known1 sheet1 [] → Ends opening limit known1 sheet1 known2 replies
+      → BytesServed form opening limit known sheet known2 replies bytes
   served_end known known1 known2 sheet sheet1 replies bytes so e =
-      subst (λ (z : Sheet). BytesServed opening limit known sheet known2 z bytes) (append-nil (whole sheet1 e.rs) ∙ sym e.whole_of) (so.carries e.rs e.tried [] [] known2 tt e.ends)
+      subst (λ (z : Sheet). BytesServed form opening limit known sheet known2 z bytes) (append-nil (whole sheet1 e.rs) ∙ sym e.whole_of) (so.carries e.rs e.tried [] [] known2 tt e.ends)
 
   -- a file whose sheet was empty
-  pub file_served : (known known' : List Edit) (replies : Sheet) (bytes : List ℕ) → BytesServed opening limit known (record { replies = []; batch = []; asked = [] }) known' replies bytes → FileServed opening limit known bytes replies known'
+  pub file_served : (known known' : List Edit) (replies : Sheet) (bytes : List ℕ) → BytesServed form opening limit known (record { replies = []; batch = []; asked = [] }) known' replies bytes → FileServed form opening limit known bytes replies known'
   file_served known known' replies bytes b = record { lines = b.lines; are = b.are; served = subst (λ (z : Sheet). Served opening limit b.lines known [] [] z known') (sym b.whole) b.served }

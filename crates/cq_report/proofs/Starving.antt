@@ -9,7 +9,7 @@ use Rattle.cq_report.specs.declared.fault.RunFault.TheVariants as faults
 use Rattle.cq_report.specs.Lines.{whole_lines, before_whole}
 use Rattle.cq_report.specs.Reading.{Reading}
 use Rattle.cq_report.specs.Machine.{State, begin_state}
-use Rattle.cq_report.specs.Output.{AreReadings, output}
+use Rattle.cq_report.specs.Output.{AreReadings, AreReadFrom, output}
 use Rattle.cq_report.specs.Run.{IfMemory, WroteFirstLines}
 use Rattle.cq_report.specs.Steps.Written.{Puts, Breaks}
 use Rattle.cq_report.specs.Steps.Serving.{Served, Stopped, Starved, ServesOn, StarvesOn}
@@ -162,8 +162,8 @@ module _ {W A : Type 0} (taken : W → Option (List ℕ)) (failures : W → ℕ)
         behind = behind.more;
         whole = ap whole_lines (sym whole) ∙ behind.whole ∙ ap (λ (ls : List (List ℕ)). ls ++ behind.more) there.whole;
         readings = s.served.readings;
-        are = subst (λ (ls : List (List ℕ)). AreReadings ls s.served.readings) (sym answered) s.served.are;
-        wrote = λ rs h. rw (← e, ← e') (Passes-all _ _ _ _ _ (s.served.answered rs (subst (λ (ls : List (List ℕ)). AreReadings ls rs) answered h)).1.passed none held);
+        are = subst (λ (ls : List (List ℕ)). AreReadFrom begin_state ls s.served.readings) (sym answered) s.served.are;
+        wrote = λ rs h. rw (← e, ← e') (Passes-all _ _ _ _ _ (s.served.answered rs (subst (λ (ls : List (List ℕ)). AreReadFrom begin_state ls rs) answered h)).1.passed none held);
       }
 
 -- nothing was read

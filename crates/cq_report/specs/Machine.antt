@@ -2,6 +2,8 @@
 use Rattle.std.specs.Prelude.{ℕ, List, [], ◌∷◌, ◌++◌, Option, Some, None}
 use Rattle.cq_rel.specs.declared.fault.CatalogFault.{CatalogFault}
 use Rattle.cq_rel.specs.Tables.{Declaration, declaration, declare_fault}
+use Rattle.cq_text.specs.declared.form.Form.{Form}
+use Rattle.cq_text.specs.declared.form.Form.TheVariants.{One}
 use Rattle.cq_text.specs.declared.command.CommandKind.TheVariants as commands
 use Rattle.cq_board.specs.declared.limits.Limits.{Limits}
 use Rattle.cq_board.specs.declared.edit.EditKind.TheVariants as edits
@@ -27,30 +29,69 @@ abbrev pub ServingRecord : Type 0
 ServingRecord = StandingRecord PoolRecord Edit
 
 -- A script is in its setup, or the floor serves it.
-abbrev pub State : Type 0
-State = Stage SetupRecord ServingRecord
+abbrev pub Staged : Type 0
+Staged = Stage SetupRecord ServingRecord
+
+-- Which form a script is in, once a line was read that is not blank; and what serves its lines.
+pub record State : Type 0 where
+  pub heading : Option Form
+  pub stage : Staged
 
 -- At first nothing is declared, and the limits are those of a script that names none.
 abbrev pub begin_setup : SetupRecord
 begin_setup = record { catalog = []; limits = record { pool = POOL_LIMIT; journal = JOURNAL_LIMIT } }
 
+abbrev pub begin_stage : Staged
+begin_stage = Setup begin_setup
+
 abbrev pub begin_state : State
-begin_state = Setup begin_setup
+begin_state = record { heading = None; stage = begin_stage }
+
+-- ---- the form
+
+-- Scripts are in form 1 where nothing else is settled.
+abbrev pub form_of : Option Form → Form
+form_of None = One
+form_of (Some form) = form
+
+-- The form in which a script's next line is read.
+abbrev pub form_in : State → Form
+form_in state = form_of state.heading
+
+-- The first line that is not blank settles the form: that which it names, and else form 1.
+abbrev pub headed : Option Form → Reading → Option Form
+headed (Some form) reading = Some form
+headed None (Reads commands.Blank) = None
+headed None (Reads (commands.Board form)) = Some form
+headed None (Reads (commands.Relation name arity)) = Some One
+headed None (Reads (commands.Limits pool journal)) = Some One
+headed None (Reads (commands.Post name query)) = Some One
+headed None (Reads (commands.Withdraw name)) = Some One
+headed None (Reads (commands.Insert row)) = Some One
+headed None (Reads (commands.Delete row)) = Some One
+headed None (Reads commands.Publish) = Some One
+headed None (Reads commands.Show) = Some One
+headed None (Faulty kind offset) = Some One
+
+-- A line that names the form is too late behind any other that is not blank.
+abbrev pub board_line : Option Form → List ℕ
+board_line None = ok_line
+board_line (Some form) = late_line
 
 -- ---- the setup
 
 -- A relation is declared behind the others, or it is told why not.
-abbrev pub declared : Option CatalogFault → SetupRecord → Declaration → State × List ℕ
+abbrev pub declared : Option CatalogFault → SetupRecord → Declaration → Staged × List ℕ
 declared None setup relation = (Setup (record setup { catalog = setup.catalog ++ (relation ∷ []) }), ok_line)
 declared (Some fault) setup relation = (Setup setup, catalog_line fault)
 
 -- A line that declares a relation: behind the setup it is too late.
-abbrev pub declare : State → List ℕ → ℕ → State × List ℕ
+abbrev pub declare : Staged → List ℕ → ℕ → Staged × List ℕ
 declare (Setup setup) name arity = declared (declare_fault setup.catalog name arity) setup (declaration name arity)
 declare (Serving serving) name arity = (Serving serving, late_line)
 
 -- A line of limits: the latest count, and behind the setup it is too late.
-abbrev pub limit : State → Limits → State × List ℕ
+abbrev pub limit : Staged → Limits → Staged × List ℕ
 limit (Setup setup) limits = (Setup (record setup { limits = limits }), ok_line)
 limit (Serving serving) limits = (Serving serving, late_line)
 
@@ -61,7 +102,7 @@ abbrev pub opened : SetupRecord → ServingRecord
 opened setup = record { opening = opening_pool setup.catalog setup.limits; limit = setup.limits.journal; machine = opening_machine 1 }
 
 -- The floor to which an event comes: where the setup lasts, the event ends it.
-abbrev pub serving_of : State → ServingRecord
+abbrev pub serving_of : Staged → ServingRecord
 serving_of (Setup setup) = opened setup
 serving_of (Serving serving) = serving
 
@@ -78,28 +119,29 @@ abbrev pub told : ServingRecord → Event Edit → List ℕ
 told serving event = reply_lines (shown (after serving event)) (answer_to pool_after why serving.opening serving.limit serving.machine event)
 
 -- An event of the one session, whose number is 0.
-abbrev pub happen : State → Event Edit → State × List ℕ
+abbrev pub happen : Staged → Event Edit → Staged × List ℕ
 happen state event = (Serving (after (serving_of state) event), told (serving_of state) event)
 
 -- ---- lines
 
--- The state behind a line, and the reply to it. A blank line and a fault of text change nothing.
-abbrev pub serve : State → Reading → State × List ℕ
-serve state (Reads commands.Blank) = (state, [])
-serve state (Reads (commands.Relation name arity)) = declare state name arity
-serve state (Reads (commands.Limits pool journal)) = limit state (record { pool = pool; journal = journal })
-serve state (Reads (commands.Post name query)) = happen state (events.Enter 0 (edits.Post name query))
-serve state (Reads (commands.Withdraw name)) = happen state (events.Enter 0 (edits.Withdraw name))
-serve state (Reads (commands.Insert row)) = happen state (events.Enter 0 (edits.Insert row))
-serve state (Reads (commands.Delete row)) = happen state (events.Enter 0 (edits.Delete row))
-serve state (Reads commands.Publish) = happen state events.Publish
-serve state (Reads commands.Show) = happen state (events.Look 0)
-serve state (Faulty kind offset) = (state, fault_line kind offset)
+-- The stage behind a line, and the reply to it, where this form was settled before, if any. A blank line and a fault of text change nothing.
+abbrev pub staged : Staged → Option Form → Reading → Staged × List ℕ
+staged stage heading (Reads commands.Blank) = (stage, [])
+staged stage heading (Reads (commands.Board form)) = (stage, board_line heading)
+staged stage heading (Reads (commands.Relation name arity)) = declare stage name arity
+staged stage heading (Reads (commands.Limits pool journal)) = limit stage (record { pool = pool; journal = journal })
+staged stage heading (Reads (commands.Post name query)) = happen stage (events.Enter 0 (edits.Post name query))
+staged stage heading (Reads (commands.Withdraw name)) = happen stage (events.Enter 0 (edits.Withdraw name))
+staged stage heading (Reads (commands.Insert row)) = happen stage (events.Enter 0 (edits.Insert row))
+staged stage heading (Reads (commands.Delete row)) = happen stage (events.Enter 0 (edits.Delete row))
+staged stage heading (Reads commands.Publish) = happen stage events.Publish
+staged stage heading (Reads commands.Show) = happen stage (events.Look 0)
+staged stage heading (Faulty kind offset) = (stage, fault_line kind offset)
 
 -- The state behind a line.
 abbrev pub next : State → Reading → State
-next state reading = (serve state reading).0
+next state reading = record { heading = headed state.heading reading; stage = (staged state.stage state.heading reading).0 }
 
 -- The reply to a line.
 abbrev pub reply : State → Reading → List ℕ
-reply state reading = (serve state reading).1
+reply state reading = (staged state.stage state.heading reading).1

@@ -1,14 +1,18 @@
 -- What is written for a script (this project's profile).
 use Rattle.std.specs.Prelude.{ℕ, List, [], ◌∷◌, ◌++◌}
 use Rattle.cq_report.specs.Reading.{Reading, IsReading}
-use Rattle.cq_report.specs.Machine.{State, begin_state, next, reply}
+use Rattle.cq_report.specs.Machine.{State, begin_state, form_in, next, reply}
 
--- Each line has its reading.
+-- Each line has its reading, in the form that is settled before it.
+abbrev pub AreReadFrom : State → List (List ℕ) → List Reading → Type 0
+AreReadFrom state [] [] = Unit {0}
+AreReadFrom state [] (reading ∷ readings) = ⊥
+AreReadFrom state (line ∷ lines) [] = ⊥
+AreReadFrom state (line ∷ lines) (reading ∷ readings) = IsReading (form_in state) line reading × AreReadFrom (next state reading) lines readings
+
+-- Each line of a script has its reading.
 abbrev pub AreReadings : List (List ℕ) → List Reading → Type 0
-AreReadings [] [] = Unit {0}
-AreReadings [] (reading ∷ readings) = ⊥
-AreReadings (line ∷ lines) [] = ⊥
-AreReadings (line ∷ lines) (reading ∷ readings) = IsReading line reading × AreReadings lines readings
+AreReadings lines readings = AreReadFrom begin_state lines readings
 
 -- The state behind some lines.
 abbrev pub state_after : State → List Reading → State

@@ -1,7 +1,7 @@
 -- What a line of a script is read as. (this project's profile)
-use Rattle.std.specs.Prelude.{ℕ, List}
+use Rattle.std.specs.Prelude.{ℕ, List, [], ◌∷◌}
 use Rattle.cq_text.specs.declared.fault.Kind.{Kind}
-use Rattle.cq_text.specs.declared.form.Form.TheVariants.{One}
+use Rattle.cq_text.specs.declared.form.Form.{Form}
 use Rattle.cq_text.specs.Grammar.{CommandContent, StandsFor}
 use Rattle.cq_text.specs.Fault.{FirstFault}
 
@@ -10,7 +10,14 @@ pub data Reading : Type 0 where
   Reads : CommandContent → Reading
   Faulty : Kind → ℕ → Reading
 
--- The line stands for the command, or has the fault.
-abbrev pub IsReading : List ℕ → Reading → Type 0
-IsReading line (Reads command) = StandsFor One line command
-IsReading line (Faulty kind offset) = FirstFault One line kind offset
+-- The line, of a script in this form, stands for the command, or has the fault.
+abbrev pub IsReading : Form → List ℕ → Reading → Type 0
+IsReading form line (Reads command) = StandsFor form line command
+IsReading form line (Faulty kind offset) = FirstFault form line kind offset
+
+-- The lines of a script whose form is settled have these readings.
+abbrev pub AreReadIn : Form → List (List ℕ) → List Reading → Type 0
+AreReadIn form [] [] = Unit {0}
+AreReadIn form [] (reading ∷ readings) = ⊥
+AreReadIn form (line ∷ lines) [] = ⊥
+AreReadIn form (line ∷ lines) (reading ∷ readings) = IsReading form line reading × AreReadIn form lines readings

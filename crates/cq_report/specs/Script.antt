@@ -2,6 +2,8 @@
 use Rattle.std.specs.Prelude.{ℕ, ◌+◌, List, [], ◌∷◌, ◌++◌, Option, Some, None, codes, decimal}
 use Rattle.std.specs.List.{flat_map}
 use Rattle.cq_text.specs.Print.{printed_query, printed_row}
+use Rattle.cq_text.specs.declared.form.Form.{Form}
+use Rattle.cq_text.specs.declared.form.Form.TheVariants.{One, Two}
 use Rattle.cq_rel.specs.Tables.{Declaration}
 use Rattle.cq_board.specs.declared.limits.Limits.{Limits}
 use Rattle.cq_board.specs.declared.edit.EditKind.TheVariants.{Post, Withdraw, Insert, Delete}
@@ -31,6 +33,11 @@ declaration_line declared = line (codes "relation " ++ declared.relation ++ code
 abbrev pub limits_line : Limits → List ℕ
 limits_line limits = line (codes "limits " ++ decimal limits.pool ++ codes " " ++ decimal limits.journal)
 
+-- The form, where it is not the one that scripts begin in.
+abbrev pub form_line : Form → List ℕ
+form_line One = []
+form_line Two = line (codes "board 2")
+
 -- The reply of each line of a file, and none where a line has none.
 abbrev pub Sheet : Type 0
 Sheet = List (Option (List ℕ))
@@ -46,7 +53,7 @@ abbrev pub sheets_from : ℕ → List Sheet → List ℕ
 sheets_from session [] = []
 sheets_from session (sheet ∷ sheets) = replies_from (codes "session " ++ decimal session) 1 sheet ++ sheets_from (session + 1) sheets
 
--- The script: relations and limits, the entries in order, a publish and a look, and all replies as comments.
-abbrev pub script_of : List Declaration → Limits → List (Entry Edit) → Sheet → List Sheet → List ℕ
-script_of catalog limits journal setup sheets =
-    flat_map declaration_line catalog ++ limits_line limits ++ entries_from 1 journal ++ codes "publish\nshow\n" ++ replies_from (codes "setup") 1 setup ++ sheets_from 0 sheets
+-- The script: the form, relations and limits, the entries in order, a publish and a look, and all replies as comments.
+abbrev pub script_of : Form → List Declaration → Limits → List (Entry Edit) → Sheet → List Sheet → List ℕ
+script_of form catalog limits journal setup sheets =
+    form_line form ++ flat_map declaration_line catalog ++ limits_line limits ++ entries_from 1 journal ++ codes "publish\nshow\n" ++ replies_from (codes "setup") 1 setup ++ sheets_from 0 sheets

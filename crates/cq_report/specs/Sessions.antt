@@ -3,6 +3,7 @@ use Rattle.std.specs.Prelude.{◌≡◌, ℕ, Bool, true, false, List, [], ◌�
 use Rattle.std.specs.Io.KnownBytes.{Appends}
 use mathlib.Core.List.{IsPrefix}
 use Rattle.cq_text.specs.Device.{TakesFront}
+use Rattle.cq_text.specs.declared.form.Form.{Form}
 use Rattle.cq_text.specs.declared.command.CommandKind.TheVariants as commands
 use Rattle.cq_board.specs.declared.edit.EditKind.TheVariants as edits
 use Rattle.cq_board.specs.declared.edit.Why.{Why}
@@ -16,8 +17,8 @@ use Rattle.cq_report.specs.declared.fault.RunFault.{RunFault}
 use Rattle.cq_report.specs.declared.fault.RunFault.TheVariants as faults
 use Rattle.cq_report.specs.declared.stage.Stage.TheVariants as stages
 use Rattle.cq_report.specs.Lines.{lines_of}
-use Rattle.cq_report.specs.Reading.{Reading, Reads, Faulty}
-use Rattle.cq_report.specs.Machine.{SetupRecord, State, begin_setup, begin_state, next, reply}
+use Rattle.cq_report.specs.Reading.{Reading, Reads, Faulty, AreReadIn}
+use Rattle.cq_report.specs.Machine.{SetupRecord, State, begin_setup, begin_state, form_of, next, reply}
 use Rattle.cq_report.specs.Output.{AreReadings}
 use Rattle.cq_report.specs.Reply.{entered_line, refused_line, why_words, published_line, show_line, fault_line, late_line}
 use Rattle.cq_report.specs.Script.{Sheet, script_of}
@@ -51,6 +52,7 @@ Served opening limit (line ∷ lines) known asked rs [] known' = ⊥
 Served opening limit (Faulty kind offset ∷ lines) known asked rs (told ∷ sheet) known' = (told ≡ Some (fault_line kind offset)) × Served opening limit lines known asked rs sheet known'
 Served opening limit (Reads commands.Blank ∷ lines) known asked rs (told ∷ sheet) known' = (told ≡ None) × Served opening limit lines known asked rs sheet known'
 Served opening limit (Reads (commands.Relation name arity) ∷ lines) known asked rs (told ∷ sheet) known' = (told ≡ Some late_line) × Served opening limit lines known asked rs sheet known'
+Served opening limit (Reads (commands.Board form) ∷ lines) known asked rs (told ∷ sheet) known' = (told ≡ Some late_line) × Served opening limit lines known asked rs sheet known'
 Served opening limit (Reads (commands.Limits pool journal) ∷ lines) known asked rs (told ∷ sheet) known' = (told ≡ Some late_line) × Served opening limit lines known asked rs sheet known'
 Served opening limit (Reads (commands.Post name query) ∷ lines) known asked rs (told ∷ sheet) known' =
     (r : Reply Why) × (told ≡ Some (edit_reply r)) × Served opening limit lines known (asked ++ edits.Post name query ∷ []) (rs ++ r ∷ []) sheet known'
@@ -66,16 +68,16 @@ Served opening limit (Reads commands.Show ∷ lines) known asked rs (told ∷ sh
     (seen : List Edit) × IsPrefix known seen × (told ≡ Some (show_line (length seen))) × Served opening limit lines seen asked rs sheet known'
 
 -- A file's bytes are served line by line.
-pub record FileServed (opening : PoolRecord) (limit : ℕ) (known : List Edit) (file : List ℕ) (sheet : Sheet) (known' : List Edit) : Type 0 where
+pub record FileServed (form : Form) (opening : PoolRecord) (limit : ℕ) (known : List Edit) (file : List ℕ) (sheet : Sheet) (known' : List Edit) : Type 0 where
   pub lines : List Reading
-  pub are : AreReadings (lines_of file) lines
+  pub are : AreReadIn form (lines_of file) lines
   pub served : Served opening limit lines known [] [] sheet known'
 
 -- Each file is served; what its session knows of before and behind it stands at the file's place.
-abbrev pub FilesServed : PoolRecord → ℕ → List (List Edit) → List (List ℕ) → List Sheet → List (List Edit) → Type 0
-FilesServed opening limit [] [] [] [] = Unit {0}
-FilesServed opening limit (known ∷ knowns) (file ∷ files) (sheet ∷ sheets) (known' ∷ knowns') = FileServed opening limit known file sheet known' × FilesServed opening limit knowns files sheets knowns'
-FilesServed opening limit knowns files sheets knowns' = ⊥
+abbrev pub FilesServed : Form → PoolRecord → ℕ → List (List Edit) → List (List ℕ) → List Sheet → List (List Edit) → Type 0
+FilesServed form opening limit [] [] [] [] = Unit {0}
+FilesServed form opening limit (known ∷ knowns) (file ∷ files) (sheet ∷ sheets) (known' ∷ knowns') = FileServed form opening limit known file sheet known' × FilesServed form opening limit knowns files sheets knowns'
+FilesServed form opening limit knowns files sheets knowns' = ⊥
 
 -- ---- SETUP
 
@@ -84,6 +86,7 @@ abbrev pub is_of_setup : Reading → Bool
 is_of_setup (Faulty kind offset) = true
 is_of_setup (Reads commands.Blank) = true
 is_of_setup (Reads (commands.Relation name arity)) = true
+is_of_setup (Reads (commands.Board form)) = true
 is_of_setup (Reads (commands.Limits pool journal)) = true
 is_of_setup (Reads (commands.Post name query)) = false
 is_of_setup (Reads (commands.Withdraw name)) = false
@@ -107,21 +110,29 @@ abbrev pub setup_sheet : State → List Reading → Sheet
 setup_sheet state [] = []
 setup_sheet state (line ∷ lines) = told_or_none (reply state line) ∷ setup_sheet (next state line) lines
 
+-- A script in its setup, where this form is settled, if any.
+abbrev pub in_setup : Option Form → SetupRecord → State
+in_setup heading setup = record { heading = heading; stage = stages.Setup setup }
+
 -- The state behind lines of a setup is that of a replay.
-abbrev pub IsSetBy : State → List Reading → SetupRecord → Type 0
-IsSetBy state [] setup = state ≡ stages.Setup setup
-IsSetBy state (line ∷ lines) setup = (is_of_setup line ≡ true) × IsSetBy (next state line) lines setup
+abbrev pub IsSetBy : State → List Reading → Option Form → SetupRecord → Type 0
+IsSetBy state [] heading setup = state ≡ in_setup heading setup
+IsSetBy state (line ∷ lines) heading setup = (is_of_setup line ≡ true) × IsSetBy (next state line) lines heading setup
 
 -- The pool that a setup opens.
 abbrev pub pool_of : SetupRecord → PoolRecord
 pool_of setup = opening_pool setup.catalog setup.limits
 
--- SETUP is served: lines of a setup first, and all lines behind them by session 0, which knows of no entry before.
-pub record SetupServed (file : List ℕ) (setup : SetupRecord) (sheet : Sheet) (known : List Edit) : Type 0 where
+-- SETUP is served: lines of a setup first, which settle the form, and all lines behind them, read in it, by session 0, which knows of no entry before.
+pub record SetupServed (file : List ℕ) (heading : Option Form) (setup : SetupRecord) (sheet : Sheet) (known : List Edit) : Type 0 where
+  pub first : List (List ℕ)
+  pub rest : List (List ℕ)
+  pub cut : lines_of file ≡ first ++ rest
   pub front : List Reading
   pub behind : List Reading
-  pub are : AreReadings (lines_of file) (front ++ behind)
-  pub set : IsSetBy begin_state front setup
+  pub are_first : AreReadings first front
+  pub are_behind : AreReadIn (form_of heading) rest behind
+  pub set : IsSetBy begin_state front heading setup
   pub begins : BeginsBoard behind
   pub told : Sheet
   pub whole : sheet ≡ setup_sheet begin_state front ++ told
@@ -136,16 +147,17 @@ knowns_before known (file ∷ files) = known ∷ map (λ _. []) files
 
 -- The text is the script of a room in which SETUP and then the files were served: its journal begins with all that each session knows of in the end.
 pub record Ran (setup : List ℕ) (files : List (List ℕ)) (text : List ℕ) : Type 0 where
+  pub heading : Option Form
   pub set : SetupRecord
   pub sheet : Sheet
   pub known : List Edit
-  pub setup_served : SetupServed setup set sheet known
+  pub setup_served : SetupServed setup heading set sheet known
   pub sheets : List Sheet
   pub knowns : List (List Edit)
-  pub files_served : FilesServed (pool_of set) set.limits.journal (knowns_before known files) files sheets knowns
+  pub files_served : FilesServed (form_of heading) (pool_of set) set.limits.journal (knowns_before known files) files sheets knowns
   pub journal : List (Entry Edit)
   pub begins : All (λ known. IsPrefix known (journal_edits journal)) knowns
-  pub is : text ≡ script_of set.catalog set.limits journal sheet sheets
+  pub is : text ≡ script_of (form_of heading) set.catalog set.limits journal sheet sheets
 
 -- ---- what is written
 

@@ -9,8 +9,10 @@
 //! exit status and its messages.
 #![tactic(auto)]
 
+mod clerk;
 mod fault;
 mod happening;
+mod heading;
 mod limits;
 mod line;
 mod listing;

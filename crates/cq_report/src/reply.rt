@@ -1,13 +1,14 @@
 //! Reply lines.
 
 ghost use Rattle.std.specs.Prelude.{◌≡◌, ◌++◌, codes, decimal, IfOk, string_bytes};
+ghost use Rattle.cq_report.specs.Machine.{board_line};
 ghost use Rattle.cq_report.specs.Reply.{kind_word, fault_line, refused_line, ok_line, late_line, catalog_line, part_word, why_words, refusal_line, entered_line, published_line, show_line, end_line};
 
 use cq_atom::Part;
 use cq_board::Why;
 use cq_desk::StepFault;
 use cq_rel::CatalogFault;
-use cq_text::Kind;
+use cq_text::{Form, Kind};
 use std::alloc::{AllocError, Allocator};
 
 fn kind_word(kind: Kind) -> &'static str
@@ -61,6 +62,16 @@ pub(crate) fn late_line() -> &'static str
     ensures { result.now ≡ late_line }
 {
     "refused Late\n"
+}
+
+/// The reply to a line that names the form, where this one was settled before it, if any.
+pub(crate) fn board_line(heading: Option<Form>) -> &'static str
+    ensures { result.now ≡ board_line heading }
+{
+    match heading {
+        None => ok_line(),
+        Some(_form) => late_line(),
+    }
 }
 
 /// The reply to a relation that is not declared. Want of memory has none.

@@ -6,7 +6,7 @@ ghost use Rattle.std.specs.Io.KnownBytes.{Appends};
 ghost use Rattle.cq_text.specs.Device.{TakesFront};
 ghost use Rattle.cq_desk.specs.History.{edits_of};
 ghost use Rattle.cq_report.specs.Run.{IsOfSessions, failures_of};
-ghost use Rattle.cq_report.specs.Script.{declaration_line, limits_line, replies_from, sheets_from};
+ghost use Rattle.cq_report.specs.Script.{form_line, declaration_line, limits_line, replies_from, sheets_from};
 ghost use Rattle.cq_report.specs.Sessions.{FilesServed, Ran, IfWritten, Wrote, WroteFrontOf, pool_of};
 ghost use Rattle.cq_report.specs.Steps.Sheets.{IsEven};
 ghost use Rattle.cq_report.specs.Steps.Clients.{IsOpened, opened_pool};
@@ -22,6 +22,7 @@ mod sheet;
 mod threads;
 
 use crate::fault::RunFault;
+use crate::heading::form_of;
 use crate::sessions::client::{BoardClient, BoardRoom, BoardSession, Client, Hall};
 use crate::sessions::fault::ServeFault;
 use crate::sessions::script::{put_entries, put_replies, put_setup, put_sheets};
@@ -33,7 +34,7 @@ use crate::sessions::threads::run_all;
 use crate::setup::Setup;
 use cq_board::Board;
 use cq_room::{Gate, OpenGate, Parts, Room, RoomName};
-use cq_text::{Sink, write_all};
+use cq_text::{Form, Sink, write_all};
 use std::alloc::{AllocError, Global};
 use std::marker::Brand;
 use std::mem;
@@ -84,12 +85,14 @@ fn take_apart<C: Drop>(
 /// A seat for each file.
 fn seats<'a, C: Client, G: Gate>(
     alloc: Global,
+    form: Form,
     clients: Vec<C>,
     files: &'a [Vec<u8>],
     gate: &'a G,
 ) -> Result<Vec<Seat<'a, C, G>>, AllocError>
     requires { length clients.items ≡ length files.now }
     ensures clients { IfOk result (λ seats. map (λ seat. seat.client) seats.items ≡ clients.items) }
+    ensures forms { IfOk result (λ seats. map (λ seat. seat.form) seats.items ≡ map (λ _. form) clients.items) }
     ensures files { IfOk result (λ seats. map (λ seat. seat.file.now) seats.items ≡ map (λ file. file.items) files.now) }
 {
     let mut seats = Vec::new(alloc);
@@ -97,6 +100,7 @@ fn seats<'a, C: Client, G: Gate>(
     for client in clients {
         seats.push(Seat {
             alloc,
+            form,
             client,
             file: files[place].as_slice(),
             gate,
@@ -110,15 +114,16 @@ fn seats<'a, C: Client, G: Gate>(
 fn serve_files<T: Threads + Wait + Sync, C: Client + Send, G: Gate>(
     rt: &T,
     alloc: Global,
+    form: Form,
     clients: Vec<C>,
     files: &[Vec<u8>],
     gate: &G,
 ) -> Result<Served<C>, ServeFault>
     requires { length clients.items ≡ length files.now }
-    ensures { IfOk result (λ served. FilesServed C.opening C.limit (map C.known clients.items) (map (λ file. file.items) files.now) (map (λ sheet. sheet.replies) served.sheets.items) (map C.known served.clients.items)) }
+    ensures { IfOk result (λ served. FilesServed form C.opening C.limit (map C.known clients.items) (map (λ file. file.items) files.now) (map (λ sheet. sheet.replies) served.sheets.items) (map C.known served.clients.items)) }
 {
     let count = clients.len();
-    let lefts = run_all(rt, alloc, seats(alloc, clients, files, gate)?)?;
+    let lefts = run_all(rt, alloc, seats(alloc, form, clients, files, gate)?)?;
     match first_fault(count, &lefts) {
         Some(fault) => Err(fault),
         None => take_apart(alloc, lefts),
@@ -128,6 +133,7 @@ fn serve_files<T: Threads + Wait + Sync, C: Client + Send, G: Gate>(
 /// Serves what stands behind SETUP's setup, by the first of the clients.
 fn serve_setup<C: Client>(
     alloc: Global,
+    form: Form,
     clients: &mut Vec<C>,
     sheet: &mut Sheet<Global>,
     rest: &[u8],
@@ -135,18 +141,19 @@ fn serve_setup<C: Client>(
     requires even { IsEven sheet.old }
     requires asked { sheet.old.asked ≡ [] }
     requires first { 0 < length clients.old.items }
-    ensures { OnOk result (FirstServes C.opening C.limit (map C.known clients.old.items) sheet.old (map C.known clients.new.items) sheet.new.replies rest.now) }
+    ensures { OnOk result (FirstServes form C.opening C.limit (map C.known clients.old.items) sheet.old (map C.known clients.new.items) sheet.new.replies rest.now) }
 {
     let Some(first) = clients.first_mut() else {
         unreachable!()
     };
-    serve_bytes(alloc, first, sheet, rest)
+    serve_bytes(alloc, form, first, sheet, rest)
 }
 
 /// Serves SETUP's rest by the first client, and then each file by a thread of its own.
 fn serve_all<T: Threads + Wait + Sync, C: Client + Send, G: Gate>(
     rt: &T,
     alloc: Global,
+    form: Form,
     clients: Vec<C>,
     sheet: &mut Sheet<Global>,
     rest: &[u8],
@@ -157,11 +164,11 @@ fn serve_all<T: Threads + Wait + Sync, C: Client + Send, G: Gate>(
     requires asked { sheet.old.asked ≡ [] }
     requires files { 0 < length files.now }
     requires fresh { map C.known clients.items ≡ map (λ _. []) files.now }
-    ensures { IfOk result (λ served. AllServed C.opening C.limit sheet.old rest.now sheet.new.replies (map (λ file. file.items) files.now) (map (λ sheet. sheet.replies) served.sheets.items) (map C.known served.clients.items)) }
+    ensures { IfOk result (λ served. AllServed form C.opening C.limit sheet.old rest.now sheet.new.replies (map (λ file. file.items) files.now) (map (λ sheet. sheet.replies) served.sheets.items) (map C.known served.clients.items)) }
 {
     let mut clients = clients;
-    serve_setup(alloc, &mut clients, sheet, rest)?;
-    serve_files(rt, alloc, clients, files, gate)
+    serve_setup(alloc, form, &mut clients, sheet, rest)?;
+    serve_files(rt, alloc, form, clients, files, gate)
 }
 
 /// A client for each session.
@@ -203,6 +210,7 @@ fn serve_in<
 >(
     rt: &T,
     alloc: Global,
+    form: Form,
     hall: &Hall<'_, N, R>,
     sessions: Vec<BoardSession<N>>,
     sheet: &mut Sheet<Global>,
@@ -215,10 +223,10 @@ fn serve_in<
     requires asked { sheet.old.asked ≡ [] }
     requires files { 0 < length files.now }
     requires fresh { map (λ session. edits_of session.history) sessions.items ≡ map (λ _. []) files.now }
-    ensures { IfOk result (λ served. AllServed (opened_pool N.opening) N.limit sheet.old rest.now sheet.new.replies (map (λ file. file.items) files.now) (map (λ sheet. sheet.replies) served.sheets.items) (map (λ session. edits_of session.history) served.clients.items)) }
+    ensures { IfOk result (λ served. AllServed form (opened_pool N.opening) N.limit sheet.old rest.now sheet.new.replies (map (λ file. file.items) files.now) (map (λ sheet. sheet.replies) served.sheets.items) (map (λ session. edits_of session.history) served.clients.items)) }
 {
     let clients = clients(alloc, hall, sessions)?;
-    let Served { clients, sheets } = serve_all(rt, alloc, clients, sheet, rest, files, gate)?;
+    let Served { clients, sheets } = serve_all(rt, alloc, form, clients, sheet, rest, files, gate)?;
     Ok(Served {
         clients: sessions_of(alloc, clients)?,
         sheets,
@@ -265,6 +273,7 @@ fn serve_room<
     threads: &T,
     rt: &R,
     alloc: Global,
+    form: Form,
     parts: Parts<Board, R>,
     sheet: &mut Sheet<Global>,
     rest: &[u8],
@@ -279,7 +288,7 @@ fn serve_room<
     requires asked { sheet.old.asked ≡ [] }
     requires files { 0 < length files.now }
     requires seats { parts.sessions ≡ length files.now }
-    ensures { OnOk result (RoomServed parts.opening parts.limit sheet.old rest.now (map (λ file. file.items) files.now) (string_bytes page.old) (string_bytes page.new)) }
+    ensures { OnOk result (RoomServed form parts.opening parts.limit sheet.old rest.now (map (λ file. file.items) files.now) (string_bytes page.old) (string_bytes page.new)) }
 {
     let (room, sessions) = match parts.open::<N>() {
         Ok(opened) => opened,
@@ -287,7 +296,7 @@ fn serve_room<
     };
     let hall = Hall { rt, room: &room };
     let Served { clients, sheets } = serve_in(
-        threads, alloc, &hall, sessions, sheet, rest, files, gate,
+        threads, alloc, form, &hall, sessions, sheet, rest, files, gate,
     )?;
     close(rt, alloc, room, clients, page)?;
     put_behind(alloc, sheet, &sheets, page)?;
@@ -298,6 +307,7 @@ fn serve_room<
 fn begin<R: Wait + Drop>(
     rt: R,
     alloc: Global,
+    form: Form,
     setup: Setup<Global>,
     files: usize,
     page: &mut String,
@@ -305,10 +315,10 @@ fn begin<R: Wait + Drop>(
     ensures opening { IfOk result (λ parts. parts.opening ≡ pool_of setup) }
     ensures limit { IfOk result (λ parts. parts.limit ≡ setup.limits.journal) }
     ensures sessions { IfOk result (λ parts. parts.sessions ≡ files) }
-    ensures put { OnOk result (string_bytes page.new ≡ string_bytes page.old ++ (flat_map declaration_line setup.catalog ++ limits_line setup.limits)) }
+    ensures put { OnOk result (string_bytes page.new ≡ string_bytes page.old ++ (form_line form ++ flat_map declaration_line setup.catalog ++ limits_line setup.limits)) }
 {
     let (catalog, limits) = setup.into_parts();
-    put_setup(alloc, &catalog, limits, page)?;
+    put_setup(alloc, form, &catalog, limits, page)?;
     let board = Board::begin(alloc, catalog, limits)?;
     match Room::begin(rt, alloc, board, limits.journal, files) {
         Ok(parts) => Ok(parts),
@@ -328,14 +338,16 @@ fn script_of<T: Threads + Wait + Sync, G: Gate>(
     ensures { IfOk result (λ text. Ran setup.now (map (λ file. file.items) files.now) (string_bytes text)) }
 {
     let Setting {
+        heading,
         setup,
         mut sheet,
         rest,
     } = read_setting(alloc, setup)?;
+    let form = form_of(heading);
     let mut page = String::new(alloc);
-    let parts = begin(rt, alloc, setup, files.len(), &mut page)?;
+    let parts = begin(rt, alloc, form, setup, files.len(), &mut page)?;
     serve_room::<T, Brand, &T, G>(
-        rt, &rt, alloc, parts, &mut sheet, rest, files, gate, &mut page,
+        rt, &rt, alloc, form, parts, &mut sheet, rest, files, gate, &mut page,
     )?;
     Ok(page)
 }

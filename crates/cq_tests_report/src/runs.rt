@@ -76,6 +76,23 @@ fn is_long_told(
 }
 
 #[test]
+fn lines_at_the_limit_of_form_two(rt: HostRuntime) {
+    let shape = b"ok\nrefused Shape at 0\nshow 0\nend\n".as_slice();
+    let limit = b"ok\nrefused Limit at 524288\nshow 0\nend\n".as_slice();
+    for (front, count, expected) in [
+        (b"board 2\n".as_slice(), 524_288, shape),
+        (b"board 2\n#", 524_287, b"ok\nshow 0\nend\n"),
+        (b"board 2\n", 524_289, limit),
+        (b"board 2\n#", 524_288, limit),
+    ] {
+        assert!(rt;
+            is_long_told(rt.alloc(), front, count, expected) == Ok(true),
+            "{count}"
+        );
+    }
+}
+
+#[test]
 fn lines_at_their_limit(rt: HostRuntime) {
     let shape = b"refused Shape at 0\nshow 0\nend\n".as_slice();
     let limit = b"refused Limit at 131072\nshow 0\nend\n".as_slice();

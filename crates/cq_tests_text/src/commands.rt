@@ -52,18 +52,22 @@ fn kinds(rt: HostRuntime) {
 }
 
 /// The first faults of a text as a line, as a query and as a ground atom.
-fn faults(alloc: Global, text: &str) -> [Option<TextFault>; 3] {
+fn faults(alloc: Global, text: &str, form: Form) -> [Option<TextFault>; 3] {
     [
-        read_command(alloc, text.as_bytes(), Form::One).err(),
-        read_query(alloc, text.as_bytes(), Form::One).err(),
-        read_ground_atom(alloc, text.as_bytes(), Form::One).err(),
+        read_command(alloc, text.as_bytes(), form).err(),
+        read_query(alloc, text.as_bytes(), form).err(),
+        read_ground_atom(alloc, text.as_bytes(), form).err(),
     ]
 }
 
 /// The same of as many spaces.
-fn faults_of_spaces(alloc: Global, count: usize) -> Result<[Option<TextFault>; 3], AllocError> {
+fn faults_of_spaces(
+    alloc: Global,
+    count: usize,
+    form: Form,
+) -> Result<[Option<TextFault>; 3], AllocError> {
     let spaces = " ".repeat(alloc, count)?;
-    Ok(faults(alloc, spaces.as_str()))
+    Ok(faults(alloc, spaces.as_str(), form))
 }
 
 fn at(kind: Kind, offset: usize) -> Option<TextFault> {
@@ -72,9 +76,59 @@ fn at(kind: Kind, offset: usize) -> Option<TextFault> {
 
 #[test]
 fn longest_line(rt: HostRuntime) -> Result<(), Fail> {
-    let end = at(Kind::Shape, 131_072);
-    let limit = at(Kind::Limit, 131_072);
-    assert!(rt; faults_of_spaces(rt.alloc(), 131_072)? == [None, end, end]);
-    assert!(rt; faults_of_spaces(rt.alloc(), 131_073)? == [limit, limit, limit]);
+    for (form, most) in [(Form::One, 131_072), (Form::Two, 524_288)] {
+        let end = at(Kind::Shape, most);
+        let limit = at(Kind::Limit, most);
+        let over = most.saturating_add(1);
+        assert!(rt;
+            faults_of_spaces(rt.alloc(), most, form)? == [None, end, end],
+            "{most}"
+        );
+        assert!(rt;
+            faults_of_spaces(rt.alloc(), over, form)? == [limit, limit, limit],
+            "{most}"
+        );
+    }
     Ok(())
+}
+
+/// Where a post is at fault for a limit, in each form.
+fn limits_of(alloc: Global, text: &str) -> [Option<TextFault>; 2] {
+    [
+        read_command(alloc, text.as_bytes(), Form::One).err(),
+        read_command(alloc, text.as_bytes(), Form::Two).err(),
+    ]
+}
+
+#[test]
+fn limits_by_form(rt: HostRuntime) {
+    for (text, one, two) in [
+        ("relation F 8", None, None),
+        ("relation F 9", Some(11), None),
+        ("relation F 17", Some(11), Some(11)),
+        ("post a {} R(1,2,3,4,5,6,7,8,9) <-", Some(28), None),
+        (
+            "post a {} R(1,2,3,4,5,6,7,8,9,1,2,3,4,5,6,7,8) <-",
+            Some(28),
+            Some(44),
+        ),
+        ("insert R(1,2,3,4,5,6,7,8,9)", Some(25), None),
+        (
+            "insert R(1,2,3,4,5,6,7,8,9,1,2,3,4,5,6,7,8)",
+            Some(25),
+            Some(41),
+        ),
+        (
+            "post a {} A(1),A(1),A(1),A(1),A(1),A(1),A(1),A(1),B(1) <-",
+            Some(50),
+            None,
+        ),
+    ] {
+        let told = limits_of(rt.alloc(), text);
+        let wanted = [
+            one.and_then(|offset| at(Kind::Limit, offset)),
+            two.and_then(|offset| at(Kind::Limit, offset)),
+        ];
+        assert!(rt; told == wanted, "{text}");
+    }
 }

@@ -1,5 +1,5 @@
 -- What fits the grammar is read.
-use Rattle.std.proofs.Common.{◌≡◌, ℕ, ℤ, zero, suc, ◌≤◌, Bool, true, false, cond, List, [], ◌∷◌, ◌++◌, length, None, Result, Ok, refl, sym, ap, subst, ◌∙◌, append_assoc, arith, inl, inr}
+use Rattle.std.proofs.Common.{pos, ◌≡◌, ℕ, ℤ, zero, suc, ◌≤◌, Bool, true, false, cond, List, [], ◌∷◌, ◌++◌, length, None, Result, Ok, refl, sym, ap, subst, ◌∙◌, append_assoc, arith, inl, inr}
 use Rattle.std.specs.Prelude.{codes}
 use Rattle.std.specs.List.{AllByRecursion}
 use Rattle.std.proofs.lemmas.Bool.{le-ltb, le-leb}
@@ -13,8 +13,8 @@ use Rattle.cq_atom.specs.Atom.{TermContent, AtomRecord, RowRecord}
 use Rattle.cq_atom.specs.Query.{QueryRecord}
 use Rattle.cq_text.specs.declared.fault.Kind.TheVariants.{Shape}
 use Rattle.cq_text.specs.declared.fault.TextFault.{TextFault}
-use Rattle.cq_text.specs.declared.command.CommandKind.TheVariants.{Blank, Relation, Limits, Post, Withdraw, Insert, Delete, Publish, Show}
-use Rattle.cq_text.specs.declared.limits.TheConstants.{MAX_COUNT}
+use Rattle.cq_text.specs.declared.command.CommandKind.TheVariants.{Blank, Relation, Limits, Post, Withdraw, Insert, Delete, Publish, Show, Board}
+use Rattle.cq_text.specs.declared.limits.TheConstants.{MAX_COUNT, MAX_FORM}
 use Rattle.cq_text.specs.declared.token.Sign.{Sign}
 use Rattle.cq_text.specs.declared.token.Sign.TheVariants.{OpenBrace, CloseBrace, OpenParen, CloseParen, Comma, Arrow}
 use Rattle.cq_text.specs.declared.token.Close.{Close}
@@ -24,12 +24,13 @@ use Rattle.cq_text.specs.Token.{TokenContent, LexemeContent, flaw, tokens_of}
 use Rattle.cq_text.specs.Grammar.{count_of, IsConstant, IsRowText, CommandContent, Separated, IsTermText, IsAtomText, AreAtomsIfAny, IsQueryText, FewTerms, FitsQuery, FitsGrammar}
 use Rattle.cq_text.specs.Steps.Lexemes.{value_in, Ahead, fault, ◌>>=◌, next_of, next_at, is_sign, is_finish, relation_in, term_in, sign_at, end_at, is_close, goes_on_at}
 use Rattle.cq_text.specs.Steps.Lists.{value_at, values_at, row_at, Item, listed_at, term_at, terms_at, applied_at, atom_at, atoms_at, atoms_if_any_at}
-use Rattle.cq_text.specs.Steps.Commands.{count_at, relation_at, limits_at, withdraw_at, insert_at, delete_at, word_alone}
+use Rattle.cq_text.specs.Steps.Commands.{count_at, relation_at, limits_at, withdraw_at, insert_at, delete_at, word_alone, board_at}
 use Rattle.cq_text.proofs.Derive.{is_sign-same}
 use Rattle.cq_text.proofs.Runs.{parts_at, posted, whole, post_parts, command_parts}
 use Rattle.cq_text.proofs.Taken.{AreShort, ahead, closing}
 use Rattle.cq_text.specs.declared.form.Form.{Form}
-use Rattle.cq_text.specs.Forms.{most_terms, most_atoms}
+use Rattle.cq_text.specs.Forms.{most_terms, most_atoms, number_of_form}
+use Rattle.cq_text.specs.declared.form.Form.TheVariants as forms
 
 pub AreShort-append : (a b : List TokenContent) → AreShort (a ++ b) → AreShort a × AreShort b
 AreShort-append [] b h = (tt, h)
@@ -254,6 +255,17 @@ relation_again_at form a w n e u short some few =
     let f = end_is k.0 k.2 in
     rw (l.reads, l.is, relation_again w l.lexeme.at u short, k.1, f.1) refl
 
+board_again : (a : Ahead) (named : Form) → ahead a ≡ Literal (Number (pos (number_of_form named))) ∷ [] → board_at a ≡ Ok (Board named)
+unfolding board_at
+board_again a forms.One e =
+    let k = count_again MAX_FORM a (pos 1) [] e (omega arith) (omega arith) in
+    let f = end_is k.0 k.2 in
+    rw (k.1, f.1) refl
+board_again a forms.Two e =
+    let k = count_again MAX_FORM a (pos 2) [] e (omega arith) (omega arith) in
+    let f = end_is k.0 k.2 in
+    rw (k.1, f.1) refl
+
 limits_again : (a : Ahead) (m n : ℤ) → ahead a ≡ Literal (Number m) ∷ Literal (Number n) ∷ [] → 1 ≤ count_of m → count_of m ≤ MAX_COUNT → 1 ≤ count_of n → count_of n ≤ MAX_COUNT → limits_at a ≡ Ok (Limits (count_of m) (count_of n))
 unfolding limits_at
 limits_again a m n e some few more fewer =
@@ -329,6 +341,7 @@ parts_again form a query (ps, hs, bs, e, p, h, b) short fits =
 abbrev pub ReadAs : (form : Form) → Ahead → CommandContent → Type 0
 ReadAs form a Blank = ⊥
 ReadAs form a (Relation n c) = command_parts form a ≡ Ok (whole (Relation n c))
+ReadAs form a (Board named) = command_parts form a ≡ Ok (whole (Board named))
 ReadAs form a (Limits p j) = command_parts form a ≡ Ok (whole (Limits p j))
 ReadAs form a (Post w query) = (inner : Ahead) × (command_parts form a ≡ Ok (posted w (query.posts, query.heads, query.body, inner)))
 ReadAs form a (Withdraw n) = command_parts form a ≡ Ok (whole (Withdraw n))
@@ -347,6 +360,10 @@ command_again form a (Relation w c) f =
     let l = next_is a (Word (codes "relation")) (Word w ∷ Literal (Number n) ∷ []) f.sentence.1 refl in
     let r = relation_again_at form l.rest w n l.left f.sentence.2 s.1.0 (subst (λ (k : ℕ). 1 ≤ k) is f.fits.0) (subst (λ (k : ℕ). k ≤ most_terms form) is f.fits.1) in
     rw (l.reads, l.is, r) (ap (λ (k : ℕ). Ok (whole (Relation w k))) (sym is))
+command_again form a (Board named) f =
+    let l = next_is a (Word (codes "board")) (Literal (Number (pos (number_of_form named))) ∷ []) f.sentence refl in
+    let r = board_again l.rest named l.left in
+    rw (l.reads, l.is, r) refl
 command_again form a (Limits p j) f =
     let m = f.sentence.0 in
     let n = f.sentence.1 in

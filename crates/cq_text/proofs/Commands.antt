@@ -5,7 +5,7 @@ use Rattle.std.specs.Str.{bytes_eq}
 use Rattle.std.proofs.lemmas.Bool.Decides.{Decides-eqb}
 use Rattle.std.proofs.lemmas.Slice.Eq.{slice_eq-Decides}
 use Rattle.cq_text.specs.declared.command.CommandWord.{CommandWord}
-use Rattle.cq_text.specs.declared.command.CommandWord.TheVariants.{Relation, Limits, Post, Withdraw, Insert, Delete, Publish, Show}
+use Rattle.cq_text.specs.declared.command.CommandWord.TheVariants.{Relation, Board, Limits, Post, Withdraw, Insert, Delete, Publish, Show}
 use Rattle.cq_text.specs.Steps.Commands.{command_word, bytes_of}
 
 pub bytes_eq-true : (w n : List ℕ) → bytes_eq w n ≡ true → w ≡ n
@@ -21,11 +21,12 @@ compared w n here k others is rest e = by_case (bytes_eq w n) refl e
 
 pub command_word-is : (w : List ℕ) (k : CommandWord) → command_word w ≡ Some k → w ≡ bytes_of k
 command_word-is w k =
-    compared w (codes "relation") Relation k _ refl (compared w (codes "limits") Limits k _ refl (compared w (codes "post") Post k _ refl (compared w (codes "withdraw") Withdraw k _ refl
-    (compared w (codes "insert") Insert k _ refl (compared w (codes "delete") Delete k _ refl (compared w (codes "publish") Publish k _ refl (compared w (codes "show") Show k _ refl (λ e. absurd cc))))))))
+    compared w (codes "relation") Relation k _ refl (compared w (codes "board") Board k _ refl (compared w (codes "limits") Limits k _ refl (compared w (codes "post") Post k _ refl (compared w (codes "withdraw") Withdraw k _ refl
+    (compared w (codes "insert") Insert k _ refl (compared w (codes "delete") Delete k _ refl (compared w (codes "publish") Publish k _ refl (compared w (codes "show") Show k _ refl (λ e. absurd cc)))))))))
 
 pub command_word-same : (k : CommandWord) → command_word (bytes_of k) ≡ Some k
 command_word-same Relation = refl
+command_word-same Board = refl
 command_word-same Limits = refl
 command_word-same Post = refl
 command_word-same Withdraw = refl

@@ -8,7 +8,7 @@ use Rattle.cq_atom.specs.declared.term.TermKind.TheVariants.{Constant, Variable}
 use Rattle.cq_atom.specs.Text.{begins_with_upper, begins_with_lower}
 use Rattle.cq_atom.specs.Value.{ValueContent}
 use Rattle.cq_atom.specs.Atom.{TermContent, AtomRecord}
-use Rattle.cq_text.specs.declared.command.CommandKind.TheVariants.{Blank, Relation, Limits, Post, Withdraw, Insert, Delete, Publish, Show}
+use Rattle.cq_text.specs.declared.command.CommandKind.TheVariants.{Blank, Relation, Limits, Post, Withdraw, Insert, Delete, Publish, Show, Board}
 use Rattle.cq_text.specs.declared.command.CommandWord.{CommandWord}
 use Rattle.cq_text.specs.declared.command.CommandWord.TheVariants as words
 use Rattle.cq_text.specs.declared.token.Sign.{Sign}
@@ -21,6 +21,7 @@ use Rattle.cq_text.specs.Steps.Commands.{command_word, bytes_of}
 use Rattle.cq_text.specs.Steps.Lexemes.{code, is_sign, is_finish}
 use Rattle.cq_text.proofs.Commands.{command_word-is}
 use Rattle.cq_text.proofs.Machine.{upper, number, value, values_end, row_symbols, after_command, first_upper, first_number, first_value, Symbol, mark, name, term, terms_end, atom, posts_end, heads_end, posts, command, atom_symbols, query_symbols, when, first_of_atom, first_term, first_name, first_in_list, first_command, first, take_token, Closed, Tail, Is, Expects, Expects-append, Expects-split, body_end, body, is_nullable, Rest, Holds, OnlyLast, Ordered, is_last}
+use Rattle.cq_text.specs.Forms.{number_of_form}
 
 -- ---- tests
 
@@ -237,6 +238,8 @@ Leaves-command : (t : TokenContent) (ts : List TokenContent) (c : CommandContent
 Leaves-command t ts Blank s = absurd s
 Leaves-command t ts (Relation n a) (m, e, u, k) =
     behind_word words.Relation t ts (Word n ∷ Literal (Number m) ∷ []) e refl (Expects-two upper number (Word n ∷ []) (Literal (Number m) ∷ []) (n, refl, u) (m, refl))
+Leaves-command t ts (Board f) e =
+    behind_word words.Board t ts (Literal (Number (pos (number_of_form f))) ∷ []) e refl (Expects-one number (Literal (Number (pos (number_of_form f))) ∷ []) (pos (number_of_form f), refl))
 Leaves-command t ts (Limits p j) (m, n, e, k, i) =
     behind_word words.Limits t ts (Literal (Number m) ∷ Literal (Number n) ∷ []) e refl (Expects-two number number (Literal (Number m) ∷ []) (Literal (Number n) ∷ []) (m, refl) (n, refl))
 Leaves-command t ts (Post n query) (rest, e, q) =
@@ -262,7 +265,8 @@ Leaves-from_is heads_end t ts h = Leaves-in_list IsAtomText atom heads_end Arrow
 Leaves-from_is body_end t ts h = Leaves-body_end t ts h
 Leaves-from_is body t ts (xs, m) = Leaves-body t ts xs m
 Leaves-from_is posts t ts (inner, xs, e, m) = Leaves-posts t ts inner xs e m
-Leaves-from_is command t ts (c, s) = Leaves-command t ts c s
+Leaves-from_is command t ts (inl (c, s)) = Leaves-command t ts c s
+Leaves-from_is command t ts (inr (n, e)) = behind_word words.Board t ts (Literal (Number n) ∷ []) e refl (Expects-one number (Literal (Number n) ∷ []) (n, refl))
 
 -- which symbols stand for nothing
 no_end : (inner : List TokenContent) (s : TokenContent) → [] ≡ inner ++ (s ∷ []) → ⊥
@@ -285,6 +289,7 @@ no_tail P close (inr (i, e, c)) = cc
 no_command : (c : CommandContent) → IsSentence [] c → ⊥
 no_command Blank s = s
 no_command (Relation n a) (m, e, u, k) = cc
+no_command (Board f) e = cc
 no_command (Limits p j) (m, n, e, k, i) = cc
 no_command (Post n query) (rest, e, q) = cc
 no_command (Withdraw n) e = cc
@@ -308,7 +313,8 @@ Is-nothing heads_end h = no_tail IsAtomText Arrow h
 Is-nothing body_end h = tt
 Is-nothing body h = tt
 Is-nothing posts (inner, xs, e, m) = no_end inner (Mark CloseBrace) e
-Is-nothing command (c, s) = no_command c s
+Is-nothing command (inl (c, s)) = no_command c s
+Is-nothing command (inr (n, e)) = cc
 
 -- ---- from the symbols to the text
 
@@ -442,7 +448,7 @@ query_from_expected ts (f2, r2, e2, i2, (f3, r3, e3, (inner, xs, i3, m), (f4, r4
 Is-more-post : (ts : List TokenContent) → Expects (name ∷ query_symbols) ts → IsCommandText (Word (codes "post") ∷ ts)
 Is-more-post ts (f, r, e, (w, i), more) =
     let q = query_from_expected r more in
-    (Post w q.0, (r, ap (λ (l : List TokenContent). Word (codes "post") ∷ l) (e ∙ ap (λ (l : List TokenContent). l ++ r) i), q.1))
+    inl (Post w q.0, (r, ap (λ (l : List TokenContent). Word (codes "post") ∷ l) (e ∙ ap (λ (l : List TokenContent). l ++ r) i), q.1))
 
 pub row_from_expected : (ts : List TokenContent) → Expects row_symbols ts → IsLoneRow ts
 row_from_expected ts (f, r, e, (w, i, u), (f2, r2, e2, i2, more)) =
@@ -457,7 +463,7 @@ Is-more-relation ts q =
     let w = two.3.0 in
     let n = two.4.0 in
     let tokens : ts ≡ Word w ∷ Literal (Number n) ∷ [] = two.2 ∙ ap (λ (l : List TokenContent). l ++ two.1) two.3.1 ∙ ap (λ (l : List TokenContent). Word w ∷ l) two.4.1 in
-    (Relation w (count_of n), (n, ap (λ (l : List TokenContent). Word (codes "relation") ∷ l) tokens, two.3.2, refl))
+    inl (Relation w (count_of n), (n, ap (λ (l : List TokenContent). Word (codes "relation") ∷ l) tokens, two.3.2, refl))
 
 Is-more-limits : (ts : List TokenContent) → Expects (number ∷ number ∷ []) ts → IsCommandText (Word (codes "limits") ∷ ts)
 Is-more-limits ts q =
@@ -465,18 +471,19 @@ Is-more-limits ts q =
     let m = two.3.0 in
     let n = two.4.0 in
     let tokens : ts ≡ Literal (Number m) ∷ Literal (Number n) ∷ [] = two.2 ∙ ap (λ (l : List TokenContent). l ++ two.1) two.3.1 ∙ ap (λ (l : List TokenContent). Literal (Number m) ∷ l) two.4.1 in
-    (Limits (count_of m) (count_of n), (m, n, ap (λ (l : List TokenContent). Word (codes "limits") ∷ l) tokens, refl, refl))
+    inl (Limits (count_of m) (count_of n), (m, n, ap (λ (l : List TokenContent). Word (codes "limits") ∷ l) tokens, refl, refl))
 
 -- a command word, and what its symbols stand for
 command_from_expected : (k : CommandWord) (ts : List TokenContent) → Expects (after_command k) ts → IsCommandText (Word (bytes_of k) ∷ ts)
 command_from_expected words.Relation ts q = Is-more-relation ts q
+command_from_expected words.Board ts q = let i = Is-from_one number ts q in inr (i.0, ap (λ (l : List TokenContent). Word (codes "board") ∷ l) i.1)
 command_from_expected words.Limits ts q = Is-more-limits ts q
 command_from_expected words.Post ts q = Is-more-post ts q
-command_from_expected words.Withdraw ts q = let i = Is-from_one name ts q in (Withdraw i.0, ap (λ (l : List TokenContent). Word (codes "withdraw") ∷ l) i.1)
-command_from_expected words.Insert ts q = let r = row_from_expected ts q in (Insert r.0, (ts, refl, r.1))
-command_from_expected words.Delete ts q = let r = row_from_expected ts q in (Delete r.0, (ts, refl, r.1))
-command_from_expected words.Publish ts q = (Publish, ap (λ (l : List TokenContent). Word (codes "publish") ∷ l) q)
-command_from_expected words.Show ts q = (Show, ap (λ (l : List TokenContent). Word (codes "show") ∷ l) q)
+command_from_expected words.Withdraw ts q = let i = Is-from_one name ts q in inl (Withdraw i.0, ap (λ (l : List TokenContent). Word (codes "withdraw") ∷ l) i.1)
+command_from_expected words.Insert ts q = let r = row_from_expected ts q in inl (Insert r.0, (ts, refl, r.1))
+command_from_expected words.Delete ts q = let r = row_from_expected ts q in inl (Delete r.0, (ts, refl, r.1))
+command_from_expected words.Publish ts q = inl (Publish, ap (λ (l : List TokenContent). Word (codes "publish") ∷ l) q)
+command_from_expected words.Show ts q = inl (Show, ap (λ (l : List TokenContent). Word (codes "show") ∷ l) q)
 
 map_word : (o : Option CommandWord) (r : List Symbol) → option_map after_command o ≡ Some r → (k : CommandWord) × (o ≡ Some k) × (after_command k ≡ r)
 map_word None r e = absurd cc
@@ -599,7 +606,7 @@ shortest heads_end = (Mark Arrow ∷ [], inl refl)
 shortest body_end = ([], inl refl)
 shortest body = ([], ([], refl))
 shortest posts = (Mark CloseBrace ∷ [], ([], [], refl, refl))
-shortest command = (Word (codes "show") ∷ [], (Show, refl))
+shortest command = (Word (codes "show") ∷ [], inl (Show, refl))
 
 pub completion : (ss : List Symbol) → (ts : List TokenContent) × Expects ss ts
 completion [] = ([], refl)

@@ -8,7 +8,7 @@ use Rattle.cq_text.specs.declared.fault.Kind.{Kind}
 use Rattle.cq_text.specs.declared.fault.Kind.TheVariants as kinds
 use Rattle.cq_text.specs.declared.fault.TextFault.{TextFault}
 use Rattle.cq_text.specs.declared.fault.TextFault.TheVariants.{At, NoMemory}
-use Rattle.cq_text.specs.declared.command.CommandKind.TheVariants.{Blank, Relation, Limits, Post, Withdraw, Insert, Delete, Publish, Show}
+use Rattle.cq_text.specs.declared.command.CommandKind.TheVariants.{Blank, Relation, Board, Limits, Post, Withdraw, Insert, Delete, Publish, Show}
 use Rattle.cq_text.specs.declared.token.Token.TheVariants.{Word}
 use Rattle.cq_text.specs.Token.{TokenContent, LexemeContent, tokens_of}
 use Rattle.cq_text.specs.Lexing.{is_space, is_blank, front, lexemes, lexemes_of}
@@ -90,6 +90,7 @@ by_parts form a p e = command_by_parts form a ∙ ap (λ (r : Result Parts TextF
 pub command_only : (form : Form) → (a : Ahead) (c : CommandContent) → FitsGrammar form a.lexemes c → IsRestrictedCommand c → command_at form a ≡ Ok c
 command_only form a Blank f restricted = absurd f.sentence
 command_only form a (Relation n k) f restricted = by_parts form a (whole (Relation n k)) (command_again form a (Relation n k) f)
+command_only form a (Board named) f restricted = by_parts form a (whole (Board named)) (command_again form a (Board named) f)
 command_only form a (Limits m n) f restricted = by_parts form a (whole (Limits m n)) (command_again form a (Limits m n) f)
 command_only form a (Post w query) f restricted =
     let r = command_again form a (Post w query) f in
@@ -265,6 +266,7 @@ no_token at (b ∷ bs) e w more h = by_case (is_space b) refl e h (no_token (at 
 begins_word : (ts : List TokenContent) (c : CommandContent) → IsSentence ts c → (w : List ℕ) × (more : List TokenContent) × (ts ≡ Word w ∷ more)
 begins_word ts Blank s = absurd s
 begins_word ts (Relation n a) (m, e, u, k) = (_, _, e)
+begins_word ts (Board named) e = (_, _, e)
 begins_word ts (Limits p j) (m, n, e, k, i) = (_, _, e)
 begins_word ts (Post n query) (rest, e, q) = (_, _, e)
 begins_word ts (Withdraw n) e = (_, _, e)

@@ -97,6 +97,7 @@ first_in_list item again close t = cond (is_sign Comma t) (Some (item ∷ again 
 
 abbrev pub after_command : CommandWord → List Symbol
 after_command words.Relation = upper ∷ number ∷ []
+after_command words.Board = number ∷ []
 after_command words.Limits = number ∷ number ∷ []
 after_command words.Post = name ∷ query_symbols
 after_command words.Withdraw = name ∷ []
@@ -251,6 +252,7 @@ left_list item again close t i a = left_cond false (is_sign Comma t) (item ∷ a
 
 left_word : (k : CommandWord) → Ordered (after_command k)
 left_word words.Relation = (tt, (tt, tt))
+left_word words.Board = (tt, tt)
 left_word words.Limits = (tt, (tt, tt))
 left_word words.Post = (tt, (tt, (tt, (tt, (tt, (refl, tt))))))
 left_word words.Withdraw = (tt, tt)

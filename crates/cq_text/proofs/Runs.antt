@@ -12,7 +12,7 @@ use Rattle.cq_atom.specs.Query.{QueryRecord}
 use Rattle.cq_text.specs.declared.fault.Kind.{Kind}
 use Rattle.cq_text.specs.declared.fault.Kind.TheVariants.{Shape, Limit}
 use Rattle.cq_text.specs.declared.fault.TextFault.{TextFault}
-use Rattle.cq_text.specs.declared.limits.TheConstants.{MAX_COUNT}
+use Rattle.cq_text.specs.declared.limits.TheConstants.{MAX_COUNT, MAX_FORM}
 use Rattle.cq_text.specs.declared.command.CommandKind.TheVariants.{Post, Publish, Show}
 use Rattle.cq_text.specs.declared.command.CommandWord.{CommandWord}
 use Rattle.cq_text.specs.declared.command.CommandWord.TheVariants as words
@@ -24,7 +24,7 @@ use Rattle.cq_text.specs.declared.token.Token.TheVariants.{Mark, Word, Literal, 
 use Rattle.cq_text.specs.Token.{TokenContent, LexemeContent, flaw}
 use Rattle.cq_text.specs.Grammar.{CommandContent, count_of}
 use Rattle.cq_text.specs.Fault.{Place, opening, most_behind, behind_token, is_over}
-use Rattle.cq_text.specs.Steps.Commands.{command_word, bytes_of, count_in, count_at, relation_at, limits_at, withdraw_at, insert_at, delete_at, command_of, command_word_in, post_at, word_alone, command_from, command_at}
+use Rattle.cq_text.specs.Steps.Commands.{command_word, bytes_of, count_in, count_at, relation_at, limits_at, withdraw_at, insert_at, delete_at, command_of, command_word_in, post_at, word_alone, command_from, command_at, board_at}
 use Rattle.cq_text.specs.Steps.Lexemes.{value_in, Ahead, fault, unless_flawed, ◌>>=◌, next_of, next_at, is_sign, is_finish, name_in, relation_in, term_in, sign_at, end_at, goes_on_at}
 use Rattle.cq_text.specs.Steps.Lists.{value_at, values_at, row_at, Item, listed_at, term_at, terms_at, applied_at, atom_at, atoms_at, atoms_if_any_at, bound_query, query_at}
 use Rattle.cq_text.proofs.Binds.{bind_assoc, bind_same, bind_cond, bind_never, bind_ok_same}
@@ -179,7 +179,7 @@ meet_upper form ss p Finish at r k c d h = refl
 
 -- an upper-case identifier is no command word, so it sets no range
 upper_most : (form : Form) → (w : List ℕ) (most : Option ℕ) → begins_with_upper w ≡ true → most_behind form w most ≡ most
-upper_most form w most u = by_case (bytes_eq w (codes "relation")) (bytes_eq w (codes "limits")) refl refl
+upper_most form w most u = by_case (bytes_eq w (codes "relation")) (bytes_eq w (codes "limits")) (bytes_eq w (codes "board")) refl refl refl
   where
     no_relation : begins_with_upper (codes "relation") ≡ true → ⊥
     no_relation h = cc
@@ -187,10 +187,14 @@ upper_most form w most u = by_case (bytes_eq w (codes "relation")) (bytes_eq w (
     no_limits : begins_with_upper (codes "limits") ≡ true → ⊥
     no_limits h = cc
 
-    by_case : (x y : Bool) → bytes_eq w (codes "relation") ≡ x → bytes_eq w (codes "limits") ≡ y → most_behind form w most ≡ most
-    by_case true y e f = absurd (no_relation (subst (λ (v : List ℕ). begins_with_upper v ≡ true) (bytes_eq-true w (codes "relation") e) u))
-    by_case false true e f = absurd (no_limits (subst (λ (v : List ℕ). begins_with_upper v ≡ true) (bytes_eq-true w (codes "limits") f) u))
-    by_case false false e f = rw (e, f) refl
+    no_board : begins_with_upper (codes "board") ≡ true → ⊥
+    no_board h = cc
+
+    by_case : (x y z : Bool) → bytes_eq w (codes "relation") ≡ x → bytes_eq w (codes "limits") ≡ y → bytes_eq w (codes "board") ≡ z → most_behind form w most ≡ most
+    by_case true y z e f g = absurd (no_relation (subst (λ (v : List ℕ). begins_with_upper v ≡ true) (bytes_eq-true w (codes "relation") e) u))
+    by_case false true z e f g = absurd (no_limits (subst (λ (v : List ℕ). begins_with_upper v ≡ true) (bytes_eq-true w (codes "limits") f) u))
+    by_case false false true e f g = absurd (no_board (subst (λ (v : List ℕ). begins_with_upper v ≡ true) (bytes_eq-true w (codes "board") g) u))
+    by_case false false false e f g = rw (e, f, g) refl
 
 -- ---- counts
 
@@ -595,6 +599,7 @@ whole_parts r = r >>= λ c. Ok (whole c)
 
 abbrev pub parts_of : (form : Form) → CommandWord → Ahead → Result Parts TextFault
 parts_of form words.Relation a = whole_parts (relation_at form a)
+parts_of form words.Board a = whole_parts (board_at a)
 parts_of form words.Limits a = whole_parts (limits_at a)
 parts_of form words.Post a = post_parts form a
 parts_of form words.Withdraw a = whole_parts (withdraw_at a)
@@ -622,6 +627,7 @@ whole_by_parts (Err e) = refl
 
 word_by_parts : (form : Form) → (word : CommandWord) (a : Ahead) → command_of form word a ≡ (parts_of form word a >>= command_of_parts)
 word_by_parts form words.Relation a = whole_by_parts (relation_at form a)
+word_by_parts form words.Board a = whole_by_parts (board_at a)
 word_by_parts form words.Limits a = whole_by_parts (limits_at a)
 word_by_parts form words.Post a = post_by_parts form a
 word_by_parts form words.Withdraw a = whole_by_parts (withdraw_at a)
@@ -654,6 +660,13 @@ run_relation form a =
     (λ w u. ap (λ (m : Option ℕ). run form (number ∷ []) (place 0 0 m) l.1) (upper_most form w (Some (most_terms form)) u)
     ∙ run_count form [] 0 0 (most_terms form) l.1 (low_at_first form)
     ∙ bind_same (count_at (most_terms form) l.1) _ _ (λ n. run_end form (place 0 0 (Some (most_terms form))) n.1)))
+    ∙ sym (simp bind_assoc)
+
+run_board : (form : Form) → (a : Ahead) → run form (number ∷ []) (place 0 0 (Some MAX_FORM)) a ≡ (board_at a >>= λ c. Ok tt)
+unfolding board_at
+run_board form a =
+    run_count form [] 0 0 MAX_FORM a (low_at_first form)
+    ∙ bind_same (count_at MAX_FORM a) _ _ (λ n. run_end form (place 0 0 (Some MAX_FORM)) n.1)
     ∙ sym (simp bind_assoc)
 
 run_limits : (form : Form) → (a : Ahead) → run form (number ∷ number ∷ []) (place 0 0 (Some MAX_COUNT)) a ≡ (limits_at a >>= λ c. Ok tt)
@@ -692,6 +705,7 @@ opened form w at a e = ap (λ (b : Bool). on_token (take_token (command ∷ []) 
 
 meet_word : (form : Form) → (word : CommandWord) (at : ℕ) (a : Ahead) → AtWord form (bytes_of word) at a
 meet_word form words.Relation at a = opened form (codes "relation") at a refl ∙ run_whole form (upper ∷ number ∷ []) (place 0 0 (Some (most_terms form))) a (relation_at form a) (run_relation form a)
+meet_word form words.Board at a = opened form (codes "board") at a refl ∙ run_whole form (number ∷ []) (place 0 0 (Some MAX_FORM)) a (board_at a) (run_board form a)
 meet_word form words.Limits at a = opened form (codes "limits") at a refl ∙ run_whole form (number ∷ number ∷ []) (place 0 0 (Some MAX_COUNT)) a (limits_at a) (run_limits form a)
 meet_word form words.Post at a = opened form (codes "post") at a refl ∙ run_post form a
 meet_word form words.Withdraw at a = opened form (codes "withdraw") at a refl ∙ run_whole form (name ∷ []) opening a (withdraw_at a) (run_withdraw form a)

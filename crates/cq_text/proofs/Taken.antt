@@ -1,5 +1,5 @@
 -- What is read fits the grammar.
-use Rattle.std.proofs.Common.{◌≡◌, ℕ, ℤ, zero, suc, ◌≤◌, Bool, true, false, cond, List, [], ◌∷◌, ◌++◌, length, Option, Some, None, Result, Ok, refl, sym, ap, subst, ◌∙◌, append_assoc, arith, inl, inr, ◌⊎◌}
+use Rattle.std.proofs.Common.{pos, negsuc, ◌≡◌, ℕ, ℤ, zero, suc, ◌≤◌, Bool, true, false, cond, List, [], ◌∷◌, ◌++◌, length, Option, Some, None, Result, Ok, refl, sym, ap, subst, ◌∙◌, append_assoc, arith, inl, inr, ◌⊎◌}
 use Rattle.std.specs.Prelude.{nat_lt, nat_le, ◌&&◌, codes}
 use Rattle.std.specs.List.{AllByRecursion}
 use Rattle.std.proofs.lemmas.Bool.{ltb-false, leb-true}
@@ -12,8 +12,8 @@ use Rattle.cq_atom.specs.Atom.{TermContent, AtomRecord, RowRecord}
 use Rattle.cq_text.specs.declared.fault.Kind.{Kind}
 use Rattle.cq_text.specs.declared.fault.Kind.TheVariants.{Shape, Limit}
 use Rattle.cq_text.specs.declared.fault.TextFault.{TextFault}
-use Rattle.cq_text.specs.declared.command.CommandKind.TheVariants.{Relation, Limits, Post, Withdraw, Insert, Delete, Publish, Show}
-use Rattle.cq_text.specs.declared.limits.TheConstants.{MAX_COUNT}
+use Rattle.cq_text.specs.declared.command.CommandKind.TheVariants.{Relation, Limits, Post, Withdraw, Insert, Delete, Publish, Show, Board}
+use Rattle.cq_text.specs.declared.limits.TheConstants.{MAX_COUNT, MAX_FORM}
 use Rattle.cq_text.specs.declared.command.CommandWord.{CommandWord}
 use Rattle.cq_text.specs.declared.command.CommandWord.TheVariants as words
 use Rattle.cq_text.specs.declared.token.Sign.{Sign}
@@ -23,7 +23,7 @@ use Rattle.cq_text.specs.declared.token.Close.TheVariants.{By, End}
 use Rattle.cq_text.specs.declared.token.Token.TheVariants.{Mark, Word, Literal, Bad, Finish}
 use Rattle.cq_text.specs.Token.{TokenContent, LexemeContent, flaw, tokens_of}
 use Rattle.cq_text.specs.Grammar.{count_of, IsConstant, FitsRowGrammar, IsRestrictedCommand, CommandContent, Separated, IsTermText, IsAtomText, AreAtomsIfAny, IsShort, FewTerms, FitsQuery, FitsGrammar, FitsQueryGrammar}
-use Rattle.cq_text.specs.Steps.Commands.{command_word, bytes_of, count_in, count_at, relation_at, limits_at, withdraw_at, insert_at, delete_at, word_alone, command_word_in}
+use Rattle.cq_text.specs.Steps.Commands.{command_word, bytes_of, count_in, count_at, relation_at, limits_at, withdraw_at, insert_at, delete_at, word_alone, command_word_in, board_at, form_numbered}
 use Rattle.cq_text.specs.Steps.Lexemes.{value_in, Ahead, fault, unless_flawed, ◌>>=◌, next_of, next_at, is_sign, is_finish, short_word, name_in, relation_in, term_in, sign_at, end_at, is_close, goes_on_at}
 use Rattle.cq_text.specs.Steps.Lists.{value_at, values_at, row_record, row_at, Item, listed_at, term_at, terms_at, applied_at, atom_record, atom_at, atoms_at, atoms_if_any_at, query_record}
 use Rattle.cq_text.proofs.Binds.{bind_ok, guard_ok, guard_not, chosen, ok_is, never_ok}
@@ -33,7 +33,7 @@ use Rattle.cq_text.proofs.Commands.{command_word-is}
 use Rattle.cq_text.proofs.Derive.{is_sign-true}
 use Rattle.cq_text.proofs.Runs.{QueryParts, parts_at, Parts, posted, whole, post_parts, whole_parts, parts_of, parts_from, command_parts}
 use Rattle.cq_text.specs.declared.form.Form.{Form}
-use Rattle.cq_text.specs.Forms.{most_terms, most_atoms}
+use Rattle.cq_text.specs.Forms.{most_terms, most_atoms, number_of_form}
 
 abbrev pub AreShort : List TokenContent → Type 0
 AreShort ts = AllByRecursion IsShort ts
@@ -587,6 +587,27 @@ relation_read form l a c is e =
     subst (λ (z : CommandContent). WholeRead form (l ∷ a.lexemes) z) (ok_is (Relation q.0 n.0.0) c f.2)
     (record { fits = record { sentence = (k.number, tokens, u.upper, k.count); short = subst AreShort (sym tokens) (omega arith, (u.short, (tt, tt))); fits = (k.some, k.few) }; restricted = tt })
 
+-- a number from 1 to 2 is that of its form
+number_named : (n : ℤ) (k : ℕ) → k ≡ count_of n → 1 ≤ k → k ≤ 2 → n ≡ pos (number_of_form (form_numbered k))
+number_named (negsuc m) k e some few = absurd (let never : ⊥ = omega (arith, e) in never)
+number_named (pos zero) k e some few = absurd (let never : ⊥ = omega (arith, e) in never)
+number_named (pos (suc zero)) k e some few = rw e refl
+number_named (pos (suc (suc zero))) k e some few = rw e refl
+number_named (pos (suc (suc (suc m)))) k e some few = absurd (let never : ⊥ = omega (arith, e) in never)
+
+board_read : (form : Form) → (l : LexemeContent) (a : Ahead) (c : CommandContent) → l.token ≡ Word (codes "board") → board_at a ≡ Ok c → WholeRead form (l ∷ a.lexemes) c
+unfolding board_at
+board_read form l a c is e =
+    let n = bind_ok (count_at MAX_FORM a) _ c e in
+    let f = bind_ok (end_at n.0.1) _ c n.2 in
+    let k = count_ok MAX_FORM a n.0 n.1 in
+    let named = number_named k.number n.0.0 k.count k.some k.few in
+    let tokens : l.token ∷ ahead a ≡ Word (codes "board") ∷ Literal (Number (pos (number_of_form (form_numbered n.0.0)))) ∷ [] =
+    ap (λ (t : TokenContent). t ∷ ahead a) is ∙ ap (λ (ts : List TokenContent). Word (codes "board") ∷ ts) (k.parts ∙ ap (λ (ts : List TokenContent). Literal (Number k.number) ∷ ts) (end_ok n.0.1 f.0 f.1) ∙ ap (λ (m : ℤ). Literal (Number m) ∷ []) named)
+    in
+    subst (λ (z : CommandContent). WholeRead form (l ∷ a.lexemes) z) (ok_is (Board (form_numbered n.0.0)) c f.2)
+    (record { fits = record { sentence = tokens; short = subst AreShort (sym tokens) (omega arith, (tt, tt)); fits = tt }; restricted = tt })
+
 limits_read : (form : Form) → (l : LexemeContent) (a : Ahead) (c : CommandContent) → l.token ≡ Word (codes "limits") → limits_at a ≡ Ok c → WholeRead form (l ∷ a.lexemes) c
 unfolding limits_at
 limits_read form l a c is e =
@@ -656,6 +677,7 @@ whole_ok form ls r p read e = let c = bind_ok r (λ c. Ok (whole c)) p e in subs
 -- what stands behind a command word
 parts_of_ok : (form : Form) → (word : CommandWord) (l : LexemeContent) (a : Ahead) (p : Parts) → l.token ≡ Word (bytes_of word) → parts_of form word a ≡ Ok p → PartsRead form (l ∷ a.lexemes) p
 parts_of_ok form words.Relation l a p is e = whole_ok form (l ∷ a.lexemes) (relation_at form a) p (λ c h. relation_read form l a c is h) e
+parts_of_ok form words.Board l a p is e = whole_ok form (l ∷ a.lexemes) (board_at a) p (λ c h. board_read form l a c is h) e
 parts_of_ok form words.Limits l a p is e = whole_ok form (l ∷ a.lexemes) (limits_at a) p (λ c h. limits_read form l a c is h) e
 parts_of_ok form words.Post l a p is e = post_ok form l a p is e
 parts_of_ok form words.Withdraw l a p is e = whole_ok form (l ∷ a.lexemes) (withdraw_at a) p (λ c h. withdraw_read form l a c is h) e

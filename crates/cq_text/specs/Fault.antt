@@ -1,5 +1,5 @@
 -- The first fault of a text. (this project's profile)
-use Rattle.std.specs.Prelude.{◌≡◌, ℕ, ◌+◌, ◌<◌, ◌≤◌, List, [], ◌∷◌, ◌++◌, length, fold, codes, Bool, true, false, not, ◌||◌, ◌&&◌, nat_lt, nat_le, Option, Some, None, ◌⊎◌, IsTrue, if◌then◌else◌}
+use Rattle.std.specs.Prelude.{◌≡◌, ℕ, ℤ, ◌+◌, ◌<◌, ◌≤◌, List, [], ◌∷◌, ◌++◌, length, fold, codes, Bool, true, false, not, ◌||◌, ◌&&◌, nat_lt, nat_le, Option, Some, None, ◌⊎◌, IsTrue, if◌then◌else◌}
 use Rattle.std.specs.Str.{bytes_eq}
 use Rattle.cq_atom.specs.declared.limits.TheConstants.{MAX_NAME}
 use Rattle.cq_atom.specs.declared.value.Content.TheVariants.{Number, Text}
@@ -8,7 +8,7 @@ use Rattle.cq_atom.specs.Text.{begins_with_lower}
 use Rattle.cq_atom.specs.Value.{ValueContent}
 use Rattle.cq_atom.specs.Atom.{AtomRecord, RowRecord}
 use Rattle.cq_atom.specs.Query.{QueryRecord, is_bound}
-use Rattle.cq_text.specs.declared.limits.TheConstants.{MAX_COUNT}
+use Rattle.cq_text.specs.declared.limits.TheConstants.{MAX_COUNT, MAX_FORM}
 use Rattle.cq_text.specs.declared.fault.Kind.{Kind}
 use Rattle.cq_text.specs.declared.fault.Kind.TheVariants.{Shape, Limit, Unbound}
 use Rattle.cq_text.specs.declared.command.CommandKind.TheVariants.{Post}
@@ -22,9 +22,13 @@ use Rattle.cq_text.specs.Forms.{most_atoms, most_bytes, most_terms}
 
 -- ---- what may still come
 
+-- `board` and a number, of a form or not.
+abbrev pub IsBoardText : List TokenContent → Type 0
+IsBoardText ts = (n : ℤ) × (ts ≡ Word (codes "board") ∷ Literal (Number n) ∷ [])
+
 -- The tokens are a command, limits apart.
 abbrev pub IsCommandText : List TokenContent → Type 0
-IsCommandText ts = (command : CommandContent) × IsSentence ts command
+IsCommandText ts = ((command : CommandContent) × IsSentence ts command) ⊎ IsBoardText ts
 
 -- The tokens are a query, limits apart.
 abbrev pub IsLoneQuery : List TokenContent → Type 0
@@ -52,7 +56,7 @@ opening = record { commas = 0; atoms = 0; most = None }
 
 -- The numbers behind these words are counts with a range.
 abbrev pub most_behind : (form : Form) → List ℕ → Option ℕ → Option ℕ
-most_behind form w most = if bytes_eq w (codes "relation") then Some (most_terms form) else (if bytes_eq w (codes "limits") then Some MAX_COUNT else most)
+most_behind form w most = if bytes_eq w (codes "relation") then Some (most_terms form) else (if bytes_eq w (codes "limits") then Some MAX_COUNT else (if bytes_eq w (codes "board") then Some MAX_FORM else most))
 
 abbrev pub behind_token : (form : Form) → Place → TokenContent → Place
 behind_token form p (Mark Comma) = record { commas = p.commas + 1; atoms = p.atoms; most = None }

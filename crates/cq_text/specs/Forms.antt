@@ -19,3 +19,8 @@ most_atoms Two = MAX_ATOMS
 abbrev pub most_bytes : Form → ℕ
 most_bytes One = 131072
 most_bytes Two = MAX_BYTES
+
+-- The number that a `board` line names a form by.
+abbrev pub number_of_form : Form → ℕ
+number_of_form One = 1
+number_of_form Two = 2

@@ -11,13 +11,13 @@ use Rattle.cq_atom.specs.Atom.{TermContent, AtomRecord, RowRecord}
 use Rattle.cq_atom.specs.Query.{QueryRecord, is_bound}
 use Rattle.cq_text.specs.declared.limits.TheConstants.{MAX_COUNT}
 use Rattle.cq_text.specs.declared.command.CommandKind.{CommandKind}
-use Rattle.cq_text.specs.declared.command.CommandKind.TheVariants.{Blank, Relation, Limits, Post, Withdraw, Insert, Delete, Publish, Show}
+use Rattle.cq_text.specs.declared.command.CommandKind.TheVariants.{Blank, Relation, Board, Limits, Post, Withdraw, Insert, Delete, Publish, Show}
 use Rattle.cq_text.specs.declared.token.Sign.TheVariants.{OpenBrace, CloseBrace, OpenParen, CloseParen, Comma, Arrow}
 use Rattle.cq_text.specs.declared.token.Token.TheVariants.{Mark, Word, Literal, Bad, Finish}
 use Rattle.cq_text.specs.Token.{TokenContent, LexemeContent, tokens_of}
 use Rattle.cq_text.specs.Lexing.{is_blank, lexemes_of}
 use Rattle.cq_text.specs.declared.form.Form.{Form}
-use Rattle.cq_text.specs.Forms.{most_atoms, most_bytes, most_terms}
+use Rattle.cq_text.specs.Forms.{most_atoms, most_bytes, most_terms, number_of_form}
 
 -- A command by names, queries and rows as contracts see them.
 abbrev pub CommandContent : Type 0
@@ -72,6 +72,7 @@ count_of (negsuc n) = 0
 abbrev pub IsSentence : List TokenContent → CommandContent → Type 0
 IsSentence ts Blank = ⊥
 IsSentence ts (Relation name arity) = (n : ℤ) × (ts ≡ Word (codes "relation") ∷ Word name ∷ Literal (Number n) ∷ []) × IsTrue (begins_with_upper name) × (arity ≡ count_of n)
+IsSentence ts (Board form) = ts ≡ Word (codes "board") ∷ Literal (Number (pos (number_of_form form))) ∷ []
 IsSentence ts (Limits pool journal) = (m : ℤ) × (n : ℤ) × (ts ≡ Word (codes "limits") ∷ Literal (Number m) ∷ Literal (Number n) ∷ []) × (pool ≡ count_of m) × (journal ≡ count_of n)
 IsSentence ts (Post name query) = (rest : List TokenContent) × (ts ≡ Word (codes "post") ∷ Word name ∷ rest) × IsQueryText rest query
 IsSentence ts (Withdraw name) = ts ≡ Word (codes "withdraw") ∷ Word name ∷ []
@@ -100,6 +101,7 @@ FitsQuery form query = (length query.posts ≤ most_atoms form) × (length query
 abbrev pub FitsCommand : (form : Form) → CommandContent → Type 0
 FitsCommand form Blank = Unit {0}
 FitsCommand form (Relation name arity) = (1 ≤ arity) × (arity ≤ most_terms form)
+FitsCommand form (Board other) = Unit {0}
 FitsCommand form (Limits pool journal) = (1 ≤ pool) × (pool ≤ MAX_COUNT) × (1 ≤ journal) × (journal ≤ MAX_COUNT)
 FitsCommand form (Post name query) = FitsQuery form query
 FitsCommand form (Withdraw name) = Unit {0}
@@ -121,6 +123,7 @@ abbrev pub IsRestrictedCommand : CommandContent → Type 0
 IsRestrictedCommand (Post name query) = IsRestricted query
 IsRestrictedCommand Blank = Unit {0}
 IsRestrictedCommand (Relation name arity) = Unit {0}
+IsRestrictedCommand (Board form) = Unit {0}
 IsRestrictedCommand (Limits pool journal) = Unit {0}
 IsRestrictedCommand (Withdraw name) = Unit {0}
 IsRestrictedCommand (Insert row) = Unit {0}

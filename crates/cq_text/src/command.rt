@@ -3,6 +3,7 @@
 ghost use Rattle.std.specs.Prelude.{◌≡◌};
 ghost use Rattle.cq_text.specs.Steps.Commands.{command_word};
 
+use crate::form::Form;
 use cq_atom::{Name, Query, Row};
 use std::alloc::{Allocator, Global};
 
@@ -18,6 +19,11 @@ pub enum CommandKind<N, Q, R> {
         name: N,
         /// The number of its columns.
         arity: usize,
+    },
+    /// Names the form of the script.
+    Board {
+        /// The form.
+        form: Form,
     },
     /// Limits the board.
     Limits {
@@ -61,6 +67,7 @@ pub type Command<A = Global> = CommandKind<Name<A>, Query<A>, Row<A>>;
 #[derive(Clone, Copy)]
 pub(crate) enum CommandWord {
     Relation,
+    Board,
     Limits,
     Post,
     Withdraw,
@@ -77,6 +84,7 @@ impl CommandWord {
     {
         match word {
             "relation" => Some(CommandWord::Relation),
+            "board" => Some(CommandWord::Board),
             "limits" => Some(CommandWord::Limits),
             "post" => Some(CommandWord::Post),
             "withdraw" => Some(CommandWord::Withdraw),

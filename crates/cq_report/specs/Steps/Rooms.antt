@@ -10,6 +10,7 @@ use Rattle.cq_report.specs.declared.fault.RunFault.TheVariants as runs
 use Rattle.cq_report.specs.declared.sessions.fault.ServeFault.{ServeFault}
 use Rattle.cq_report.specs.declared.sessions.fault.ServeFault.TheVariants as serves
 use Rattle.cq_report.specs.declared.sessions.seat.Done.{Done}
+use Rattle.cq_text.specs.declared.form.Form.{Form}
 use Rattle.cq_report.specs.Script.{Sheet, entries_from, replies_from, sheets_from}
 use Rattle.cq_report.specs.Sessions.{FilesServed, knowns_before}
 use Rattle.cq_report.specs.Steps.Sheets.{SheetRecord, BytesServed}
@@ -27,15 +28,15 @@ AreDone (Ok done ∷ lefts) (client ∷ clients) (sheet ∷ sheets) = (client �
 AreDone lefts clients sheets = ⊥
 
 -- The first of those who know of these entries serves the bytes; the others learn of nothing.
-abbrev pub FirstServes : PoolRecord → ℕ → List (List Edit) → SheetRecord → List (List Edit) → Sheet → List ℕ → Type 0
-FirstServes opening limit (known ∷ knowns) sheet (known' ∷ knowns') replies bytes = BytesServed opening limit known sheet known' replies bytes × (knowns' ≡ knowns)
-FirstServes opening limit knowns sheet knowns' replies bytes = ⊥
+abbrev pub FirstServes : Form → PoolRecord → ℕ → List (List Edit) → SheetRecord → List (List Edit) → Sheet → List ℕ → Type 0
+FirstServes form opening limit (known ∷ knowns) sheet (known' ∷ knowns') replies bytes = BytesServed form opening limit known sheet known' replies bytes × (knowns' ≡ knowns)
+FirstServes form opening limit knowns sheet knowns' replies bytes = ⊥
 
 -- SETUP's rest is served by one who knows of nothing, and then the files.
-pub record AllServed (opening : PoolRecord) (limit : ℕ) (sheet : SheetRecord) (rest : List ℕ) (replies : Sheet) (files : List (List ℕ)) (sheets : List Sheet) (knowns : List (List Edit)) : Type 0 where
+pub record AllServed (form : Form) (opening : PoolRecord) (limit : ℕ) (sheet : SheetRecord) (rest : List ℕ) (replies : Sheet) (files : List (List ℕ)) (sheets : List Sheet) (knowns : List (List Edit)) : Type 0 where
   pub known : List Edit
-  pub setup : BytesServed opening limit [] sheet known replies rest
-  pub served : FilesServed opening limit (knowns_before known files) files sheets knowns
+  pub setup : BytesServed form opening limit [] sheet known replies rest
+  pub served : FilesServed form opening limit (knowns_before known files) files sheets knowns
 
 -- The entries of a journal are put that begins with all that is known.
 pub record PutEntries (knowns : List (List Edit)) (page page' : List ℕ) : Type 0 where
@@ -44,11 +45,11 @@ pub record PutEntries (knowns : List (List Edit)) (page page' : List ℕ) : Type
   pub put : page' ≡ page ++ entries_from 1 journal
 
 -- SETUP's rest and the files are served in a room, and all that came of it is put.
-pub record RoomServed (opening : PoolRecord) (limit : ℕ) (sheet : SheetRecord) (rest : List ℕ) (files : List (List ℕ)) (page page' : List ℕ) : Type 0 where
+pub record RoomServed (form : Form) (opening : PoolRecord) (limit : ℕ) (sheet : SheetRecord) (rest : List ℕ) (files : List (List ℕ)) (page page' : List ℕ) : Type 0 where
   pub replies : Sheet
   pub sheets : List Sheet
   pub knowns : List (List Edit)
-  pub served : AllServed opening limit sheet rest replies files sheets knowns
+  pub served : AllServed form opening limit sheet rest replies files sheets knowns
   pub journal : List (Entry Edit)
   pub begins : All (λ known. IsPrefix known (journal_edits journal)) knowns
   pub put : page' ≡ page ++ (entries_from 1 journal ++ codes "publish\nshow\n" ++ replies_from (codes "setup") 1 replies ++ sheets_from 0 sheets)

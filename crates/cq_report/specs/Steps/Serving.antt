@@ -5,7 +5,7 @@ use Rattle.cq_report.specs.declared.fault.RunFault.{RunFault}
 use Rattle.cq_report.specs.Lines.{lines_of}
 use Rattle.cq_report.specs.Reading.{Reading}
 use Rattle.cq_report.specs.Machine.{State}
-use Rattle.cq_report.specs.Output.{AreReadings, state_after, output_from}
+use Rattle.cq_report.specs.Output.{AreReadFrom, state_after, output_from}
 use Rattle.cq_report.specs.Steps.Written.{Puts, Breaks}
 use Rattle.cq_report.specs.Steps.Kept.{kept}
 
@@ -25,7 +25,7 @@ ended (line ∷ lines) = line ++ (10 ∷ ended lines)
 
 -- However the lines are read: the state is the one behind them, and the replies to them were put.
 abbrev pub Answered : {W A : Type 0} → (W → Option (List ℕ)) → (W → ℕ) → Output W A → State → List (List ℕ) → Output W A → State → Type 0
-Answered taken failures first opening lines now state = (rs : List Reading) → AreReadings lines rs → (state ≡ state_after opening rs) × Puts taken failures first now (output_from opening rs)
+Answered taken failures first opening lines now state = (rs : List Reading) → AreReadFrom opening lines rs → (state ≡ state_after opening rs) × Puts taken failures first now (output_from opening rs)
 
 -- The bytes are whole lines, which were answered, and the front of a line, of which `line` is kept.
 pub record Served {W A : Type 0} (taken : W → Option (List ℕ)) (failures : W → ℕ) (first : Output W A) (opening : State) (now : Output W A) (state : State) (line bytes : List ℕ) : Type 0 where
@@ -36,18 +36,18 @@ pub record Served {W A : Type 0} (taken : W → Option (List ℕ)) (failures : W
   pub open_end : HasNoEnd pending
   pub keeps : line ≡ kept pending
   pub readings : List Reading
-  pub are : AreReadings lines readings
+  pub are : AreReadFrom opening lines readings
   pub answered : Answered taken failures first opening lines now state
 
 -- The lines of the bytes have readings, and however they are read, their output was put.
 pub record Finished {W A : Type 0} (taken : W → Option (List ℕ)) (failures : W → ℕ) (first : Output W A) (opening : State) (now : Output W A) (bytes : List ℕ) : Type 0 where
   pub readings : List Reading
-  pub are : AreReadings (lines_of bytes) readings
-  pub all : (rs : List Reading) → AreReadings (lines_of bytes) rs → Puts taken failures first now (output_from opening rs)
+  pub are : AreReadFrom opening (lines_of bytes) readings
+  pub all : (rs : List Reading) → AreReadFrom opening (lines_of bytes) rs → Puts taken failures first now (output_from opening rs)
 
 -- A fault came while the bytes were served: a front of their output is written.
 abbrev pub Stopped : {W A : Type 0} → (W → Option (List ℕ)) → (W → ℕ) → Output W A → State → Output W A → List ℕ → RunFault → Type 0
-Stopped taken failures first opening now bytes fault = (rs : List Reading) → AreReadings (lines_of bytes) rs → Breaks taken failures first now (output_from opening rs) fault
+Stopped taken failures first opening now bytes fault = (rs : List Reading) → AreReadFrom opening (lines_of bytes) rs → Breaks taken failures first now (output_from opening rs) fault
 
 -- Some bytes more were served, whatever was served before them.
 abbrev pub ServesOn : {W A : Type 0} → (W → Option (List ℕ)) → (W → ℕ) → (old new : Output W A) → (state state' : State) → (line line' piece : List ℕ) → Type 0

@@ -6,9 +6,9 @@ use Rattle.cq_board.specs.Edits.{Edit}
 use Rattle.cq_desk.specs.declared.reply.Reply.{Reply}
 use Rattle.cq_report.specs.declared.sessions.sheet.Line.{Line}
 use Rattle.cq_report.specs.declared.sessions.sheet.Line.TheVariants.{Told, Asks}
+use Rattle.cq_text.specs.declared.form.Form.{Form}
 use Rattle.cq_report.specs.Lines.{lines_of}
-use Rattle.cq_report.specs.Reading.{Reading, IsReading}
-use Rattle.cq_report.specs.Output.{AreReadings}
+use Rattle.cq_report.specs.Reading.{Reading, IsReading, AreReadIn}
 use Rattle.cq_report.specs.Script.{Sheet}
 use Rattle.cq_report.specs.Sessions.{Served, edit_reply}
 
@@ -56,29 +56,29 @@ pub record Onward (opening : PoolRecord) (limit : ℕ) (known : List Edit) (shee
   pub carries : Carries opening limit known sheet known' sheet' line
 
 -- A line's bytes are served.
-pub record LineServed (opening : PoolRecord) (limit : ℕ) (known : List Edit) (sheet : SheetRecord) (known' : List Edit) (sheet' : SheetRecord) (bytes : List ℕ) : Type 0 where
+pub record LineServed (form : Form) (opening : PoolRecord) (limit : ℕ) (known : List Edit) (sheet : SheetRecord) (known' : List Edit) (sheet' : SheetRecord) (bytes : List ℕ) : Type 0 where
   pub reading : Reading
-  pub is : IsReading bytes reading
+  pub is : IsReading form bytes reading
   pub onward : Onward opening limit known sheet known' sheet' reading
 
 -- All bytes are served behind what a sheet held: these are the replies to them.
-pub record BytesServed (opening : PoolRecord) (limit : ℕ) (known : List Edit) (sheet : SheetRecord) (known' : List Edit) (replies : Sheet) (bytes : List ℕ) : Type 0 where
+pub record BytesServed (form : Form) (opening : PoolRecord) (limit : ℕ) (known : List Edit) (sheet : SheetRecord) (known' : List Edit) (replies : Sheet) (bytes : List ℕ) : Type 0 where
   pub lines : List Reading
-  pub are : AreReadings (lines_of bytes) lines
+  pub are : AreReadIn form (lines_of bytes) lines
   pub told : Sheet
   pub served : Served opening limit lines known [] [] told known'
   pub whole : replies ≡ whole sheet [] ++ told
 
 -- However the rest is served from here on, all bytes were served from there on.
-abbrev pub RestCarries : PoolRecord → ℕ → (known : List Edit) → SheetRecord → List ℕ → (known' : List Edit) → SheetRecord → (rest : List ℕ) → Type 0
-RestCarries opening limit known sheet bytes known' sheet' rest =
-    (rs : List (Reply Why)) → length rs ≡ length sheet'.asked → (lines : List Reading) (behind : Sheet) (last : List Edit) → AreReadings (lines_of rest) lines → Served opening limit lines known' sheet'.asked rs behind last
-    → BytesServed opening limit known sheet last (whole sheet' rs ++ behind) bytes
+abbrev pub RestCarries : Form → PoolRecord → ℕ → (known : List Edit) → SheetRecord → List ℕ → (known' : List Edit) → SheetRecord → (rest : List ℕ) → Type 0
+RestCarries form opening limit known sheet bytes known' sheet' rest =
+    (rs : List (Reply Why)) → length rs ≡ length sheet'.asked → (lines : List Reading) (behind : Sheet) (last : List Edit) → AreReadIn form (lines_of rest) lines → Served opening limit lines known' sheet'.asked rs behind last
+    → BytesServed form opening limit known sheet last (whole sheet' rs ++ behind) bytes
 
 -- Bytes are served up to the rest.
-pub record ServedTo (opening : PoolRecord) (limit : ℕ) (known : List Edit) (sheet : SheetRecord) (bytes : List ℕ) (known' : List Edit) (sheet' : SheetRecord) (rest : List ℕ) : Type 0 where
+pub record ServedTo (form : Form) (opening : PoolRecord) (limit : ℕ) (known : List Edit) (sheet : SheetRecord) (bytes : List ℕ) (known' : List Edit) (sheet' : SheetRecord) (rest : List ℕ) : Type 0 where
   pub even : IsEven sheet'
-  pub carries : RestCarries opening limit known sheet bytes known' sheet' rest
+  pub carries : RestCarries form opening limit known sheet bytes known' sheet' rest
 
 -- Each job that was run left what it leaves; the last of them may not have been run.
 abbrev pub LeavesEach : {J L : Type 0} → (J → L → Type 0) → List J → List L → Type 0

@@ -3,7 +3,7 @@
 ghost use Rattle.std.specs.Prelude.{◌≡◌, ◌++◌, ◌∷◌, ◌<◌, ◌≤◌, ◌^◌, [], ℕ, List, codes, decimal, map, option_map, string_bytes, IfOk, OnOk, length};
 ghost use Rattle.std.specs.List.{flat_map};
 ghost use Rattle.cq_report.specs.Report.{line};
-ghost use Rattle.cq_report.specs.Script.{edit_line, entries_from, entry_lines, declaration_line, limits_line, replies_from, sheets_from};
+ghost use Rattle.cq_report.specs.Script.{edit_line, entries_from, entry_lines, declaration_line, form_line, limits_line, replies_from, sheets_from};
 ghost use Rattle.cq_text.specs.Print.{printed_row};
 
 use crate::page::put;
@@ -12,7 +12,7 @@ use cq_atom::{Name, Query, Row};
 use cq_board::{Edit, EditKind, Limits};
 use cq_desk::Entry;
 use cq_rel::Catalog;
-use cq_text::{print_query, print_row};
+use cq_text::{Form, print_query, print_row};
 use std::alloc::{AllocError, Allocator};
 
 fn post_line<A: Allocator + Copy>(
@@ -130,15 +130,27 @@ fn put_catalog<A: Allocator + Copy>(
     Ok(())
 }
 
+/// Puts the line that names the form, where one is needed.
+fn put_form<A: Allocator>(form: Form, page: &mut String<A>) -> Result<(), AllocError>
+    ensures { OnOk result (string_bytes page.new ≡ string_bytes page.old ++ form_line form) }
+{
+    match form {
+        Form::One => page.push_str(""),
+        Form::Two => page.push_str("board 2\n"),
+    }
+}
+
 /// Puts what sets the board up.
 pub(crate) fn put_setup<A: Allocator + Copy>(
     alloc: A,
+    form: Form,
     catalog: &Catalog<A>,
     limits: Limits,
     page: &mut String<A>,
 ) -> Result<(), AllocError>
-    ensures { OnOk result (string_bytes page.new ≡ string_bytes page.old ++ (flat_map declaration_line catalog.now ++ limits_line limits)) }
+    ensures { OnOk result (string_bytes page.new ≡ string_bytes page.old ++ (form_line form ++ flat_map declaration_line catalog.now ++ limits_line limits)) }
 {
+    put_form(form, page)?;
     put_catalog(alloc, catalog, page)?;
     put(page, limits_line(alloc, limits))
 }

@@ -9,6 +9,7 @@ use crate::sessions::serving::serve_bytes;
 use crate::sessions::sheet::Sheet;
 use crate::sessions::threads::Job;
 use cq_room::Gate;
+use cq_text::Form;
 use std::alloc::Global;
 
 /// What serves a file is done with it.
@@ -22,6 +23,7 @@ pub(crate) struct Done<C> {
 #[derive(Drop)]
 pub(crate) struct Seat<'a, C, G> {
     pub(crate) alloc: Global,
+    pub(crate) form: Form,
     pub(crate) client: C,
     pub(crate) file: &'a [u8],
     pub(crate) gate: &'a G,
@@ -30,18 +32,19 @@ pub(crate) struct Seat<'a, C, G> {
 impl<'a, C: Client + Send, G: Gate> Job for Seat<'a, C, G> {
     type Left = Result<Done<C>, ServeFault>;
 
-    ghost leaves = { λ seat left. IfOk left (λ done. FileServed C.opening C.limit (C.known seat.client) seat.file.now done.sheet.replies (C.known done.client)) };
+    ghost leaves = { λ seat left. IfOk left (λ done. FileServed seat.form C.opening C.limit (C.known seat.client) seat.file.now done.sheet.replies (C.known done.client)) };
 
     fn run(self) -> Result<Done<C>, ServeFault> {
         let Seat {
             alloc,
+            form,
             mut client,
             file,
             gate,
         } = self;
         gate.pass();
         let mut sheet = Sheet::begin(alloc);
-        serve_bytes(alloc, &mut client, &mut sheet, file)?;
+        serve_bytes(alloc, form, &mut client, &mut sheet, file)?;
         Ok(Done { client, sheet })
     }
 }

@@ -85,6 +85,7 @@ fn serve_command<C: Client>(
             name: _name,
             arity: _arity,
         } => tell(sheet, late(alloc))?,
+        CommandKind::Board { form: _form } => tell(sheet, late(alloc))?,
         CommandKind::Limits {
             pool: _pool,
             journal: _journal,
@@ -102,14 +103,15 @@ fn serve_command<C: Client>(
 /// Reads a line and answers it.
 fn serve_line<C: Client>(
     alloc: Global,
+    form: Form,
     client: &mut C,
     sheet: &mut Sheet<Global>,
     line: &[u8],
 ) -> Result<(), ServeFault>
     requires { IsEven sheet.old }
-    ensures { OnOk result (LineServed C.opening C.limit (C.known client.old) sheet.old (C.known client.new) sheet.new line.now) }
+    ensures { OnOk result (LineServed form C.opening C.limit (C.known client.old) sheet.old (C.known client.new) sheet.new line.now) }
 {
-    match read_command(alloc, line, Form::One) {
+    match read_command(alloc, line, form) {
         Ok(command) => serve_command(alloc, client, sheet, command),
         Err(TextFault::At { kind, offset }) => tell(sheet, fault_line(alloc, kind, offset)),
         Err(TextFault::NoMemory) => Err(ServeFault::NoMemory),
@@ -119,21 +121,22 @@ fn serve_line<C: Client>(
 /// Answers the lines one after another.
 fn serve_lines<C: Client>(
     alloc: Global,
+    form: Form,
     client: &mut C,
     sheet: &mut Sheet<Global>,
     bytes: &[u8],
 ) -> Result<(), ServeFault>
     requires even { IsEven sheet.old }
     requires asked { sheet.old.asked ≡ [] }
-    ensures { OnOk result (ServedTo C.opening C.limit (C.known client.old) sheet.old bytes.now (C.known client.new) sheet.new []) }
+    ensures { OnOk result (ServedTo form C.opening C.limit (C.known client.old) sheet.old bytes.now (C.known client.new) sheet.new []) }
 {
     let mut rest = bytes;
     while let Some((line, behind)) = first_line(rest) {
-        serve_line(alloc, client, sheet, line)?;
+        serve_line(alloc, form, client, sheet, line)?;
         rest = behind;
     }
     if !rest.is_empty() {
-        serve_line(alloc, client, sheet, rest)?;
+        serve_line(alloc, form, client, sheet, rest)?;
     }
     Ok(())
 }
@@ -154,14 +157,15 @@ fn finish<C: Client>(client: &mut C, sheet: &mut Sheet<Global>) -> Result<(), Se
 /// Serves the bytes of a file to their end; what the sheet held stands before their replies.
 pub(crate) fn serve_bytes<C: Client>(
     alloc: Global,
+    form: Form,
     client: &mut C,
     sheet: &mut Sheet<Global>,
     bytes: &[u8],
 ) -> Result<(), ServeFault>
     requires even { IsEven sheet.old }
     requires asked { sheet.old.asked ≡ [] }
-    ensures { OnOk result (BytesServed C.opening C.limit (C.known client.old) sheet.old (C.known client.new) sheet.new.replies bytes.now) }
+    ensures { OnOk result (BytesServed form C.opening C.limit (C.known client.old) sheet.old (C.known client.new) sheet.new.replies bytes.now) }
 {
-    serve_lines(alloc, client, sheet, bytes)?;
+    serve_lines(alloc, form, client, sheet, bytes)?;
     finish(client, sheet)
 }

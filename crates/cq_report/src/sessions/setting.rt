@@ -1,12 +1,14 @@
 //! The lines of SETUP before the board is begun.
 
-ghost use Rattle.std.specs.Prelude.{◌≡◌, [], IfOk, OnOk, MatchBool};
-ghost use Rattle.cq_report.specs.Machine.{begin_setup};
+ghost use Rattle.std.specs.Prelude.{◌≡◌, [], Option, None, IfOk, OnOk, MatchBool};
+ghost use Rattle.cq_text.specs.declared.form.Form.{Form};
+ghost use Rattle.cq_report.specs.Machine.{SetupRecord, begin_setup, form_of};
 ghost use Rattle.cq_report.specs.Reading.{Reads};
 ghost use Rattle.cq_text.specs.declared.command.CommandKind.TheVariants as commands;
 ghost use Rattle.cq_report.specs.Steps.Settings.{Sets, Stays, SetsLine, IsBehind, SetTo, RestBegins};
 
-use crate::reply::{catalog_line, fault_line, ok_line};
+use crate::heading::{form_of, headed};
+use crate::reply::{board_line, catalog_line, fault_line, ok_line};
 use crate::running::first_line;
 use crate::sessions::fault::ServeFault;
 use crate::sessions::sheet::Sheet;
@@ -19,6 +21,7 @@ use std::alloc::Allocator;
 /// What the first lines of SETUP set, what they were answered, and what stands behind them.
 #[derive(Drop)]
 pub(crate) struct Setting<'a, A: Allocator> {
+    pub(crate) heading: Option<Form>,
     pub(crate) setup: Setup<A>,
     pub(crate) sheet: Sheet<A>,
     pub(crate) rest: &'a [u8],
@@ -32,7 +35,7 @@ fn declare<A: Allocator + Copy>(
     name: &str,
     arity: usize,
 ) -> Result<(), ServeFault>
-    ensures { OnOk result (Sets setup.old sheet.old setup.new sheet.new (Reads (commands.Relation name.now arity))) }
+    ensures { (heading : Option Form) → OnOk result (Sets heading setup.old sheet.old setup.new sheet.new (Reads (commands.Relation name.now arity))) }
 {
     let text = match setup.declare(name, arity) {
         Ok(()) => ok_line(),
@@ -50,21 +53,34 @@ fn limit<A: Allocator + Copy>(
     sheet: &mut Sheet<A>,
     limits: Limits,
 ) -> Result<(), ServeFault>
-    ensures { OnOk result (Sets setup.old sheet.old setup.new sheet.new (Reads (commands.Limits limits.pool limits.journal))) }
+    ensures { (heading : Option Form) → OnOk result (Sets heading setup.old sheet.old setup.new sheet.new (Reads (commands.Limits limits.pool limits.journal))) }
 {
     setup.limit(limits);
     sheet.tell(Some(String::from_str(alloc, ok_line())?))?;
     Ok(())
 }
 
+/// Answers a line that names the form, where this one was settled before it, if any.
+fn name_form<A: Allocator + Copy>(
+    alloc: A,
+    heading: Option<Form>,
+    sheet: &mut Sheet<A>,
+) -> Result<(), ServeFault>
+    ensures { (form : Form) (setup : SetupRecord) → OnOk result (Sets heading setup sheet.old setup sheet.new (Reads (commands.Board form))) }
+{
+    sheet.tell(Some(String::from_str(alloc, board_line(heading))?))?;
+    Ok(())
+}
+
 /// Answers a command of the setup, and says whether it was one; another command ends the setup.
 fn set_command<A: Allocator + Copy>(
     alloc: A,
+    heading: Option<Form>,
     setup: &mut Setup<A>,
     sheet: &mut Sheet<A>,
     command: Command<A>,
 ) -> Result<bool, ServeFault>
-    ensures { IfOk result (λ is_set. MatchBool is_set (Sets setup.old sheet.old setup.new sheet.new (Reads command)) (Stays setup.old sheet.old setup.new sheet.new (Reads command))) }
+    ensures { IfOk result (λ is_set. MatchBool is_set (Sets heading setup.old sheet.old setup.new sheet.new (Reads command)) (Stays setup.old sheet.old setup.new sheet.new (Reads command))) }
 {
     match command {
         CommandKind::Blank => sheet.tell(None)?,
@@ -75,6 +91,7 @@ fn set_command<A: Allocator + Copy>(
             name.as_str(),
             arity,
         )?,
+        CommandKind::Board { form: _form } => name_form(alloc, heading, sheet)?,
         CommandKind::Limits { pool, journal } => limit(
             alloc,
             setup,
@@ -96,16 +113,26 @@ fn set_command<A: Allocator + Copy>(
 /// Answers a line of the setup, and says whether it was one.
 fn set<A: Allocator + Copy>(
     alloc: A,
+    heading: &mut Option<Form>,
     setup: &mut Setup<A>,
     sheet: &mut Sheet<A>,
     line: &[u8],
 ) -> Result<bool, ServeFault>
-    ensures { IfOk result (λ is_set. MatchBool is_set (SetsLine setup.old sheet.old setup.new sheet.new line.now) (IsBehind setup.old sheet.old setup.new sheet.new line.now)) }
+    ensures { IfOk result (λ is_set. MatchBool is_set (SetsLine heading.old setup.old sheet.old heading.new setup.new sheet.new line.now) (IsBehind heading.old setup.old sheet.old heading.new setup.new sheet.new line.now)) }
 {
-    match read_command(alloc, line, Form::One) {
-        Ok(command) => set_command(alloc, setup, sheet, command),
+    let form = form_of(*heading);
+    match read_command(alloc, line, form) {
+        Ok(command) => {
+            let settled = headed(*heading, &command);
+            let is_set = set_command(alloc, *heading, setup, sheet, command)?;
+            if is_set {
+                *heading = settled;
+            }
+            Ok(is_set)
+        }
         Err(TextFault::At { kind, offset }) => {
             sheet.tell(Some(fault_line(alloc, kind, offset)?))?;
+            *heading = Some(form);
             Ok(true)
         }
         Err(TextFault::NoMemory) => Err(ServeFault::NoMemory),
@@ -123,18 +150,20 @@ fn end_of(bytes: &[u8]) -> &[u8]
 /// Answers the lines of the setup, and answers what stands behind them.
 fn set_all<'a, A: Allocator + Copy>(
     alloc: A,
+    heading: &mut Option<Form>,
     setup: &mut Setup<A>,
     sheet: &mut Sheet<A>,
     bytes: &'a [u8],
 ) -> Result<&'a [u8], ServeFault>
+    requires heading { heading.old ≡ None }
     requires setup { setup.old ≡ begin_setup }
     requires sheet { sheet.old ≡ record { replies = []; batch = []; asked = [] } }
-    ensures set { IfOk result (λ rest. SetTo bytes.now rest.now setup.new sheet.new) }
-    ensures behind { IfOk result (λ rest. RestBegins rest.now) }
+    ensures set { IfOk result (λ rest. SetTo bytes.now rest.now heading.new setup.new sheet.new) }
+    ensures behind { IfOk result (λ rest. RestBegins (form_of heading.new) rest.now) }
 {
     let mut rest = bytes;
     while let Some((line, behind)) = first_line(rest) {
-        let is_set = set(alloc, setup, sheet, line)?;
+        let is_set = set(alloc, heading, setup, sheet, line)?;
         if !is_set {
             return Ok(rest);
         }
@@ -143,7 +172,7 @@ fn set_all<'a, A: Allocator + Copy>(
     if rest.is_empty() {
         return Ok(rest);
     }
-    let is_set = set(alloc, setup, sheet, rest)?;
+    let is_set = set(alloc, heading, setup, sheet, rest)?;
     if is_set {
         return Ok(end_of(rest));
     }
@@ -155,11 +184,17 @@ pub(crate) fn read_setting<A: Allocator + Copy>(
     alloc: A,
     bytes: &[u8],
 ) -> Result<Setting<'_, A>, ServeFault>
-    ensures set { IfOk result (λ setting. SetTo bytes.now setting.rest.now setting.setup setting.sheet) }
-    ensures behind { IfOk result (λ setting. RestBegins setting.rest.now) }
+    ensures set { IfOk result (λ setting. SetTo bytes.now setting.rest.now setting.heading setting.setup setting.sheet) }
+    ensures behind { IfOk result (λ setting. RestBegins (form_of setting.heading) setting.rest.now) }
 {
+    let mut heading = None;
     let mut setup = Setup::begin(alloc);
     let mut sheet = Sheet::begin(alloc);
-    let rest = set_all(alloc, &mut setup, &mut sheet, bytes)?;
-    Ok(Setting { setup, sheet, rest })
+    let rest = set_all(alloc, &mut heading, &mut setup, &mut sheet, bytes)?;
+    Ok(Setting {
+        heading,
+        setup,
+        sheet,
+        rest,
+    })
 }

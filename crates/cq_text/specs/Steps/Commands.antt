@@ -1,10 +1,10 @@
 -- The words that commands begin with, and reading commands from left to right, as the reader's methods do.
-use Rattle.std.specs.Prelude.{ℕ, ℤ, List, ◌&&◌, nat_le, Option, Some, None, Result, Ok, if◌then◌else◌, codes}
+use Rattle.std.specs.Prelude.{ℕ, ℤ, List, ◌&&◌, nat_le, ◌==◌, Option, Some, None, Result, Ok, if◌then◌else◌, codes}
 use Rattle.cq_atom.specs.Value.{number_of}
 use Rattle.cq_text.specs.declared.fault.Kind.TheVariants.{Shape, Limit}
 use Rattle.cq_text.specs.declared.fault.TextFault.{TextFault}
-use Rattle.cq_text.specs.declared.limits.TheConstants.{MAX_COUNT}
-use Rattle.cq_text.specs.declared.command.CommandKind.TheVariants.{Relation, Limits, Post, Withdraw, Insert, Delete, Publish, Show}
+use Rattle.cq_text.specs.declared.limits.TheConstants.{MAX_COUNT, MAX_FORM}
+use Rattle.cq_text.specs.declared.command.CommandKind.TheVariants.{Relation, Board, Limits, Post, Withdraw, Insert, Delete, Publish, Show}
 use Rattle.cq_text.specs.declared.command.CommandWord.{CommandWord}
 use Rattle.cq_text.specs.declared.token.Token.TheVariants.{Mark, Word, Literal, Bad, Finish}
 use Rattle.cq_text.specs.Token.{TokenContent}
@@ -15,16 +15,18 @@ use Rattle.cq_text.specs.Steps.Lexemes.{Ahead, ◌>>=◌, fault, next_at, name_i
 use Rattle.cq_text.specs.Steps.Lists.{row_at, query_at}
 use Rattle.cq_text.specs.declared.form.Form.{Form}
 use Rattle.cq_text.specs.Forms.{most_terms}
+use Rattle.cq_text.specs.declared.form.Form.TheVariants.{One, Two}
 
 -- The command word that an identifier is.
 abbrev pub command_word : List ℕ → Option CommandWord
 command_word w =
-    if bytes_eq w (codes "relation") then Some words.Relation else (if bytes_eq w (codes "limits") then Some words.Limits else (if bytes_eq w (codes "post") then Some words.Post else (if bytes_eq w (codes "withdraw") then Some words.Withdraw
-    else (if bytes_eq w (codes "insert") then Some words.Insert else (if bytes_eq w (codes "delete") then Some words.Delete else (if bytes_eq w (codes "publish") then Some words.Publish else (if bytes_eq w (codes "show") then Some words.Show else None)))))))
+    if bytes_eq w (codes "relation") then Some words.Relation else (if bytes_eq w (codes "board") then Some words.Board else (if bytes_eq w (codes "limits") then Some words.Limits else (if bytes_eq w (codes "post") then Some words.Post else (if bytes_eq w (codes "withdraw") then Some words.Withdraw
+    else (if bytes_eq w (codes "insert") then Some words.Insert else (if bytes_eq w (codes "delete") then Some words.Delete else (if bytes_eq w (codes "publish") then Some words.Publish else (if bytes_eq w (codes "show") then Some words.Show else None))))))))
 
 -- The bytes of a command word.
 abbrev pub bytes_of : CommandWord → List ℕ
 bytes_of words.Relation = codes "relation"
+bytes_of words.Board = codes "board"
 bytes_of words.Limits = codes "limits"
 bytes_of words.Post = codes "post"
 bytes_of words.Withdraw = codes "withdraw"
@@ -62,6 +64,16 @@ relation_at form a = do
   arity ← count_at (most_terms form) l.1
   rest ← end_at arity.1
   Ok (Relation name arity.0)
+
+-- The form of a number from 1 to 2.
+abbrev pub form_numbered : ℕ → Form
+form_numbered number = if number == 2 then Two else One
+
+unfoldable pub board_at : Ahead → Result CommandContent TextFault
+board_at a = do
+  number ← count_at MAX_FORM a
+  rest ← end_at number.1
+  Ok (Board (form_numbered number.0))
 
 unfoldable pub limits_at : Ahead → Result CommandContent TextFault
 limits_at a = do
@@ -102,6 +114,7 @@ word_alone command a = do
 -- What stands behind a command word.
 abbrev pub command_of : (form : Form) → CommandWord → Ahead → Result CommandContent TextFault
 command_of form words.Relation a = relation_at form a
+command_of form words.Board a = board_at a
 command_of form words.Limits a = limits_at a
 command_of form words.Post a = post_at form a
 command_of form words.Withdraw a = withdraw_at a

@@ -2,13 +2,13 @@
 
 ghost use Rattle.std.specs.Prelude.{◌≡◌};
 ghost use Rattle.cq_text.specs.Grammar.{count_of};
-ghost use Rattle.cq_text.specs.Steps.Commands.{number_in, count_in, count_at, relation_at, limits_at, withdraw_at, insert_at, delete_at, command_word_in, command_word_at, post_at, word_alone, command_of, command_at};
+ghost use Rattle.cq_text.specs.Steps.Commands.{number_in, count_in, count_at, relation_at, form_numbered, board_at, limits_at, withdraw_at, insert_at, delete_at, command_word_in, command_word_at, post_at, word_alone, command_of, command_at};
 ghost use Rattle.cq_text.specs.Steps.Lexemes.{Gives};
 
 use crate::command::{Command, CommandKind, CommandWord};
 use crate::fault::TextFault;
 use crate::form::Form;
-use crate::limits::MAX_COUNT;
+use crate::limits::{MAX_COUNT, MAX_FORM};
 use crate::reading::Reader;
 use crate::reading::lexemes::{limit, new_name, shape};
 use crate::token::{TextLexeme, TextToken, Token};
@@ -46,6 +46,13 @@ fn count_in<A: Allocator>(lexeme: &TextLexeme<A>, most: usize) -> Result<usize, 
     }
 }
 
+/// The form that a number from 1 to 2 names.
+fn form_numbered(number: usize) -> Form
+    ensures { result ≡ form_numbered number }
+{
+    if number == 2 { Form::Two } else { Form::One }
+}
+
 /// The command word that a token is.
 fn command_word_in<A: Allocator>(token: &TextToken<A>) -> Option<CommandWord>
     ensures { result ≡ command_word_in token.now }
@@ -76,6 +83,18 @@ impl<'a, A: Allocator + Copy> Reader<'a, A> {
         self.end()?;
         let name = new_name(self.alloc, word)?;
         Ok(CommandKind::Relation { name, arity })
+    }
+
+    /// The form of the script, and the end.
+    #[tactic(auto, unfolding(crate::specs::Steps::Commands::board_at))]
+    fn board(&mut self) -> Result<Command<A>, TextFault>
+        ensures { Gives (λ command. command) result (board_at self.old) }
+    {
+        let number = self.count(MAX_FORM)?;
+        self.end()?;
+        Ok(CommandKind::Board {
+            form: form_numbered(number),
+        })
     }
 
     /// The limits of the board, and the end.
@@ -138,6 +157,7 @@ impl<'a, A: Allocator + Copy> Reader<'a, A> {
     {
         match word {
             CommandWord::Relation => self.relation(form),
+            CommandWord::Board => self.board(),
             CommandWord::Limits => self.limits(),
             CommandWord::Post => self.post(form),
             CommandWord::Withdraw => self.withdraw(),

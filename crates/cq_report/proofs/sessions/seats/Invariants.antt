@@ -8,5 +8,6 @@ invariant-loop-client g l = record {
   counted : into_iter_len l.client-iterator ≡ length (into_iter_items l.client-iterator);
   place : l.place + length (into_iter_items l.client-iterator) ≡ length l.files;
   clients : map (λ seat. seat.client) l.seats.items ≡ l.yielded;
+  forms : map (λ seat. seat.form) l.seats.items ≡ map (λ _. l.form) l.yielded;
   files : map (λ seat. seat.file.now) l.seats.items ++ map (λ file. file.items) (drop l.place l.files) ≡ map (λ file. file.items) l.files;
 }

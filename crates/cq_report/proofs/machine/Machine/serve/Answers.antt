@@ -1,11 +1,9 @@
-use Rattle.std.proofs.Common.{sym, subst}
-use Rattle.cq_text.specs.Grammar.{CommandContent}
+use Rattle.std.proofs.Common.{subst}
 use Rattle.cq_report.specs.Reading.{Reads}
-use Rattle.cq_report.specs.Machine.{serve}
+use Rattle.cq_report.specs.Machine.{State, staged}
 use Rattle.cq_report.specs.Steps.Put.{Put}
 use Rattle.cq_report.proofs.machine.Machine.serve.Goals as goal
 
-pub returns-in-Publish-clause-put : goal.returns-in-Publish-clause-put
-returns-in-Publish-clause-put g c =
-    subst (λ (command : CommandContent). Put g.W.Sink.taken g.W.Sink.write_failures c.args.output.now c.happen.new.output (serve c.args.self.now (Reads command)).1 c.happen.result)
-    (sym c.in-Publish.is) c.happen.ensures.put
+pub returns-clause-put : goal.returns-clause-put
+returns-clause-put g c =
+    subst (λ (s : State). Put g.W.Sink.taken g.W.Sink.write_failures c.args.output.now c.serve.new.output (staged s.stage s.heading (Reads c.args.command)).1 c.serve.result) c.self.view_is c.serve.ensures.put

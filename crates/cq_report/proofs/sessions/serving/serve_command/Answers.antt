@@ -18,6 +18,11 @@ returns-in_ok-tell-in-Relation g c =
     subst (λ (command : CommandContent). Onward g.C.Client.opening g.C.Client.limit (g.C.Client.known c.args.client.now) c.args.sheet.now (g.C.Client.known c.args.client.now) c.tell-in-Relation.new.sheet (Reads command)) (sym c.in-Relation.is)
     (told_onward g.C.Client.opening g.C.Client.limit _ _ c.args.sheet.now c.tell-in-Relation.new.sheet (Reads (commands.Relation c.in-Relation._name c.in-Relation._arity)) (Some late_line) (λ rs lines behind last s. (refl, s)) c.requires (c.in_ok-tell-in-Relation.ensures late_line c.late.ensures))
 
+pub returns-in_ok-tell-in-Board : goal.returns-in_ok-tell-in-Board
+returns-in_ok-tell-in-Board g c =
+    subst (λ (command : CommandContent). Onward g.C.Client.opening g.C.Client.limit (g.C.Client.known c.args.client.now) c.args.sheet.now (g.C.Client.known c.args.client.now) c.tell-in-Board.new.sheet (Reads command)) (sym c.in-Board.is)
+    (told_onward g.C.Client.opening g.C.Client.limit _ _ c.args.sheet.now c.tell-in-Board.new.sheet (Reads (commands.Board c.in-Board._form)) (Some late_line) (λ rs lines behind last s. (refl, s)) c.requires (c.in_ok-tell-in-Board.ensures late_line c.late-in-Board.ensures))
+
 pub returns-in_ok-tell-in-Limits : goal.returns-in_ok-tell-in-Limits
 returns-in_ok-tell-in-Limits g c =
     subst (λ (command : CommandContent). Onward g.C.Client.opening g.C.Client.limit (g.C.Client.known c.args.client.now) c.args.sheet.now (g.C.Client.known c.args.client.now) c.tell-in-Limits.new.sheet (Reads command)) (sym c.in-Limits.is)

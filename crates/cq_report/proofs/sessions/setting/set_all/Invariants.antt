@@ -6,4 +6,4 @@ abbrev pub decreases-loop-line : goal.decreases-loop-line
 decreases-loop-line g l = length l.rest
 
 abbrev pub invariant-loop-line : goal.invariant-loop-line
-invariant-loop-line g l = SetTo l.bytes l.rest l.setup l.sheet
+invariant-loop-line g l = SetTo l.bytes l.rest l.heading l.setup l.sheet

@@ -2,7 +2,7 @@ use Rattle.std.proofs.Common.{◌≡◌}
 use Rattle.std.proofs.lemmas.Result.{err_from_is_err_and}
 use Rattle.cq_report.specs.Machine.{serving_of}
 use Rattle.cq_report.proofs.Answering.{Put-starved}
-use Rattle.cq_report.proofs.machine.Machine.happen.Goals as goal
+use Rattle.cq_report.proofs.clerk.Clerk.happen.Goals as goal
 
 pub returns-in_err-open-clause-put : goal.returns-in_err-open-clause-put
 returns-in_err-open-clause-put g c =

@@ -1,0 +1,166 @@
+//! What answers the commands of a script.
+
+ghost use Rattle.std.specs.Prelude.{◌≡◌, ◌<◌, ◌^◌, OnOk};
+ghost use Rattle.cq_desk.specs.declared.event.Event.TheVariants.{Enter};
+ghost use Rattle.cq_report.specs.declared.stage.Stage.TheVariants.{Serving};
+ghost use Rattle.cq_report.specs.Reading.{Reads};
+ghost use Rattle.cq_report.specs.Machine.{begin_stage, serving_of, declare, limit, happen, staged};
+ghost use Rattle.cq_report.specs.Steps.Put.{Put};
+
+use crate::fault::RunFault;
+use crate::happening::{BoardFloor, happen, open};
+use crate::output::Output;
+use crate::reply::{board_line, catalog_line, late_line, ok_line};
+use crate::setup::Setup;
+use crate::stage::Stage;
+use cq_board::{Edit, EditKind, Limits};
+use cq_desk::Event;
+use cq_rel::CatalogFault;
+use cq_text::{Command, CommandKind, Form, Sink};
+use std::alloc::{AllocError, Allocator};
+use std::marker::Model;
+use std::mem;
+
+/// The number of the one session that a script has.
+const SESSION: usize = 0;
+
+/// What answers the next command: the setup of a script, and then its floor. Contracts see the stage.
+#[derive(Drop)]
+pub(crate) struct Clerk<A: Allocator + Copy> {
+    alloc: A,
+    stage: Stage<Setup<A>, BoardFloor<A>>,
+}
+
+impl<A: Allocator + Copy> Model for Clerk<A> {
+    ghost use Rattle.cq_report.specs.Machine.{Staged};
+
+    ghost Value = { Staged };
+
+    ghost view = { λ s. s.stage };
+}
+
+impl<A: Allocator + Copy> Clerk<A> {
+    /// Nothing has happened yet.
+    pub(crate) fn begin(alloc: A) -> Self
+        ensures { result ≡ begin_stage }
+    {
+        Clerk {
+            alloc,
+            stage: Stage::Setup(Setup::begin(alloc)),
+        }
+    }
+
+    /// Answers a line that declares a relation.
+    fn declare<W: Sink>(
+        &mut self,
+        name: &str,
+        arity: usize,
+        output: &mut Output<'_, W, A>,
+    ) -> Result<(), RunFault>
+        requires { W.write_failures output.old.sink.now < 2 ^ 62 }
+        ensures state { OnOk result (self.new ≡ (declare self.old name.now arity).0) }
+        ensures put { Put W.taken W.write_failures output.old output.new (declare self.old name.now arity).1 result }
+    {
+        let declared = match &mut self.stage {
+            Stage::Setup(setup) => setup.declare(name, arity),
+            Stage::Serving(_) => return output.put_text(late_line()),
+        };
+        let Err(fault) = declared else {
+            return output.put_text(ok_line());
+        };
+        match fault {
+            CatalogFault::NoMemory => Err(RunFault::NoMemory),
+            _ => output.put_text(catalog_line(fault)),
+        }
+    }
+
+    /// Answers a line of limits.
+    fn limit<W: Sink>(
+        &mut self,
+        limits: Limits,
+        output: &mut Output<'_, W, A>,
+    ) -> Result<(), RunFault>
+        requires { W.write_failures output.old.sink.now < 2 ^ 62 }
+        ensures state { OnOk result (self.new ≡ (limit self.old limits).0) }
+        ensures put { Put W.taken W.write_failures output.old output.new (limit self.old limits).1 result }
+    {
+        match &mut self.stage {
+            Stage::Setup(setup) => setup.limit(limits),
+            Stage::Serving(_) => return output.put_text(late_line()),
+        }
+        output.put_text(ok_line())
+    }
+
+    /// The floor opens, where the setup lasts.
+    fn open(&mut self) -> Result<(), AllocError>
+        ensures { OnOk result (self.new ≡ Serving (serving_of self.old)) }
+    {
+        if let Stage::Setup(setup) = &mut self.stage {
+            let setup = mem::replace(setup, Setup::begin(self.alloc));
+            let floor = open(self.alloc, setup)?;
+            mem::drop(mem::replace(&mut self.stage, Stage::Serving(floor)));
+        }
+        Ok(())
+    }
+
+    /// Answers an event of the session.
+    fn happen<W: Sink>(
+        &mut self,
+        event: Event<Edit<A>>,
+        output: &mut Output<'_, W, A>,
+    ) -> Result<(), RunFault>
+        requires { W.write_failures output.old.sink.now < 2 ^ 62 }
+        ensures state { OnOk result (self.new ≡ (happen self.old event).0) }
+        ensures put { Put W.taken W.write_failures output.old output.new (happen self.old event).1 result }
+    {
+        self.open()?;
+        match &mut self.stage {
+            Stage::Setup(_) => unreachable!(),
+            Stage::Serving(floor) => happen(self.alloc, floor, event, output),
+        }
+    }
+
+    /// Answers an edit.
+    fn enter<W: Sink>(
+        &mut self,
+        edit: Edit<A>,
+        output: &mut Output<'_, W, A>,
+    ) -> Result<(), RunFault>
+        requires { W.write_failures output.old.sink.now < 2 ^ 62 }
+        ensures state { OnOk result (self.new ≡ (happen self.old (Enter 0 edit)).0) }
+        ensures put { Put W.taken W.write_failures output.old output.new (happen self.old (Enter 0 edit)).1 result }
+    {
+        self.happen(
+            Event::Enter {
+                author: SESSION,
+                edit,
+            },
+            output,
+        )
+    }
+
+    /// Answers a command, where this form was settled before it, if any.
+    pub(crate) fn serve<W: Sink>(
+        &mut self,
+        heading: Option<Form>,
+        command: Command<A>,
+        output: &mut Output<'_, W, A>,
+    ) -> Result<(), RunFault>
+        requires { W.write_failures output.old.sink.now < 2 ^ 62 }
+        ensures stage { OnOk result (self.new ≡ (staged self.old heading (Reads command)).0) }
+        ensures put { Put W.taken W.write_failures output.old output.new (staged self.old heading (Reads command)).1 result }
+    {
+        match command {
+            CommandKind::Blank => Ok(()),
+            CommandKind::Board { form: _form } => output.put_text(board_line(heading)),
+            CommandKind::Relation { name, arity } => self.declare(name.as_str(), arity, output),
+            CommandKind::Limits { pool, journal } => self.limit(Limits { pool, journal }, output),
+            CommandKind::Post { name, query } => self.enter(EditKind::Post { name, query }, output),
+            CommandKind::Withdraw { name } => self.enter(EditKind::Withdraw { name }, output),
+            CommandKind::Insert { row } => self.enter(EditKind::Insert { row }, output),
+            CommandKind::Delete { row } => self.enter(EditKind::Delete { row }, output),
+            CommandKind::Publish => self.happen(Event::Publish, output),
+            CommandKind::Show => self.happen(Event::Look { session: SESSION }, output),
+        }
+    }
+}
