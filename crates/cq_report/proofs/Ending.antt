@@ -7,6 +7,7 @@ use Rattle.cq_report.specs.declared.fault.RunFault.{RunFault}
 use Rattle.cq_report.specs.declared.fault.RunFault.TheVariants as faults
 use Rattle.cq_report.specs.Lines.{lines_of, whole_lines}
 use Rattle.cq_report.specs.Reading.{Reading}
+use Rattle.cq_report.specs.Machine.{begin_state}
 use Rattle.cq_report.specs.Output.{AreReadings, AreReadFrom, output}
 use Rattle.cq_report.specs.Steps.Written.{Passes}
 use Rattle.cq_report.specs.Run.{IfRead, WroteWholeLines}

@@ -178,5 +178,5 @@ WroteFirstLines-none left taken = record {
   whole = refl;
   readings = [];
   are = tt;
-  wrote = λ rs h. rw (none_of_them rs h) (Appends-nil taken);
+  wrote = λ rs h. rw (none_of_them begin_state rs h) (Appends-nil taken);
 }

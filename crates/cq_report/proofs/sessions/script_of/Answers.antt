@@ -4,9 +4,9 @@ use Rattle.cq_report.proofs.Rooms.{ran, set_even, set_asked}
 use Rattle.cq_report.proofs.sessions.script_of.Goals as goal
 
 pub serve_room-requires-clause-even : goal.serve_room-requires-clause-even
-serve_room-requires-clause-even g c κs live = set_even c.args.setup.now _ _ _ _ c.in_ok-setup.ensures.set
+serve_room-requires-clause-even g c κs live = set_even c.args.setup.now _ _ _ _ c.in_ok-heading.ensures.set
 
 pub returns : goal.returns
 returns g c =
     ran c.args.setup.now _ _ _ _ _ _ (map (λ file. file.items) c.args.files.now) (string_bytes c.new-page.result) (string_bytes c.begin.new.page) (string_bytes c.serve_room.new.page)
-    c.in_ok-setup.ensures.set c.in_ok-setup.ensures.behind c.in_ok-parts.ensures.opening c.in_ok-parts.ensures.limit c.new-page.ensures.bytes c.in_ok-parts.ensures.put c.in_ok-serve_room.ensures
+    c.in_ok-heading.ensures.set c.in_ok-heading.ensures.behind c.in_ok-parts.ensures.opening c.in_ok-parts.ensures.limit c.new-page.ensures.bytes (rw c.form_of-form.ensures at c.in_ok-parts.ensures.put) (rw c.form_of-form.ensures at c.in_ok-serve_room.ensures)

@@ -14,31 +14,31 @@ settled None kind offset = refl
 settled (Some form) kind offset = refl
 
 pub returns-in-Ok-clause-read : goal.returns-in-Ok-clause-read
-returns-in-Ok-clause-read g c = on_ok c.serve.result _ (Reads c.in-Ok.command, rw c.form.ensures at c.in-Ok.ensures.found)
+returns-in-Ok-clause-read g c = on_ok c.serve.result _ (Reads c.in-Ok.command, rw c.form-form.ensures at c.in-Ok.ensures.found)
 
 pub returns-in-Ok-clause-ok : goal.returns-in-Ok-clause-ok
 returns-in-Ok-clause-ok g c =
     reads_ok _ _ c.args.output.now c.serve.new.output (form_in c.args.self.now) c.args.self.now c.serve.new.self c.args.line.now (Reads c.in-Ok.command)
-    (only_command (form_in c.args.self.now) c.args.line.now c.in-Ok.command (rw c.form.ensures at c.in-Ok.ensures.only) (rw c.form.ensures at c.in-Ok.ensures.only_fault)) c.serve.result c.serve.ensures.state c.serve.ensures.put
+    (only_command (form_in c.args.self.now) c.args.line.now c.in-Ok.command (rw c.form-form.ensures at c.in-Ok.ensures.only) (rw c.form-form.ensures at c.in-Ok.ensures.only_fault)) c.serve.result c.serve.ensures.state c.serve.ensures.put
 
 pub returns-in-Ok-clause-err : goal.returns-in-Ok-clause-err
 returns-in-Ok-clause-err g c =
     reads_err _ _ c.args.output.now c.serve.new.output (form_in c.args.self.now) c.args.self.now c.serve.new.self c.args.line.now (Reads c.in-Ok.command)
-    (only_command (form_in c.args.self.now) c.args.line.now c.in-Ok.command (rw c.form.ensures at c.in-Ok.ensures.only) (rw c.form.ensures at c.in-Ok.ensures.only_fault)) c.serve.result c.serve.ensures.put
+    (only_command (form_in c.args.self.now) c.args.line.now c.in-Ok.command (rw c.form-form.ensures at c.in-Ok.ensures.only) (rw c.form-form.ensures at c.in-Ok.ensures.only_fault)) c.serve.result c.serve.ensures.put
 
 pub returns-in-Err-At-clause-read : goal.returns-in-Err-At-clause-read
-returns-in-Err-At-clause-read g c = on_ok c.put_reply.result _ (Faulty c.in-Err-At.kind c.in-Err-At.offset, the_fault (form_in c.args.self.now) c.args.line.now _ c.in-Err-At.kind c.in-Err-At.offset c.in-Err-At.field-0-is (rw c.form.ensures at c.in-Err-At.ensures.fault))
+returns-in-Err-At-clause-read g c = on_ok c.put_reply.result _ (Faulty c.in-Err-At.kind c.in-Err-At.offset, the_fault (form_in c.args.self.now) c.args.line.now _ c.in-Err-At.kind c.in-Err-At.offset c.in-Err-At.field-0-is (rw c.form-form.ensures at c.in-Err-At.ensures.fault))
 
 pub returns-in-Err-At-clause-ok : goal.returns-in-Err-At-clause-ok
 returns-in-Err-At-clause-ok g c =
     reads_ok _ _ c.args.output.now c.put_reply.new.output (form_in c.args.self.now) c.args.self.now c.settle.new.self c.args.line.now (Faulty c.in-Err-At.kind c.in-Err-At.offset)
-    (only_the_fault (form_in c.args.self.now) c.args.line.now _ c.in-Err-At.kind c.in-Err-At.offset c.in-Err-At.field-0-is (rw c.form.ensures at c.in-Err-At.ensures.only) (rw c.form.ensures at c.in-Err-At.ensures.only_fault)) c.put_reply.result
-    (on_ok c.put_reply.result _ (c.settle.ensures ∙ rw c.form.ensures (ap (λ (h : Option Form). record { heading = h; stage = c.args.self.now.stage }) (settled c.args.self.now.heading c.in-Err-At.kind c.in-Err-At.offset)))) (c.put_reply.ensures (fault_line c.in-Err-At.kind c.in-Err-At.offset) c.fault_line.ensures)
+    (only_the_fault (form_in c.args.self.now) c.args.line.now _ c.in-Err-At.kind c.in-Err-At.offset c.in-Err-At.field-0-is (rw c.form-form.ensures at c.in-Err-At.ensures.only) (rw c.form-form.ensures at c.in-Err-At.ensures.only_fault)) c.put_reply.result
+    (on_ok c.put_reply.result _ (c.settle.ensures ∙ rw c.form-form.ensures (ap (λ (h : Option Form). record { heading = h; stage = c.args.self.now.stage }) (settled c.args.self.now.heading c.in-Err-At.kind c.in-Err-At.offset)))) (c.put_reply.ensures (fault_line c.in-Err-At.kind c.in-Err-At.offset) c.fault_line.ensures)
 
 pub returns-in-Err-At-clause-err : goal.returns-in-Err-At-clause-err
 returns-in-Err-At-clause-err g c =
     reads_err _ _ c.args.output.now c.put_reply.new.output (form_in c.args.self.now) c.args.self.now c.settle.new.self c.args.line.now (Faulty c.in-Err-At.kind c.in-Err-At.offset)
-    (only_the_fault (form_in c.args.self.now) c.args.line.now _ c.in-Err-At.kind c.in-Err-At.offset c.in-Err-At.field-0-is (rw c.form.ensures at c.in-Err-At.ensures.only) (rw c.form.ensures at c.in-Err-At.ensures.only_fault)) c.put_reply.result
+    (only_the_fault (form_in c.args.self.now) c.args.line.now _ c.in-Err-At.kind c.in-Err-At.offset c.in-Err-At.field-0-is (rw c.form-form.ensures at c.in-Err-At.ensures.only) (rw c.form-form.ensures at c.in-Err-At.ensures.only_fault)) c.put_reply.result
     (c.put_reply.ensures (fault_line c.in-Err-At.kind c.in-Err-At.offset) c.fault_line.ensures)
 
 pub returns-in-Err-At-clause-fails : goal.returns-in-Err-At-clause-fails
