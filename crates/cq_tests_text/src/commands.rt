@@ -12,6 +12,7 @@ fn kind_of(command: &Command) -> (&str, usize, usize) {
     match command {
         CommandKind::Blank => ("", 0, 0),
         CommandKind::Relation { name, arity } => ("relation", name.as_str().len(), *arity),
+        CommandKind::Board { form } => ("board", form.max_terms(), form.max_atoms()),
         CommandKind::Limits { pool, journal } => ("limits", *pool, *journal),
         CommandKind::Post { name, query } => ("post", name.as_str().len(), query.body().len()),
         CommandKind::Withdraw { name } => ("withdraw", name.as_str().len(), 0),
@@ -38,6 +39,8 @@ fn kinds(rt: HostRuntime) {
         ("#", "", 0, 0),
         ("  # post -0", "", 0, 0),
         ("relation Flights 8", "relation", 7, 8),
+        ("board 1", "board", 8, 8),
+        (" board 2 ", "board", 16, 16),
         ("limits 1000000 1 ", "limits", MAX_COUNT, 1),
         ("post kramer {} R(x) <- T(x), U(1)", "post", 6, 2),
         (" post show{}R(Jerry)<-\r", "post", 4, 0),
