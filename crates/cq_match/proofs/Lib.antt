@@ -20,6 +20,7 @@ pub mod Pruning
 pub mod Raising
 pub mod Ranks
 pub mod Reaching
+pub mod Reasons
 pub mod Renaming
 pub mod Rows
 pub mod Settling
@@ -29,3 +30,4 @@ pub mod Tests
 pub mod Tidying
 pub mod Union
 pub mod Waking
+pub mod Waves

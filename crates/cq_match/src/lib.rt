@@ -16,6 +16,7 @@
 #![tactic(auto)]
 
 mod edge;
+mod falls;
 mod graph;
 mod marks;
 mod matched;
@@ -24,5 +25,6 @@ mod settle;
 mod showing;
 
 pub use edge::{Edge, is_crowd};
+pub use falls::{Fall, Reason, falling};
 pub use matched::greatest;
 pub use matcher::Matcher;

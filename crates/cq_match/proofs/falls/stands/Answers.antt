@@ -1,0 +1,1 @@
+use Rattle.cq_match.proofs.Reasons.{falling-unmatched}
