@@ -7,6 +7,7 @@ pub mod Counting
 pub mod Dropping
 pub mod Edges
 pub mod Erasing
+pub mod Felled
 pub mod Felling
 pub mod Fits
 pub mod Flags

@@ -6,11 +6,11 @@ use Rattle.cq_match.proofs.Union.{HasEnds}
 use Rattle.cq_match.proofs.Waves.{Waving, SoFar}
 use Rattle.cq_match.proofs.falls.rounds_of.Given as goal
 
-abbrev pub invariant-loop-1 : goal.invariant-loop-1
-invariant-loop-1 g l = record {
+abbrev pub invariant-loop-alloc : goal.invariant-loop-alloc
+invariant-loop-alloc g l = record {
   waving : Waving l.ranked l.slots.owners.items l.offers l.standing.items l.counts.items l.waiting.items;
   so_far : (edges : List Edge) → All (HasEnds l.ranked) edges → AreOffersOf l.ranked l.slots.starts.items (length l.slots.owners.items) edges l.offers → SoFar l.ranked edges l.standing.items l.falls.items;
 }
 
-abbrev pub decreases-loop-1 : goal.decreases-loop-1
-decreases-loop-1 g l = sum l.counts.items + vec_len l.waiting
+abbrev pub decreases-loop-alloc : goal.decreases-loop-alloc
+decreases-loop-alloc g l = sum l.counts.items + vec_len l.waiting
