@@ -23,6 +23,7 @@ pub mod Ranks
 pub mod Reaching
 pub mod Reasons
 pub mod Renaming
+pub mod Rounds
 pub mod Rows
 pub mod Settling
 pub mod Slots
