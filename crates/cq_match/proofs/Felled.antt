@@ -1,11 +1,11 @@
 -- Places that fall one by one, and those that then wait.
-use Rattle.std.proofs.Common.{◌≡◌, ℕ, zero, suc, ◌+◌, ◌<◌, ◌≤◌, ◌≢◌, ◌⊎◌, inl, inr, Bool, true, false, not, cond, ◌&&◌, ◌||◌, eqb, ltb, List, [], ◌∷◌, ◌++◌, length, get_or, set, take, filter, count_by, nat_eq, refl, sym, ap, ◌∙◌, subst, arith, add-one, eq-eqb, SomeIndex}
+use Rattle.std.proofs.Common.{◌≡◌, ℕ, zero, suc, ◌+◌, ◌<◌, ◌≤◌, ◌≢◌, ◌⊎◌, inl, inr, Bool, true, false, not, cond, ◌&&◌, ◌||◌, eqb, ltb, List, [], ◌∷◌, ◌++◌, length, get_or, set, take, drop, filter, count_by, nat_eq, refl, sym, ap, ◌∙◌, subst, arith, add-one, eq-eqb, SomeIndex}
 use Rattle.std.specs.List.{All, AllZip, Contains, list_any}
 use Rattle.std.specs.List.Sorted.{IsStrictlyIncreasing}
 use Rattle.std.specs.Set.{is_member}
 use Rattle.std.proofs.lemmas.Bool.{eqb-true}
 use Rattle.std.proofs.lemmas.Bool.Decides.{nat_tests}
-use Rattle.std.proofs.lemmas.List.{get_or-set_other, get_or-take, get_or_default, length-take}
+use Rattle.std.proofs.lemmas.List.{take_at, get_or-set_other, get_or-take, get_or_default, length-take}
 use Rattle.std.proofs.lemmas.List.Elements.{All-contains, Contains-get_or}
 use Rattle.std.proofs.lemmas.List.Folds.{list_any_more, list_any_none}
 use Rattle.std.proofs.lemmas.List.Kept.{AllPairs-from_increasing}
@@ -60,6 +60,9 @@ pub zip-more : {X Y : Type 0} (R : X → Y → Type 0) (xs : List X) (ys : List 
 zip-more R xs ys i d y low h r = rw add-one (zip-next R xs ys i d y low h r)
 
 -- ---- places that fall
+
+pub cut-back : (standing standing' : List Bool) (n : ℕ) → length standing' ≡ n → take n (standing' ++ drop (length standing') standing) ≡ standing'
+cut-back standing standing' n len = take_at standing' (drop (length standing') standing) n len
 
 abbrev pub Fell : List Bool → List Bool → List ℕ → Type 0
 Fell start standing round = (place : ℕ) → stands standing place ≡ (stands start place && not (is_member nat_eq round place))
