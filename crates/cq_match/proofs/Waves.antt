@@ -251,6 +251,14 @@ module _ (ranked : Nodes) (starts owners : List ℕ) (offers : List Offer) (risi
           either true false = refl
           either false b = refl
 
+    -- where none waits all have fallen that fall
+    pub all-rounds : length waiting ≡ 0 → AreAllRounds ranked edges falls
+    all-rounds none = record {
+      rounds = f.rounds;
+      last = is-round [] (λ k low. absurd (let l : k + 1 < 0 = low in omega arith))
+          (λ p. (λ h. absurd (none-Contains p h), λ h. absurd (let inside : h.0.0 < length waiting = h.0.1 in omega arith))) [] tt;
+    }
+
   pub waving-start : (counts waiting : List ℕ) → All (λ o. (o.provider < length ranked) × (o.slot < length owners)) offers → length counts ≡ length owners
       → ((slot : ℕ) → slot < length owners → get_or counts slot 0 ≡ count_by (is_into slot) offers)
       → ((slot : ℕ) → slot < length owners → get_or counts slot 0 ≡ 0 → Contains waiting (get_or owners slot 0))

@@ -1,11 +1,12 @@
 use Rattle.std.proofs.Common.{◌≡◌, ℕ, ◌<◌, ◌++◌, [], Bool, true, List, length, get_or, replicate, ap, sym, ◌∙◌, arith}
 use Rattle.std.specs.List.{All, AllZip, Contains}
+use Rattle.std.proofs.lemmas.Bool.{eqb-true}
 use Rattle.cq_match.specs.declared.falls.Fall.{Fall}
 use Rattle.cq_match.specs.Steps.Falls.{IsFallOf}
 use Rattle.cq_match.proofs.Dropping.{IsUnfed, EachWaits}
 use Rattle.cq_match.proofs.Felled.{Fell, Counted, cut-back}
 use Rattle.cq_match.proofs.Settling.{written-back}
-use Rattle.cq_match.proofs.Waves.{Keeps, due-low, due-within, due-empty, round-due, so-far-next, waving-start, waving-next, so-far-start, is-round}
+use Rattle.cq_match.proofs.Waves.{Keeps, due-low, due-within, due-empty, round-due, so-far-next, waving-start, waving-next, so-far-start, all-rounds}
 use Rattle.cq_match.proofs.falls.rounds_of.Goals as goal
 
 pub loop-alloc-init : goal.loop-alloc-init
@@ -99,5 +100,10 @@ loop-alloc-preserved g c =
 
 pub returns : goal.returns
 returns g c edges ends l =
-    let w = c.loop-alloc.invariant.waving in
-    ?
+    let ranked = c.args.ranked.now in
+    let slots = c.args.slots.now in
+    let waiting = c.loop-alloc.waiting in
+    let len : waiting.len ≡ 0 = eqb-true waiting.len 0 (sym c.loop-alloc-test.ensures) in
+    let none : length waiting.items ≡ 0 = omega (arith, waiting.ok.0) in
+    all-rounds ranked slots.starts.items slots.owners.items c.args.offers.now c.requires.rising c.requires.slots edges ends l
+    c.loop-alloc.standing.items c.loop-alloc.counts.items waiting.items c.loop-alloc.invariant.waving c.loop-alloc.falls.items (c.loop-alloc.invariant.so_far edges ends l) none

@@ -1,1 +1,0 @@
-use Rattle.cq_match.proofs.Reasons.{falling-unmatched}
