@@ -1,4 +1,8 @@
 //! Which nodes fall, why, and in which order.
+//!
+//! All places stand at first, as in `settle`, and fall in rounds: in each all those of which a slot is fed by no
+//! standing place. Their offers are counted no longer once the round is told, so that the reasons of a round are
+//! those that the rounds before it make.
 
 ghost use Rattle.std.specs.Prelude.{◌≡◌, ◌==◌, ◌++◌, ◌<◌, ◌≤◌, ◌+◌, ◌↔◌, ◌⊎◌, ◌&&◌, not, ℕ, Bool, true, false, List, length, sum, count_by, slice_index, vec_len, IfOk, OnOk, SomeIndex, nat_eq};
 ghost use Rattle.std.specs.List.{All, AllZip, Any, Contains, IsDistinct};
@@ -164,6 +168,21 @@ fn rounds_of<A: Allocator + Copy>(
 }
 
 /// The nodes that are not matched, each with the reason why it falls.
+///
+/// A list of nodes with reasons is falling if each node is not able, or has the named postcondition, all of whose
+/// edges come from nodes that stand earlier in the list; there may be none. A node is not matched exactly where some
+/// falling list has it, and the answer is one that has all these nodes, each once. It goes in rounds: first those that fall
+/// by themselves, then those that fall by these, and so on, rising by their numbers in each round. The reason of a
+/// node is the first that it has when its round begins: not able, if it is not able, and else its lowest postcondition
+/// all of whose edges come from nodes of earlier rounds. Falling lists and their order are this project's profile.
+///
+/// `nodes` gives each node's number, how many postconditions it has, and whether it is able, in any order.
+///
+/// Each edge is looked at once, and each postcondition of a node that falls; besides that, nodes, edges and those that
+/// fall in a round are sorted and nodes looked up by halving. No clause says so.
+///
+/// # Errors
+/// `AllocError` where a growth was refused.
 pub fn falling<A: Allocator + Copy>(
     alloc: A,
     nodes: &[(usize, u8, bool)],

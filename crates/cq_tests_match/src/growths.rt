@@ -222,7 +222,20 @@ fn refused_growth_in_greatest(rt: HostRuntime) {
 struct Telling;
 
 fn are_told<A: Allocator + Copy>(alloc: A) -> Result<bool, AllocError> {
-    let edges = [edge(4, 7), edge(7, 4)];
+    let edges = [
+        Edge {
+            provider: 4,
+            head: 0,
+            waiter: 7,
+            post: 0,
+        },
+        Edge {
+            provider: 7,
+            head: 0,
+            waiter: 4,
+            post: 0,
+        },
+    ];
     let told = falling(alloc, &[(7, 1, true), (4, 1, false)], &edges)?;
     let wanted = [
         Fall {

@@ -1,8 +1,10 @@
 //! Which nodes fall, why, and in which order. What is expected was worked out by hand.
 
-ghost use Rattle.std.specs.Prelude.{◌≡◌, ℕ, ◌<◌, IsTrue, length, slice_index};
-ghost use Rattle.std.specs.List.{All};
-ghost use Rattle.cq_tests_match.specs.Reasons.{AreNumbered, IsWithin};
+ghost use Rattle.std.specs.Prelude.{IsTrue, nat_eq};
+ghost use Rattle.std.specs.List.{All, IsDistinct};
+ghost use Rattle.cq_match.specs.Matched.{numbers};
+ghost use Rattle.cq_tests_match.specs.Guarded.{HasEnds};
+ghost use Rattle.cq_tests_match.specs.Reasons.{AreNumbered};
 
 use crate::listed::falls_of;
 use cq_match::{Edge, Fall, Reason, falling};
@@ -118,7 +120,8 @@ const SIZE: usize = 10_000;
 
 /// Whether each node's number is its place.
 fn are_numbered(nodes: &[(usize, u8, bool)]) -> bool
-    ensures { IsTrue result → AreNumbered nodes.now }
+    ensures distinct { IsTrue result → IsDistinct nat_eq (numbers nodes.now) }
+    ensures numbered { IsTrue result → AreNumbered nodes.now }
 {
     for (place, node) in nodes.iter().enumerate() {
         if node.0 != place {
@@ -128,15 +131,22 @@ fn are_numbered(nodes: &[(usize, u8, bool)]) -> bool
     true
 }
 
-/// Whether the ends of each edge are below the nodes' number, and its waiter has the postcondition.
+/// Whether the ends of the edge are places, and its waiter has the postcondition.
+fn is_within(nodes: &[(usize, u8, bool)], edge: Edge) -> bool
+    ensures { IsTrue result → AreNumbered nodes.now → HasEnds nodes.now edge }
+{
+    if edge.provider >= nodes.len() || edge.waiter >= nodes.len() {
+        return false;
+    }
+    edge.post < nodes[edge.waiter].1
+}
+
+/// The same of all edges.
 fn are_within(nodes: &[(usize, u8, bool)], edges: &[Edge]) -> bool
-    ensures { IsTrue result → All (IsWithin nodes.now) edges.now }
+    ensures { IsTrue result → AreNumbered nodes.now → All (HasEnds nodes.now) edges.now }
 {
     for edge in edges {
-        if edge.provider >= nodes.len()
-            || edge.waiter >= nodes.len()
-            || edge.post >= nodes[edge.waiter].1
-        {
+        if !is_within(nodes, *edge) {
             return false;
         }
     }
