@@ -27,6 +27,7 @@ pub mod Rounds
 pub mod Rows
 pub mod Settling
 pub mod Slots
+pub mod Spreading
 pub mod Standing
 pub mod Tests
 pub mod Tidying

@@ -1,5 +1,5 @@
 -- What all rounds of falls have: a falling list, each node once, and all that are not matched.
-use Rattle.std.proofs.Common.{◌≡◌, ℕ, ◌<◌, ◌↔◌, ◌≢◌, Bool, true, false, not, ◌&&◌, ◌||◌, List, [], ◌∷◌, ◌++◌, length, get_or, map, filter, refl, sym, ap, ◌∙◌, subst, arith, nat_eq, eqb, eq-eqb, append_assoc, Result, Ok, Err, IfOk, OnOk}
+use Rattle.std.proofs.Common.{◌≡◌, ℕ, ◌<◌, ◌↔◌, ◌≢◌, Bool, true, false, not, ◌&&◌, ◌||◌, List, [], ◌∷◌, ◌++◌, length, get_or, map, filter, refl, sym, ap, ◌∙◌, subst, arith, nat_eq, eqb, eq-eqb, append_assoc, Result, Ok, Err, IfOk}
 use Rattle.std.specs.List.{All, Any, Contains, IsDistinct}
 use Rattle.std.specs.List.Sorted.{IsPermutation}
 use Rattle.std.specs.Set.{is_member}
@@ -19,7 +19,7 @@ use Rattle.cq_match.specs.declared.falls.Fall.{Fall}
 use Rattle.cq_match.specs.declared.falls.Reason.{Reason}
 use Rattle.cq_match.specs.declared.falls.Reason.TheVariants.{NotAble}
 use Rattle.cq_match.specs.Matched.{numbers, is_supplied, has_each_post, is_closed, is_matched}
-use Rattle.cq_match.specs.Falling.{is_unmet, IsFirstReason, fallen, IsFallingAfter, IsFalling, CanFall, IsUnmatched, FallsNext, IsRound, AreRounds, Start, Next, AreAllRounds}
+use Rattle.cq_match.specs.Falling.{is_unmet, IsFirstReason, fallen, IsFallingAfter, IsFalling, IsUnmatched, FallsNext, IsRound, AreRounds, Start, Next, AreAllRounds}
 use Rattle.cq_match.proofs.Bridge.{none-Contains, listed-number}
 use Rattle.cq_match.proofs.Ranks.{Nodes}
 use Rattle.cq_match.proofs.Reasons.{mapped-has, mapped-from, first-has, has-more, first-unmet, unmet-more, unmet-is, falling-unmatched}
@@ -29,7 +29,7 @@ use Rattle.cq_match.proofs.Union.{HasEnds, member-contained, contained-member, e
 module _ (nodes : Nodes) (edges : List Edge) where
   -- ---- all rounds are a falling list
 
-  falling-append : (gone : List ℕ) (falls more : List Fall) → IsFallingAfter nodes edges gone falls → IsFallingAfter nodes edges (gone ++ fallen falls) more → IsFallingAfter nodes edges gone (falls ++ more)
+  pub falling-append : (gone : List ℕ) (falls more : List Fall) → IsFallingAfter nodes edges gone falls → IsFallingAfter nodes edges (gone ++ fallen falls) more → IsFallingAfter nodes edges gone (falls ++ more)
   falling-append gone [] more h later = subst (λ (l : List ℕ). IsFallingAfter nodes edges l more) (append-nil gone) later
   falling-append gone (fall ∷ falls) more (some, rest) later =
       (some, falling-append (gone ++ fall.node ∷ []) falls more rest (subst (λ (l : List ℕ). IsFallingAfter nodes edges l more) (sym (append_assoc gone (fall.node ∷ []) (fallen falls))) later))
@@ -90,7 +90,8 @@ module _ (nodes : Nodes) (edges : List Edge) where
 
   -- ---- and they have all that are not matched
 
-  module _ (gone : List ℕ) (ends : All (HasEnds nodes) edges) (last : IsRound nodes edges gone []) where
+  module _ (gone : List ℕ) (ends : All (HasEnds nodes) edges)
+      (no-next : (node : ℕ × ℕ × Bool) (r : Reason) → Contains nodes node → is_member nat_eq gone node.0 ≡ false → IsFirstReason (is_unmet edges gone node.0) node r → ⊥) where
     abbrev stays : ℕ → Bool
     stays n = not (is_member nat_eq gone n)
 
@@ -102,10 +103,6 @@ module _ (nodes : Nodes) (edges : List Edge) where
 
     rest-known : (n : ℕ) → Contains (numbers nodes) n → is_member nat_eq rest n ≡ not (is_member nat_eq gone n)
     rest-known n h = rest-member n ∙ ap (λ (b : Bool). b && stays n) (contained-member (numbers nodes) n h)
-
-    no-next : (node : ℕ × ℕ × Bool) (r : Reason) → Contains nodes node → is_member nat_eq gone node.0 ≡ false → IsFirstReason (is_unmet edges gone node.0) node r → ⊥
-    no-next node r (k, low, at) out first =
-        none-Contains (record { node = node.0; reason = r }) ((last.each (record { node = node.0; reason = r })).1 ((k, node, low, at, (refl, first)), out))
 
     rest-able : (node : ℕ × ℕ × Bool) → Contains nodes node → is_member nat_eq gone node.0 ≡ false → node.2 ≡ true
     rest-able node listed out = by_bool node.2 (node.2 ≡ true) (λ t. t) (λ f. absurd (no-next node NotAble listed out f))
@@ -149,17 +146,13 @@ module _ (nodes : Nodes) (edges : List Edge) where
         let up = part-found (λ set. is_closed nodes edges set && is_member nat_eq set n) stays (numbers nodes) (both (is_closed nodes edges rest) (is_member nat_eq rest n) rest-closed member) in
         absurd (let never : false ≡ true = sym down ∙ up in cc))
 
-  module _ (falls : List Fall) (ends : All (HasEnds nodes) edges) (all : AreAllRounds nodes edges falls) where
-    -- The nodes of all rounds are those that are not matched.
-    pub rounds-unmatched : (n : ℕ) → Contains (fallen falls) n ↔ IsUnmatched nodes edges n
-    rounds-unmatched n = (falling-unmatched nodes edges falls (rounds-falling falls all.rounds) n, unmatched-gone (fallen falls) ends all.last n)
+  round-none : (gone : List ℕ) → IsRound nodes edges gone [] → (node : ℕ × ℕ × Bool) (r : Reason) → Contains nodes node → is_member nat_eq gone node.0 ≡ false → IsFirstReason (is_unmet edges gone node.0) node r → ⊥
+  round-none gone last node r (k, low, at) out first =
+      none-Contains (record { node = node.0; reason = r }) ((last.each (record { node = node.0; reason = r })).1 ((k, node, low, at, (refl, first)), out))
 
-    -- A node is not matched exactly where some falling list has it.
-    pub unmatched-law : (n : ℕ) → IsUnmatched nodes edges n ↔ CanFall nodes edges n
-    unmatched-law n = (
-      λ h. record { falls = falls; falling = rounds-falling falls all.rounds; has = unmatched-gone (fallen falls) ends all.last n h },
-      λ h. falling-unmatched nodes edges h.falls h.falling n h.has,
-    )
+  -- The nodes of all rounds are those that are not matched.
+  pub rounds-unmatched : (falls : List Fall) → All (HasEnds nodes) edges → AreAllRounds nodes edges falls → (n : ℕ) → Contains (fallen falls) n ↔ IsUnmatched nodes edges n
+  rounds-unmatched falls ends all n = (falling-unmatched nodes edges falls (rounds-falling falls all.rounds) n, unmatched-gone (fallen falls) ends (round-none (fallen falls) all.last) n)
 
 -- ---- the nodes in another order
 
@@ -185,11 +178,6 @@ module _ (nodes ranked : Nodes) (edges : List Edge) (moved : IsPermutation nodes
 
 -- ---- what all answers have
 
-module _ {X Y : Type 0} where
-  pub if-ok-so : (r : Result X Y) (P Q : X → Type 0) → ((x : X) → P x → Q x) → IfOk r P → IfOk r Q
-  if-ok-so (Ok x) P Q f p = f x p
-  if-ok-so (Err e) P Q f p = tt
-
-  pub on-ok-so : (r : Result X Y) (P : X → Type 0) (Q : Type 0) → ((x : X) → P x → Q) → IfOk r P → OnOk r Q
-  on-ok-so (Ok x) P Q f p = f x p
-  on-ok-so (Err e) P Q f p = tt
+pub if-ok-so : {X Y : Type 0} (r : Result X Y) (P Q : X → Type 0) → ((x : X) → P x → Q x) → IfOk r P → IfOk r Q
+if-ok-so (Ok x) P Q f p = f x p
+if-ok-so (Err e) P Q f p = tt

@@ -194,7 +194,7 @@ pub fn falling<A: Allocator + Copy>(
     ensures unmatched { IfOk result (λ falls. (n : ℕ) → Contains (fallen falls.items) n ↔ IsUnmatched nodes.now edges.now n) }
     ensures once { IfOk result (λ falls. IsDistinct nat_eq (fallen falls.items)) }
     ensures rounds { IfOk result (λ falls. AreAllRounds nodes.now edges.now falls.items) }
-    ensures law { OnOk result ((n : ℕ) → IsUnmatched nodes.now edges.now n ↔ CanFall nodes.now edges.now n) }
+    ensures law { (n : ℕ) → IsUnmatched nodes.now edges.now n ↔ CanFall nodes.now edges.now n }
 {
     let ranked = ranked(alloc, nodes)?;
     let slots = slots_of(alloc, &ranked)?;

@@ -1,8 +1,9 @@
 use Rattle.std.proofs.Common.{◌≡◌, ℕ, ◌↔◌, IfOk, length, nat_eq}
 use Rattle.std.specs.List.{All, Contains, IsDistinct}
-use Rattle.cq_match.specs.Falling.{fallen, IsFalling, IsUnmatched, CanFall, AreAllRounds}
+use Rattle.cq_match.specs.Falling.{fallen, IsFalling, IsUnmatched, AreAllRounds}
 use Rattle.cq_match.specs.Steps.Places.{AreOffersOf}
-use Rattle.cq_match.proofs.Rounds.{rounds-falling, rounds-distinct, rounds-unmatched, unmatched-law, all-moved, if-ok-so, on-ok-so}
+use Rattle.cq_match.proofs.Rounds.{rounds-falling, rounds-distinct, rounds-unmatched, all-moved, if-ok-so}
+use Rattle.cq_match.proofs.Spreading.{unmatched-law}
 use Rattle.cq_match.proofs.Union.{ends-ranked}
 use Rattle.cq_match.proofs.falls.falling.Goals as goal
 
@@ -40,8 +41,13 @@ returns-clause-unmatched g c =
     (λ falls h. rounds-unmatched nodes edges falls.items c.requires.ends h) (returns-clause-rounds g c)
 
 pub returns-clause-law : goal.returns-clause-law
-returns-clause-law g c =
-    let nodes = c.args.nodes.now in
-    let edges = c.args.edges.now in
-    on-ok-so c.rounds_of.result (λ falls. AreAllRounds nodes edges falls.items) ((n : ℕ) → IsUnmatched nodes edges n ↔ CanFall nodes edges n)
-    (λ falls h. unmatched-law nodes edges falls.items c.requires.ends h) (returns-clause-rounds g c)
+returns-clause-law g c = unmatched-law c.args.nodes.now c.args.edges.now c.requires.ends
+
+pub returns-in_err-ranked-clause-law : goal.returns-in_err-ranked-clause-law
+returns-in_err-ranked-clause-law g c = unmatched-law c.args.nodes.now c.args.edges.now c.requires.ends
+
+pub returns-in_err-slots-clause-law : goal.returns-in_err-slots-clause-law
+returns-in_err-slots-clause-law g c = unmatched-law c.args.nodes.now c.args.edges.now c.requires.ends
+
+pub returns-in_err-offers-clause-law : goal.returns-in_err-offers-clause-law
+returns-in_err-offers-clause-law g c = unmatched-law c.args.nodes.now c.args.edges.now c.requires.ends
