@@ -1,15 +1,14 @@
 -- Why nodes fall: unmet postconditions, first reasons, and falling lists beside closed sets.
-use Rattle.std.proofs.Common.{◌≡◌, ℕ, zero, suc, ◌+◌, ◌<◌, ◌≤◌, ◌⊎◌, inl, inr, Bool, true, false, not, ◌&&◌, ◌||◌, eqb, ltb, List, [], ◌∷◌, ◌++◌, length, get_or, map, refl, sym, ap, ◌∙◌, subst, arith, nat_eq}
+use Rattle.std.proofs.Common.{◌≡◌, ℕ, zero, suc, ◌<◌, ◌≤◌, inl, inr, Bool, true, false, not, ◌&&◌, ◌||◌, ltb, List, [], ◌∷◌, ◌++◌, length, map, refl, sym, ap, ◌∙◌, subst, arith, nat_eq}
 use borrow.Author.Tests.{ltb-true, ltb-false}
-use Rattle.std.specs.List.{All, Any, Contains, list_any, list_all}
+use Rattle.std.specs.List.{All, Contains}
 use Rattle.std.specs.Set.{is_member}
-use Rattle.std.proofs.lemmas.Bool.{eqb-true}
 use Rattle.std.proofs.lemmas.List.Elements.{All-head, All-tail, Contains-push_cases}
 use Rattle.cq_match.specs.declared.edge.Edge.{Edge}
 use Rattle.cq_match.specs.declared.falls.Fall.{Fall}
 use Rattle.cq_match.specs.declared.falls.Reason.{Reason}
 use Rattle.cq_match.specs.declared.falls.Reason.TheVariants.{NotAble, Unmet}
-use Rattle.cq_match.specs.Graph.{leads_to, edges_to}
+use Rattle.cq_match.specs.Graph.{leads_to}
 use Rattle.cq_match.specs.Matched.{numbers, is_supplied, has_each_post, is_closed, is_matched}
 use Rattle.cq_match.specs.Falling.{is_unmet, HasReason, IsFirstReason, fallen, IsFallingAfter, IsFalling, IsUnmatched}
 use Rattle.cq_match.proofs.Bridge.{here-Contains, later-Contains, none-Contains, listed-number}

@@ -1,5 +1,5 @@
 -- What all rounds of falls have: a falling list, each node once, and all that are not matched.
-use Rattle.std.proofs.Common.{◌≡◌, ℕ, ◌<◌, ◌↔◌, ◌≢◌, Bool, true, false, not, ◌&&◌, ◌||◌, List, [], ◌∷◌, ◌++◌, length, get_or, map, filter, refl, sym, ap, ◌∙◌, subst, arith, nat_eq, eqb, eq-eqb, append_assoc, Result, Ok, Err, IfOk}
+use Rattle.std.proofs.Common.{◌≡◌, ℕ, ◌<◌, ◌↔◌, Bool, true, false, not, ◌&&◌, ◌||◌, List, [], ◌∷◌, ◌++◌, get_or, filter, refl, sym, ap, ◌∙◌, subst, arith, nat_eq, eqb, eq-eqb, append_assoc, Result, Ok, Err, IfOk}
 use Rattle.std.specs.List.{All, Any, Contains, IsDistinct}
 use Rattle.std.specs.List.Sorted.{IsPermutation}
 use Rattle.std.specs.Set.{is_member}
@@ -22,8 +22,8 @@ use Rattle.cq_match.specs.Matched.{numbers, is_supplied, has_each_post, is_close
 use Rattle.cq_match.specs.Falling.{is_unmet, IsFirstReason, fallen, IsFallingAfter, IsFalling, IsUnmatched, FallsNext, IsRound, AreRounds, Start, Next, AreAllRounds}
 use Rattle.cq_match.proofs.Bridge.{none-Contains, listed-number}
 use Rattle.cq_match.proofs.Ranks.{Nodes}
-use Rattle.cq_match.proofs.Reasons.{mapped-has, mapped-from, first-has, has-more, first-unmet, unmet-more, unmet-is, falling-unmatched}
-use Rattle.cq_match.proofs.Tests.{by_bool, and_left, and_right, both}
+use Rattle.cq_match.proofs.Reasons.{mapped-from, first-has, has-more, first-unmet, unmet-more, unmet-is, falling-unmatched}
+use Rattle.cq_match.proofs.Tests.{by_bool, both}
 use Rattle.cq_match.proofs.Union.{HasEnds, member-contained, contained-member, each-post, part-found}
 
 module _ (nodes : Nodes) (edges : List Edge) where
@@ -69,6 +69,7 @@ module _ (nodes : Nodes) (edges : List Edge) where
           by_bool (eqb a b) (eqb a b ≡ false)
           (λ t. absurd (let never : true ≡ false = rw (eqb-true a b t, eq-eqb b b refl) at e in cc))
           (λ f. f)
+
       or-right : (a b : Bool) → (a || b) ≡ false → b ≡ false
       or-right true b e = absurd (let never : true ≡ false = e in cc)
       or-right false b e = e
@@ -132,6 +133,7 @@ module _ (nodes : Nodes) (edges : List Edge) where
         not-true : (b : Bool) → not b ≡ true → b ≡ false
         not-true true e = absurd (let never : false ≡ true = e in cc)
         not-true false e = refl
+
         or-true : (b : Bool) → (b || true) ≡ true
         or-true true = refl
         or-true false = refl

@@ -1,6 +1,6 @@
 -- Each graph has a falling list that no node can be put to, and it has all nodes that are not matched.
-use Rattle.std.proofs.Common.{◌≡◌, ℕ, zero, suc, ◌+◌, ◌<◌, ◌≤◌, ◌↔◌, ◌⊎◌, inl, inr, Bool, true, false, not, cond, ◌||◌, eqb, List, [], ◌∷◌, ◌++◌, length, get_or, count_by, refl, sym, ap, ◌∙◌, subst, arith, nat_eq, eq-eqb}
-use Rattle.std.specs.List.{All, Any, Contains}
+use Rattle.std.proofs.Common.{◌≡◌, ℕ, zero, suc, ◌+◌, ◌<◌, ◌≤◌, ◌↔◌, ◌⊎◌, inl, inr, Bool, true, false, not, cond, ◌||◌, eqb, List, [], ◌∷◌, ◌++◌, length, count_by, refl, sym, ap, ◌∙◌, subst, arith, nat_eq, eq-eqb}
+use Rattle.std.specs.List.{All, Contains}
 use Rattle.std.specs.Set.{is_member}
 use Rattle.std.proofs.lemmas.List.{map-append}
 use Rattle.std.proofs.lemmas.List.Folds.{list_any-append}
@@ -156,7 +156,7 @@ module _ (nodes : Nodes) (edges : List Edge) where
       elim (some-or-none (Falls (fallen falls)) (falls-or-not (fallen falls)) nodes) [
         | inr none ↦ (falls, record { falling = h; none = none })
         | inl found ↦ grow fuel (longer falls found.0 found.2.1.0) (longer-falling falls found.0 found.2.1.0 h found.1 found.2.1.1)
-          (let drops = longer-fewer falls found.0 found.2.1.0 found.1 found.2.0 in omega arith)
+            (let drops = longer-fewer falls found.0 found.2.1.0 found.1 found.2.0 in omega arith)
       ]
 
   -- A node is not matched exactly where some falling list has it.

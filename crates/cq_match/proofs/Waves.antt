@@ -1,6 +1,6 @@
 -- Rounds of falls, over places and slots.
 use Rattle.std.proofs.Common.{◌≡◌, ℕ, zero, suc, ◌+◌, ◌-◌, ◌<◌, ◌≤◌, ◌↔◌, ◌⊎◌, inl, inr, Bool, true, false, not, ◌&&◌, ◌||◌, eqb, List, [], ◌∷◌, ◌++◌, length, get_or, map, filter, replicate, count_by, refl, sym, ap, ◌∙◌, subst, arith, nat_eq, ◌==◌, eq-eqb}
-use Rattle.std.specs.List.{All, AllZip, Any, Contains, list_any}
+use Rattle.std.specs.List.{All, AllZip, Contains, list_any}
 use Rattle.std.specs.List.Sorted.{IsStrictlyIncreasing}
 use Rattle.std.specs.Set.{is_member}
 use Rattle.std.proofs.lemmas.Bool.{eqb-true}
@@ -289,12 +289,12 @@ module _ (ranked : Nodes) (starts owners : List ℕ) (offers : List Offer) (risi
         let p = get_or owners slot 0 in
         elim (each slot held none) [
           | inl before ↦ inl (fell p ∙ by_bool (stands standing p) ((stands standing p && not (is_member nat_eq round p)) ≡ false)
-          (λ t.
-          elim (w.empty slot held before) [
-            | inl down ↦ absurd (let never : false ≡ true = sym down ∙ t in cc)
-            | inr waits ↦ rw (t, contained-member round p ((keeps p).1 (waits, t))) refl
-          ])
-          (λ n. rw n refl))
+              (λ t.
+              elim (w.empty slot held before) [
+                | inl down ↦ absurd (let never : false ≡ true = sym down ∙ t in cc)
+                | inr waits ↦ rw (t, contained-member round p ((keeps p).1 (waits, t))) refl
+              ])
+              (λ n. rw n refl))
           | inr waits ↦ inr waits
         ];
   }

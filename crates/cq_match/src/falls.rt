@@ -124,12 +124,7 @@ fn drop_round<A: Allocator>(
     let mut waiting = Vec::new(alloc);
     for place in round {
         standing[*place] = false;
-        drop_offers(
-            counts,
-            &mut waiting,
-            owners,
-            offers_from(offers, *place),
-        )?;
+        drop_offers(counts, &mut waiting, owners, offers_from(offers, *place))?;
     }
     Ok(waiting)
 }

@@ -1,8 +1,8 @@
-use Rattle.std.proofs.Common.{◌≡◌, ℕ, ◌<◌, ◌≤◌, Bool, true, false, eqb, length, get_or, set, filter, count_by, ap, sym, ◌∙◌, subst, arith}
+use Rattle.std.proofs.Common.{◌≡◌, ◌<◌, true, eqb, length, get_or, filter, sym, subst, arith}
 use Rattle.std.specs.List.{All}
 use Rattle.std.proofs.lemmas.List.Elements.{All-filter}
 use Rattle.cq_match.specs.declared.settle.Offer.{Offer}
-use Rattle.cq_match.specs.Steps.Settle.{stands, is_into, feeds}
+use Rattle.cq_match.specs.Steps.Settle.{stands}
 use Rattle.cq_match.proofs.Felled.{up-still, offers-counted, fell-more, counted-more, each-more, only-more}
 use Rattle.cq_match.proofs.falls.drop_round.Goals as goal
 

@@ -1,5 +1,5 @@
-use Rattle.std.proofs.Common.{◌≡◌, ℕ, ◌↔◌, IfOk, length, nat_eq}
-use Rattle.std.specs.List.{All, Contains, IsDistinct}
+use Rattle.std.proofs.Common.{ℕ, ◌↔◌, length, nat_eq}
+use Rattle.std.specs.List.{Contains, IsDistinct}
 use Rattle.cq_match.specs.Falling.{fallen, IsFalling, IsUnmatched, AreAllRounds}
 use Rattle.cq_match.specs.Steps.Places.{AreOffersOf}
 use Rattle.cq_match.proofs.Rounds.{rounds-falling, rounds-distinct, rounds-unmatched, all-moved, if-ok-so}

@@ -1,4 +1,4 @@
-use Rattle.std.proofs.Common.{◌≡◌, ℕ, ◌+◌, ◌<◌, ◌≢◌, slice_index}
+use Rattle.std.proofs.Common.{ℕ, ◌+◌, ◌<◌, ◌≢◌, slice_index}
 use Rattle.cq_match.proofs.falls.reason_of.Given as goal
 
 abbrev pub invariant-loop-post : goal.invariant-loop-post

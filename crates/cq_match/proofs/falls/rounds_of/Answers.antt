@@ -1,5 +1,5 @@
-use Rattle.std.proofs.Common.{◌≡◌, ℕ, ◌<◌, ◌++◌, [], Bool, true, List, length, get_or, replicate, ap, sym, ◌∙◌, arith}
-use Rattle.std.specs.List.{All, AllZip, Contains}
+use Rattle.std.proofs.Common.{◌≡◌, ◌<◌, ◌++◌, true, List, length, get_or, replicate, ap, sym, ◌∙◌, arith}
+use Rattle.std.specs.List.{All, AllZip}
 use Rattle.std.proofs.lemmas.Bool.{eqb-true}
 use Rattle.cq_match.specs.declared.falls.Fall.{Fall}
 use Rattle.cq_match.specs.Steps.Falls.{IsFallOf}
@@ -19,8 +19,8 @@ loop-alloc-init g c =
     let held : c.deref.result.now ≡ slots.owners.items = c.deref.ensures.value in
     rw (all, c.new-falls.ensures.items) record {
       waving = waving-start ranked slots.starts.items slots.owners.items c.args.offers.now c.requires.rising c.requires.slots counts c.in_ok-waiting.waiting.items c.requires.low
-        (omega (arith, c.in_ok-counts.ensures.len, c.in_ok-counts.counts.ok.0, c.len.ensures, slots.owners.ok.0)) (λ slot h. c.in_ok-counts.ensures.counted slot (let low : slot < c.len.result = omega (arith, c.len.ensures, slots.owners.ok.0) in low))
-        (rw (held, shown) at c.in_ok-waiting.ensures.each) (rw (held, shown) at c.in_ok-waiting.ensures.only);
+          (omega (arith, c.in_ok-counts.ensures.len, c.in_ok-counts.counts.ok.0, c.len.ensures, slots.owners.ok.0)) (λ slot h. c.in_ok-counts.ensures.counted slot (let low : slot < c.len.result = omega (arith, c.len.ensures, slots.owners.ok.0) in low))
+          (rw (held, shown) at c.in_ok-waiting.ensures.each) (rw (held, shown) at c.in_ok-waiting.ensures.only);
       so_far = λ edges ends l. so-far-start ranked edges;
     }
 
