@@ -1,11 +1,11 @@
 -- Places that fall one by one, and those that then wait.
-use Rattle.std.proofs.Common.{◌≡◌, ℕ, zero, suc, ◌+◌, ◌<◌, ◌≤◌, ◌≢◌, ◌⊎◌, inl, inr, Bool, true, false, not, ◌&&◌, ◌||◌, eqb, List, [], ◌∷◌, ◌++◌, length, get_or, set, take, drop, filter, count_by, nat_eq, refl, sym, ap, ◌∙◌, subst, arith, add-one, eq-eqb}
+use Rattle.std.proofs.Common.{◌≡◌, ℕ, zero, suc, ◌+◌, ◌<◌, ◌≤◌, ◌≢◌, ◌⊎◌, inl, inr, Bool, true, false, not, ◌&&◌, ◌||◌, eqb, List, [], ◌∷◌, ◌++◌, length, get_or, set, take, filter, count_by, nat_eq, refl, sym, ap, ◌∙◌, subst, arith, add-one, eq-eqb}
 use Rattle.std.specs.List.{All, AllZip, Contains}
 use Rattle.std.specs.List.Sorted.{IsStrictlyIncreasing}
 use Rattle.std.specs.Set.{is_member}
 use Rattle.std.proofs.lemmas.Bool.{eqb-true}
 use Rattle.std.proofs.lemmas.Bool.Decides.{nat_tests}
-use Rattle.std.proofs.lemmas.List.{take_at, get_or-set_other, get_or-take, get_or_default, length-take}
+use Rattle.std.proofs.lemmas.List.{get_or-set_other, get_or-take, get_or_default, length-take}
 use Rattle.std.proofs.lemmas.List.Elements.{All-contains}
 use Rattle.std.proofs.lemmas.List.Folds.{list_any_more, list_any_none}
 use Rattle.std.proofs.lemmas.List.Kept.{AllPairs-from_increasing}
@@ -13,7 +13,7 @@ use Rattle.cq_match.specs.declared.settle.Offer.{Offer}
 use Rattle.cq_match.specs.Steps.Settle.{stands, is_into, feeds}
 use Rattle.cq_match.proofs.Bridge.{here-Contains, later-Contains, none-Contains}
 use Rattle.cq_match.proofs.Dropping.{IsUnfed, EachWaits}
-use Rattle.cq_match.proofs.Settling.{count-split}
+use Rattle.cq_match.proofs.Settling.{count-split, falls-itself}
 use Rattle.cq_match.proofs.Tests.{by_bool, both}
 
 -- ---- the part of a list that passes a test
@@ -61,9 +61,6 @@ zip-more R xs ys i d y low h r = rw add-one (zip-next R xs ys i d y low h r)
 
 -- ---- places that fall
 
-pub cut-back : (standing standing' : List Bool) (n : ℕ) → length standing' ≡ n → take n (standing' ++ drop (length standing') standing) ≡ standing'
-cut-back standing standing' n len = take_at standing' (drop (length standing') standing) n len
-
 abbrev pub Fell : List Bool → List Bool → List ℕ → Type 0
 Fell start standing round = (place : ℕ) → stands standing place ≡ (stands start place && not (is_member nat_eq round place))
 
@@ -94,11 +91,6 @@ offers-counted owners offers standing counts place up counted slot held =
     let before = counted slot held in
     let parts = count-split standing place slot up offers in
     omega arith
-
-falls-itself : (standing : List Bool) (place : ℕ) → stands (set standing place false) place ≡ false
-falls-itself [] place = refl
-falls-itself (b ∷ bs) zero = refl
-falls-itself (b ∷ bs) (suc n) = falls-itself bs n
 
 pub fell-more : (start standing : List Bool) (round : List ℕ) (i : ℕ) → i < length round → Fell start standing (take i round) → Fell start (set standing (get_or round i 0) false) (take (i + 1) round)
 fell-more start standing round i low fell p =

@@ -81,7 +81,7 @@ each-post edges set node supplied =
     ap (is_supplied edges set node.0) at ∙ supplied k inside)
 
 -- an able node has a slot for each postcondition alone
-pub able-slots : (b : Bool) (posts post : ℕ) → b ≡ true → post < posts + (if b then 0 else 1) → post < posts
+able-slots : (b : Bool) (posts post : ℕ) → b ≡ true → post < posts + (if b then 0 else 1) → post < posts
 able-slots true posts post able within = omega arith
 able-slots false posts post able within = absurd (let never : false ≡ true = able in cc)
 

@@ -4,7 +4,7 @@ use Rattle.std.proofs.lemmas.Bool.{eqb-true}
 use Rattle.cq_match.specs.declared.falls.Fall.{Fall}
 use Rattle.cq_match.specs.Steps.Falls.{IsFallOf}
 use Rattle.cq_match.proofs.Dropping.{IsUnfed, EachWaits}
-use Rattle.cq_match.proofs.Felled.{Fell, Counted, cut-back}
+use Rattle.cq_match.proofs.Felled.{Fell, Counted}
 use Rattle.cq_match.proofs.Settling.{written-back}
 use Rattle.cq_match.proofs.Waves.{Keeps, due-low, due-within, due-empty, round-due, so-far-next, waving-start, waving-next, so-far-start, all-rounds}
 use Rattle.cq_match.proofs.falls.rounds_of.Goals as goal
@@ -91,10 +91,10 @@ loop-alloc-preserved g c =
     let all : c.extend_from_slice.new.self.items ≡ falls ++ added = c.in_ok-extend_from_slice.ensures.items ∙ ap (λ (l : List Fall). falls ++ l) c.deref-in-loop-alloc-5.ensures.value in
     rw (written-back counts counts' c.loop-alloc.counts.len (counts_len ∙ sym c.loop-alloc.counts.ok.0), all) record {
       waving =
-          rw (cut-back standing standing' c.loop-alloc.standing.len (standing_len ∙ sym c.loop-alloc.standing.ok.0))
+          rw (written-back standing standing' c.loop-alloc.standing.len (standing_len ∙ sym c.loop-alloc.standing.ok.0))
           (waving-next ranked starts owners offers c.requires.rising c.requires.slots standing standing' counts counts' waiting waiting' round w keeps fell standing_len counts_len counted each only);
       so_far = λ edges ends l.
-          rw (cut-back standing standing' c.loop-alloc.standing.len (standing_len ∙ sym c.loop-alloc.standing.ok.0))
+          rw (written-back standing standing' c.loop-alloc.standing.len (standing_len ∙ sym c.loop-alloc.standing.ok.0))
           (so-far-next ranked starts owners offers c.requires.rising c.requires.slots edges ends l standing counts waiting w falls (c.loop-alloc.invariant.so_far edges ends l) round c.keep_round.ensures.rising keeps added are standing' fell);
     }
 
