@@ -1,5 +1,5 @@
 -- Graphs whose nodes are numbered by their places.
-use Rattle.std.proofs.Common.{◌≡◌, ℕ, ◌<◌, Bool, false, eqb, List, length, get_or, nat_eq, sym, ◌∙◌, arith}
+use Rattle.std.proofs.Common.{◌≡◌, ℕ, ◌<◌, Bool, false, eqb, List, length, get_or, nat_eq, ◌∙◌, arith}
 use Rattle.std.specs.List.{IsDistinct}
 use Rattle.std.proofs.lemmas.Bool.Decides.{nat_tests}
 use Rattle.std.proofs.lemmas.List.{get_or-map, get_or_default, length-map}
@@ -27,6 +27,7 @@ numbered-distinct nodes h =
 pub numbered-ends : (nodes : Nodes) (edge : Edge) → AreNumbered nodes → edge.provider < length nodes → edge.waiter < length nodes → edge.post < (get_or nodes edge.waiter (0, 0, false)).1 → HasEnds nodes edge
 numbered-ends nodes edge h provider waiter post =
     let len = length-map nodes (λ (x : ℕ × ℕ × Bool). x.0) in
-    let node = get_or nodes edge.waiter (0, 0, false) in
-    ((edge.provider, (let low : edge.provider < length (numbers nodes) = omega arith in low), number-is nodes h edge.provider edge.provider provider),
-      (edge.waiter, node, waiter, get_or_default nodes edge.waiter node (0, 0, false) waiter, (h edge.waiter waiter, post)))
+    let node = get_or nodes edge.waiter (0, 0, false) in (
+      (edge.provider, (let low : edge.provider < length (numbers nodes) = omega arith in low), number-is nodes h edge.provider edge.provider provider),
+      (edge.waiter, node, waiter, get_or_default nodes edge.waiter node (0, 0, false) waiter, (h edge.waiter waiter, post)),
+    )

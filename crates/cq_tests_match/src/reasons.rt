@@ -163,12 +163,14 @@ fn fall_backwards<A: Allocator + Copy>(
         return Ok(false);
     }
     let falls = falling(alloc, nodes, edges)?;
-    Ok(falls.len() == nodes.len()
-        && falls
-            .iter()
-            .rev()
-            .enumerate()
-            .all(|(node, fall)| *fall == unmet(node, 0)))
+    Ok(
+        falls.len() == nodes.len()
+            && falls
+                .iter()
+                .rev()
+                .enumerate()
+                .all(|(node, fall)| *fall == unmet(node, 0)),
+    )
 }
 
 /// A chain of nodes, each of which waits for the next. Nothing supplies the last.

@@ -1,4 +1,4 @@
-use Rattle.std.proofs.Common.{ℕ, arith}
+use Rattle.std.proofs.Common.{arith}
 use Rattle.cq_tests_match.proofs.Numbered.{numbered-distinct}
 use Rattle.cq_tests_match.proofs.reasons.are_numbered.Goals as goal
 
