@@ -7,6 +7,7 @@ pub mod Counting
 pub mod Dropping
 pub mod Edges
 pub mod Erasing
+pub mod Felled
 pub mod Felling
 pub mod Fits
 pub mod Flags
@@ -20,12 +21,16 @@ pub mod Pruning
 pub mod Raising
 pub mod Ranks
 pub mod Reaching
+pub mod Reasons
 pub mod Renaming
+pub mod Rounds
 pub mod Rows
 pub mod Settling
 pub mod Slots
+pub mod Spreading
 pub mod Standing
 pub mod Tests
 pub mod Tidying
 pub mod Union
 pub mod Waking
+pub mod Waves

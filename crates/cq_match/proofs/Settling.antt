@@ -70,7 +70,7 @@ feeds-more low smaller larger slot more (l ∷ offers) h e =
 
 -- ---- a place that falls
 
-falls-itself : (standing : List Bool) (place : ℕ) → stands (set standing place false) place ≡ false
+pub falls-itself : (standing : List Bool) (place : ℕ) → stands (set standing place false) place ≡ false
 falls-itself [] place = refl
 falls-itself (b ∷ bs) zero = refl
 falls-itself (b ∷ bs) (suc n) = falls-itself bs n
@@ -253,5 +253,5 @@ dropped-counted places owners offers standing counts waiting place s up slot hel
     let parts = count-split standing place slot up offers in
     omega arith
 
-pub written-back : (counts counts' : List ℕ) (n : ℕ) → length counts' ≡ n → take n (counts' ++ drop (length counts') counts) ≡ counts'
+pub written-back : {X : Type 0} (counts counts' : List X) (n : ℕ) → length counts' ≡ n → take n (counts' ++ drop (length counts') counts) ≡ counts'
 written-back counts counts' n len = take_at counts' (drop (length counts') counts) n len

@@ -86,7 +86,7 @@ able-slots true posts post able within = omega arith
 able-slots false posts post able within = absurd (let never : false ≡ true = able in cc)
 
 -- a node that is not able has one slot more
-unable-slot : (b : Bool) (posts : ℕ) → b ≡ false → posts < posts + (if b then 0 else 1)
+pub unable-slot : (b : Bool) (posts : ℕ) → b ≡ false → posts < posts + (if b then 0 else 1)
 unable-slot true posts unable = absurd (let never : true ≡ false = unable in cc)
 unable-slot false posts unable = omega arith
 
@@ -95,7 +95,7 @@ abbrev pub HasEnds : Nodes → Edge → Type 0
 HasEnds nodes edge = Contains (numbers nodes) edge.provider × Any (λ node. (node.0 ≡ edge.waiter) × (edge.post < node.1)) nodes
 
 -- behind its last postcondition a node has none that an edge could lead to
-past-last : (ranked : Nodes) (edges : List Edge) (set : List ℕ) (p : ℕ) → IsRanked ranked → All (HasEnds ranked) edges → p < length ranked → is_supplied edges set (number_at ranked p) (posts_at ranked p) ≡ true → ⊥
+pub past-last : (ranked : Nodes) (edges : List Edge) (set : List ℕ) (p : ℕ) → IsRanked ranked → All (HasEnds ranked) edges → p < length ranked → is_supplied edges set (number_at ranked p) (posts_at ranked p) ≡ true → ⊥
 past-last ranked edges set p rising ends low e =
     let n = number_at ranked p in
     let k = posts_at ranked p in

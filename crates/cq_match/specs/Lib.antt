@@ -1,3 +1,4 @@
+pub mod Falling
 pub mod Graph
 pub mod Matched
 pub mod Matcher

@@ -1,3 +1,4 @@
+pub mod Falls
 pub mod Kept
 pub mod Places
 pub mod Settle

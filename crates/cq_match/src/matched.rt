@@ -14,7 +14,7 @@ use crate::settle::{Offer, settled};
 use std::alloc::{AllocError, Allocator};
 
 /// The nodes in rising order of their numbers.
-fn ranked<A: Allocator>(
+pub(crate) fn ranked<A: Allocator>(
     alloc: A,
     nodes: &[(usize, u8, bool)],
 ) -> Result<Vec<(usize, u8, bool), A>, AllocError>
@@ -43,11 +43,11 @@ fn place_of(ranked: &[(usize, u8, bool)], number: usize) -> usize
 /// The slots of all nodes in a row: one for each postcondition, and one more, which nothing feeds, for a node
 /// that is not able.
 #[derive(Drop)]
-struct Slots<A: Allocator> {
+pub(crate) struct Slots<A: Allocator> {
     /// For each place, its first slot.
-    starts: Vec<usize, A>,
+    pub(crate) starts: Vec<usize, A>,
     /// For each slot, its place.
-    owners: Vec<usize, A>,
+    pub(crate) owners: Vec<usize, A>,
 }
 
 /// Puts that many slots of the place to the end.
@@ -72,7 +72,7 @@ fn slots_of_node(node: (usize, u8, bool)) -> usize
 }
 
 /// All slots, place by place.
-fn slots_of<A: Allocator + Copy>(
+pub(crate) fn slots_of<A: Allocator + Copy>(
     alloc: A,
     ranked: &[(usize, u8, bool)],
 ) -> Result<Slots<A>, AllocError>
@@ -103,7 +103,7 @@ fn offer_of<A: Allocator>(ranked: &[(usize, u8, bool)], slots: &Slots<A>, edge: 
 }
 
 /// The edges as offers, by their providers.
-fn offers_of<A: Allocator + Copy>(
+pub(crate) fn offers_of<A: Allocator + Copy>(
     alloc: A,
     ranked: &[(usize, u8, bool)],
     slots: &Slots<A>,

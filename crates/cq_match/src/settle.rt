@@ -20,7 +20,7 @@ pub struct Offer {
 }
 
 /// How many offers lead to each slot.
-fn counts_of<A: Allocator>(
+pub fn counts_of<A: Allocator>(
     alloc: A,
     slots: usize,
     offers: &[Offer],
@@ -37,7 +37,7 @@ fn counts_of<A: Allocator>(
 }
 
 /// The owners of the slots that nothing feeds.
-fn unfed<A: Allocator>(
+pub fn unfed<A: Allocator>(
     alloc: A,
     owners: &[usize],
     counts: &[usize],
@@ -56,7 +56,7 @@ fn unfed<A: Allocator>(
 }
 
 /// The offers from a place, which stand side by side.
-fn offers_from(offers: &[Offer], place: usize) -> &[Offer]
+pub fn offers_from(offers: &[Offer], place: usize) -> &[Offer]
     requires { IsNonDecreasingBy (λ offer. offer.provider) offers.now }
     ensures { result.now ≡ filter (λ offer. offer.provider == place) offers.now }
 {
@@ -69,7 +69,7 @@ fn offers_from(offers: &[Offer], place: usize) -> &[Offer]
 
 /// Counts the offers no longer. The owners of slots that lose their last offer are put to those that wait
 /// to fall.
-fn drop_offers<A: Allocator>(
+pub fn drop_offers<A: Allocator>(
     counts: &mut [usize],
     waiting: &mut Vec<usize, A>,
     owners: &[usize],

@@ -1,3 +1,4 @@
 pub mod Few
 pub mod Kept
 pub mod Lists
+pub mod Numbered

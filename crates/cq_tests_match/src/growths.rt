@@ -1,7 +1,7 @@
 //! Each growth of a call refused in turn.
 
 use crate::twin::Twin;
-use cq_match::{Edge, greatest};
+use cq_match::{Edge, Fall, Reason, falling, greatest};
 use cq_tests_growths::{Outcome, Tried, refusals};
 use std::alloc::{AllocError, Allocator};
 
@@ -216,4 +216,50 @@ impl Tried for Finding {
 #[test]
 fn refused_growth_in_greatest(rt: HostRuntime) {
     assert!(rt; matches!(refusals::<Finding>(rt.alloc()), Ok(1..)));
+}
+
+/// The falls of a pair that waits for each other, of which one is not able.
+struct Telling;
+
+fn are_told<A: Allocator + Copy>(alloc: A) -> Result<bool, AllocError> {
+    let edges = [
+        Edge {
+            provider: 4,
+            head: 0,
+            waiter: 7,
+            post: 0,
+        },
+        Edge {
+            provider: 7,
+            head: 0,
+            waiter: 4,
+            post: 0,
+        },
+    ];
+    let told = falling(alloc, &[(7, 1, true), (4, 1, false)], &edges)?;
+    let wanted = [
+        Fall {
+            node: 4,
+            reason: Reason::NotAble,
+        },
+        Fall {
+            node: 7,
+            reason: Reason::Unmet(0),
+        },
+    ];
+    Ok(told.as_slice() == wanted.as_slice())
+}
+
+impl Tried for Telling {
+    fn tried<A: Allocator + Copy>(alloc: A) -> Outcome {
+        match are_told(alloc) {
+            Ok(right) => Outcome::done_if(right),
+            Err(_) => Outcome::refused_if(are_told(alloc) == Ok(true)),
+        }
+    }
+}
+
+#[test]
+fn refused_growth_in_falling(rt: HostRuntime) {
+    assert!(rt; matches!(refusals::<Telling>(rt.alloc()), Ok(8..)));
 }

@@ -5,7 +5,7 @@ ghost use Rattle.std.specs.List.{All, Any, IsDistinct, list_any};
 ghost use Rattle.cq_match.specs.Matched.{numbers};
 ghost use Rattle.cq_tests_match.specs.Guarded.{HasEnds};
 
-use cq_match::{Edge, Matcher, greatest};
+use cq_match::{Edge, Fall, Matcher, falling, greatest};
 use std::alloc::{AllocError, Allocator};
 
 /// No node of a test has more postconditions.
@@ -59,6 +59,19 @@ fn matched_of<A: Allocator + Copy>(
         return Ok(None);
     }
     Ok(Some(greatest(alloc, nodes, edges)?))
+}
+
+/// The falls of the nodes that are not matched; `None` where a node is listed twice or an edge has an end that is not
+/// listed.
+pub fn falls_of<A: Allocator + Copy>(
+    alloc: A,
+    nodes: &[(usize, u8, bool)],
+    edges: &[Edge],
+) -> Result<Option<Vec<Fall, A>>, AllocError> {
+    if !are_distinct(nodes) || !have_ends(nodes, edges) {
+        return Ok(None);
+    }
+    Ok(Some(falling(alloc, nodes, edges)?))
 }
 
 /// How many of the edges lead to the postcondition.
