@@ -18,7 +18,7 @@ pub(crate) enum RowsFault {
     /// The first word is no relation's name.
     #[error("bad relation name")]
     BadName,
-    /// The second word is not one digit from 1 to 8.
+    /// The second word is no number from 1 to 16 in decimal, without a zero in front.
     #[error("bad arity")]
     BadArity,
     /// The reader failed, or gave no end. Reads count from 1.
