@@ -23,6 +23,8 @@ pub mod Ranks
 pub mod Reaching
 pub mod Reasons
 pub mod Renaming
+mod Rested
+mod Wanting
 pub mod Rounds
 pub mod Rows
 pub mod Settling

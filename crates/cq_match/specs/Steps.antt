@@ -2,3 +2,4 @@ pub mod Falls
 pub mod Kept
 pub mod Places
 pub mod Settle
+pub mod Resting

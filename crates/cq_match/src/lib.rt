@@ -24,6 +24,7 @@ mod graph;
 mod marks;
 mod matched;
 mod matcher;
+mod resting;
 mod settle;
 mod showing;
 
@@ -31,3 +32,4 @@ pub use edge::{Edge, is_crowd};
 pub use falls::{Fall, Reason, falling};
 pub use matched::greatest;
 pub use matcher::Matcher;
+pub use resting::part_for;

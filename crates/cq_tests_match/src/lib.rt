@@ -17,6 +17,8 @@ mod large;
 #[cfg(test)]
 mod listed;
 #[cfg(test)]
+mod parts;
+#[cfg(test)]
 mod reasons;
 #[cfg(test)]
 mod rows;

@@ -2,10 +2,11 @@
 
 ghost use Rattle.std.specs.Prelude.{◌≡◌, ◌==◌, ◌<◌, IsTrue, nat_eq};
 ghost use Rattle.std.specs.List.{All, Any, IsDistinct, list_any};
+ghost use Rattle.std.specs.List.Sorted.{IsNonDecreasingBy};
 ghost use Rattle.cq_match.specs.Matched.{numbers};
 ghost use Rattle.cq_tests_match.specs.Guarded.{HasEnds};
 
-use cq_match::{Edge, Fall, Matcher, falling, greatest};
+use cq_match::{Edge, Fall, Matcher, falling, greatest, part_for};
 use std::alloc::{AllocError, Allocator};
 
 /// No node of a test has more postconditions.
@@ -72,6 +73,33 @@ pub fn falls_of<A: Allocator + Copy>(
         return Ok(None);
     }
     Ok(Some(falling(alloc, nodes, edges)?))
+}
+
+/// Whether no edge leads to a lower waiter than the one before it.
+fn are_grouped(edges: &[Edge]) -> bool
+    ensures { IsTrue result → IsNonDecreasingBy (λ edge. edge.waiter) edges.now }
+{
+    for place in 1..edges.len() {
+        if edges[place].waiter < edges[place - 1].waiter {
+            return false;
+        }
+    }
+    true
+}
+
+/// The part of these falls on which the node rests; `None` where a node is listed twice, an edge has an end that is not
+/// listed, or the edges are not sorted by their waiters.
+pub fn part_of<A: Allocator + Copy>(
+    alloc: A,
+    nodes: &[(usize, u8, bool)],
+    edges: &[Edge],
+    node: usize,
+) -> Result<Option<Vec<Fall, A>>, AllocError> {
+    if !are_distinct(nodes) || !have_ends(nodes, edges) || !are_grouped(edges) {
+        return Ok(None);
+    }
+    let falls = falling(alloc, nodes, edges)?;
+    Ok(Some(part_for(alloc, edges, &falls, node)?))
 }
 
 /// How many of the edges lead to the postcondition.
