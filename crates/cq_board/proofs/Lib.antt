@@ -21,6 +21,10 @@ pub mod Graphs
 pub mod Sorted
 pub mod Upkeep
 mod ViewSeats
+mod Waited
+mod Told
+mod Missing
+mod Waiters
 pub mod Placed
 pub mod Linked
 pub mod Calling

@@ -5,6 +5,8 @@ pub mod Edits
 pub mod Board
 pub mod Views
 pub mod Named
+pub mod Near
+pub mod Waiting
 pub mod Choice
 pub mod Scratch
 pub mod Work

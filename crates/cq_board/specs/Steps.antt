@@ -5,3 +5,5 @@ pub mod Residents
 pub mod Stores
 pub mod Scratch
 pub mod Flags
+pub mod Waiting
+pub mod Near

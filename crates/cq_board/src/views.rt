@@ -36,7 +36,7 @@ fn run_length(first: &Edge, edges: &[Edge]) -> usize
 }
 
 /// The name at that number.
-fn name_of<'a, A: Allocator>(names: &[&'a Name<A>], number: usize) -> &'a Name<A>
+pub(crate) fn name_of<'a, A: Allocator>(names: &[&'a Name<A>], number: usize) -> &'a Name<A>
     requires { number < length names.now }
     ensures { (pending : List PendingQuery) → map (λ name. name.now) names.now ≡ map name_of pending → result.now ≡ name_or_none (name_at pending number) }
 {

@@ -14,6 +14,8 @@ mod growths;
 #[cfg(test)]
 mod lists;
 #[cfg(test)]
+mod near;
+#[cfg(test)]
 mod rows;
 #[cfg(test)]
 mod same;

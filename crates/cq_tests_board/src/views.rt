@@ -1,9 +1,10 @@
 //! What a board shows, by names and in posting order.
 
+use crate::near::have_fallen;
 use crate::samples::{LIMITS, WORKED, kramer_and_jerry, made, shape_of};
 use cq_atom::Name;
 use cq_board::{Board, Crowd, Link};
-use cq_match::Edge;
+use cq_match::{Edge, Fall, Reason};
 use cq_tests_growths::{Outcome, Tried, refusals};
 use std::alloc::{AllocError, Allocator, Global};
 use std::test::Fail;
@@ -160,6 +161,7 @@ fn worked_edges(rt: HostRuntime) -> Result<(), Fail> {
     assert!(rt; are_edges(&board, links.as_slice()) == Ok(true));
     assert!(rt; are_matched(&board, ["kramer", "jerry"].as_slice()) == Ok(true));
     assert!(rt; are_crowded(&board, [].as_slice()) == Ok(true));
+    assert!(rt; have_fallen(&board, [].as_slice()) == Ok(true));
     Ok(())
 }
 
@@ -178,6 +180,12 @@ const FROM_SECOND_HEAD: Edge = Edge {
     post: 0,
 };
 
+/// Nobody has what the last query waits for.
+const UNMET: Fall = Fall {
+    node: 2,
+    reason: Reason::Unmet(0),
+};
+
 /// Whether a board with the crowd shows what it must by each call.
 fn shows_crowd<A: Allocator + Copy>(board: &Board<A>) -> Result<bool, AllocError> {
     let numbered = [edge(1, 0), FROM_SECOND_HEAD];
@@ -187,7 +195,8 @@ fn shows_crowd<A: Allocator + Copy>(board: &Board<A>) -> Result<bool, AllocError
             && are_numbered(board, numbered.as_slice())?
             && are_edges(board, links.as_slice())?
             && are_matched(board, ["w", "h1"].as_slice())?
-            && are_crowded(board, [("w", 0, 2)].as_slice())?,
+            && are_crowded(board, [("w", 0, 2)].as_slice())?
+            && have_fallen(board, [UNMET].as_slice())?,
     )
 }
 
