@@ -12,7 +12,7 @@ impl<A: Allocator + Copy> Live for Board<A> {
 
     type Why = Why;
     // Contracts see a board as its pool.
-    type Content = Board<A>;
+    type Content = Board;
 
     ghost content = { λ pool. pool };
 
