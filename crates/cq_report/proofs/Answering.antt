@@ -1,5 +1,5 @@
 -- What a line is read as, and what is known of its reply.
-use Rattle.std.proofs.Common.{◌≡◌, ℕ, List, [], inl, inr, sym, ap, subst, ◌∙◌, Option}
+use Rattle.std.proofs.Common.{◌≡◌, ℕ, List, [], ◌++◌, inl, inr, sym, ap, subst, ◌∙◌, Option}
 use Rattle.std.specs.Prelude.{Result, Ok, Err, OnOk, IfErr}
 use Rattle.cq_text.specs.declared.fault.Kind.{Kind}
 use Rattle.cq_text.specs.declared.fault.TextFault.{TextFault}
@@ -13,10 +13,10 @@ use Rattle.cq_report.specs.declared.fault.RunFault.{RunFault}
 use Rattle.cq_report.specs.declared.fault.RunFault.TheVariants as faults
 use Rattle.cq_report.specs.Steps.Written.{Puts, Breaks, Fails}
 use Rattle.cq_report.specs.Reading.{Reading, Reads, Faulty, IsReading}
-use Rattle.cq_report.specs.Machine.{State, next, reply}
+use Rattle.cq_report.specs.Machine.{State, served, unnumbered}
 use Rattle.cq_report.specs.Run.{IfMemory}
-use Rattle.cq_report.specs.Steps.Put.{Put}
-use Rattle.cq_report.specs.Steps.Writing.{Puts-nothing, Puts-starved}
+use Rattle.cq_report.specs.Steps.Put.{Put, led, lead_bytes}
+use Rattle.cq_report.specs.Steps.Writing.{Puts-nothing, Puts-starved, Puts-then, Puts-breaks, Breaks-more}
 
 pub on_ok : {X E : Type 0} (r : Result X E) (P : Type 0) → P → OnOk r P
 on_ok (Ok x) P p = p
@@ -47,7 +47,7 @@ the_fault form line fault kind offset is h = rw is at h
 
 module _ {W A : Type 0} (taken : W → Option (List ℕ)) (failures : W → ℕ) (first now : Output W A) where
   -- bytes that were put, by the clauses of the buffer
-  pub Put-from : (bytes : List ℕ) (r : Result (Unit {0}) RunFault) → OnOk r (Puts taken failures first now bytes) → IfErr r (λ fault. Breaks taken failures first now bytes fault) → IfErr r (λ fault. fault ≡ faults.Write)
+  pub Put-from : (bytes : List ℕ) (r : Result (Unit {0}) RunFault) → OnOk r (Puts taken failures first now (led first.lead.now bytes)) → IfErr r (λ fault. Breaks taken failures first now (led first.lead.now bytes) fault) → IfErr r (λ fault. fault ≡ faults.Write)
       → Put taken failures first now bytes r
   Put-from bytes (Ok done) ok err is = ok
   Put-from bytes (Err faults.Write) ok err is = (err, (λ h. h), tt, tt)
@@ -56,18 +56,37 @@ module _ {W A : Type 0} (taken : W → Option (List ℕ)) (failures : W → ℕ)
   Put-from bytes (Err faults.Thread) ok err is = cc
   Put-from bytes (Err (faults.Read turn)) ok err is = cc
 
+  -- bytes behind what stands before them, by the clauses of the buffer
+  pub Put-led : (mid : Output W A) (bytes : List ℕ) → led first.lead.now bytes ≡ lead_bytes first.lead.now ++ bytes → Puts taken failures first mid (lead_bytes first.lead.now) → (r : Result (Unit {0}) RunFault)
+      → OnOk r (Puts taken failures mid now bytes) → IfErr r (λ fault. Breaks taken failures mid now bytes fault) → IfErr r (λ fault. fault ≡ faults.Write) → Put taken failures first now bytes r
+  Put-led mid bytes e p (Ok done) ok err is = subst (Puts taken failures first now) (sym e) (Puts-then taken failures first mid now (lead_bytes first.lead.now) bytes p ok)
+  Put-led mid bytes e p (Err faults.Write) ok err is =
+      (subst (λ (bs : List ℕ). Breaks taken failures first now bs faults.Write) (sym e) (Puts-breaks taken failures first mid now (lead_bytes first.lead.now) bytes faults.Write p err), (λ h. h), tt, tt)
+  Put-led mid bytes e p (Err faults.NoMemory) ok err is = cc
+  Put-led mid bytes e p (Err faults.Places) ok err is = cc
+  Put-led mid bytes e p (Err faults.Thread) ok err is = cc
+  Put-led mid bytes e p (Err (faults.Read turn)) ok err is = cc
+
+  pub Put-unled : (bytes : List ℕ) → led first.lead.now bytes ≡ lead_bytes first.lead.now ++ bytes → (fault : RunFault) → Breaks taken failures first now (lead_bytes first.lead.now) fault → fault ≡ faults.Write → Put taken failures first now bytes (Err fault)
+  Put-unled bytes e faults.Write err is =
+      (subst (λ (bs : List ℕ). Breaks taken failures first now bs faults.Write) (sym e) (Breaks-more taken failures first now (lead_bytes first.lead.now) bytes faults.Write err), (λ h. h), tt, tt)
+  Put-unled bytes e faults.NoMemory err is = cc
+  Put-unled bytes e faults.Places err is = cc
+  Put-unled bytes e faults.Thread err is = cc
+  Put-unled bytes e (faults.Read turn) err is = cc
+
   module _ (form : Form) (old new : State) (line : List ℕ) (reading : Reading) (only : (other : Reading) → IsReading form line other → other ≡ reading) where
-    pub reads_ok : (r : Result (Unit {0}) RunFault) → OnOk r (new ≡ next old reading) → Put taken failures first now (reply old reading) r
-        → OnOk r ((other : Reading) → IsReading form line other → (new ≡ next old other) × Puts taken failures first now (reply old other))
+    pub reads_ok : (r : Result (Unit {0}) RunFault) → OnOk r (new ≡ served old reading) → Put taken failures first now (unnumbered old reading) r
+        → OnOk r ((other : Reading) → IsReading form line other → (new ≡ served old other) × Puts taken failures first now (led first.lead.now (unnumbered old other)))
     reads_ok (Ok done) s p = λ other h.
         let e = only other h in
-        (subst (λ (o : Reading). new ≡ next old o) (sym e) s, subst (λ (o : Reading). Puts taken failures first now (reply old o)) (sym e) p)
+        (subst (λ (o : Reading). new ≡ served old o) (sym e) s, subst (λ (o : Reading). Puts taken failures first now (led first.lead.now (unnumbered old o))) (sym e) p)
     reads_ok (Err fault) s p = tt
 
-    pub reads_err : (r : Result (Unit {0}) RunFault) → Put taken failures first now (reply old reading) r
-        → IfErr r (λ fault. (other : Reading) → IsReading form line other → Breaks taken failures first now (reply old other) fault)
+    pub reads_err : (r : Result (Unit {0}) RunFault) → Put taken failures first now (unnumbered old reading) r
+        → IfErr r (λ fault. (other : Reading) → IsReading form line other → Breaks taken failures first now (led first.lead.now (unnumbered old other)) fault)
     reads_err (Ok done) p = tt
-    reads_err (Err fault) p = λ other h. subst (λ (o : Reading). Breaks taken failures first now (reply old o) fault) (sym (only other h)) p.0
+    reads_err (Err fault) p = λ other h. subst (λ (o : Reading). Breaks taken failures first now (led first.lead.now (unnumbered old o)) fault) (sym (only other h)) p.0
 
   pub put_fails : (bytes : List ℕ) (r : Result (Unit {0}) RunFault) → Put taken failures first now bytes r → IfErr r (λ fault. Fails failures first now fault)
   put_fails bytes (Ok done) p = tt
@@ -83,4 +102,4 @@ pub starved : {W A : Type 0} (taken : W → Option (List ℕ)) (failures : W →
 starved taken failures output bytes = Puts-starved taken failures output output [] bytes (Puts-nothing taken failures output)
 
 pub Put-starved : {W A : Type 0} (taken : W → Option (List ℕ)) (failures : W → ℕ) (output : Output W A) (bytes : List ℕ) → Put taken failures output output bytes (Err faults.NoMemory)
-Put-starved taken failures output bytes = (starved taken failures output bytes, (λ h. h), tt, Puts-nothing taken failures output)
+Put-starved taken failures output bytes = (starved taken failures output (led output.lead.now bytes), (λ h. h), tt, Puts-nothing taken failures output)

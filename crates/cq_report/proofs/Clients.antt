@@ -14,7 +14,7 @@ use Rattle.cq_desk.specs.declared.reply.Reply.{Reply}
 use Rattle.cq_room.specs.Sessions.{SessionRecord}
 use Rattle.cq_room.specs.Receipts.{AreReplies, Heard, entered_before}
 use Rattle.cq_report.specs.Sessions.{Submitted}
-use Rattle.cq_report.specs.Steps.Clients.{IsOpened, IsSubmission, opened_pool}
+use Rattle.cq_report.specs.Steps.Clients.{IsOpened, TakesEdits, IsSubmission, opened_pool}
 
 edits_append : {E : Type 0} (h t : List (List E)) → edits_of (h ++ t) ≡ edits_of h ++ edits_of t
 edits_append [] t = refl
@@ -69,6 +69,13 @@ submission_of pools limit old new asked (Published count) (Some f) rs published 
 submission_of pools limit old new asked (Published count) None rs published opened counted tried seen replies last heard is = absurd counted
 submission_of pools limit old new asked Stopped front rs published opened counted tried seen replies last heard is = absurd is
 submission_of pools limit old new asked Unpublished front rs published opened counted tried seen replies last heard is = absurd is
+
+-- the replies of a state that takes edits as a board does are a board's
+pub replies_of_board : (after : PoolRecord → Edit → PoolRecord) (reason : PoolRecord → Edit → Option Why) (pools : List PoolRecord) (limit : ℕ) (asked : List Edit) (front : Option (History Edit)) (rs : List (Reply Why)) → TakesEdits after reason
+    → IfSome front (λ f. AreReplies after reason pools limit (entered_before f asked rs) asked rs) → IfSome front (λ f. AreReplies pool_after why pools limit (entered_before f asked rs) asked rs)
+replies_of_board after reason pools limit asked front rs takes replies =
+    subst (λ (z : PoolRecord → Edit → PoolRecord). IfSome front (λ f. AreReplies z why pools limit (entered_before f asked rs) asked rs)) takes.0
+    (subst (λ (z : PoolRecord → Edit → Option Why). IfSome front (λ f. AreReplies after z pools limit (entered_before f asked rs) asked rs)) takes.1 replies)
 
 -- what is known by a longer history
 pub prefix_edits : (now before : List (List Edit)) → IsPrefix before now → IsPrefix (edits_of before) (edits_of now)

@@ -3,15 +3,18 @@ use Rattle.std.proofs.Common.{◌≡◌, ℕ, List, [], ◌++◌, Option, IfSome
 use Rattle.std.specs.Io.KnownBytes.{Appends, Consumes}
 use Rattle.std.proofs.KnownBytes.{Consumes-whole, Consumes-trans}
 use Rattle.cq_report.specs.declared.output.Output.{Output}
+use Rattle.cq_text.specs.Device.{TakesFront}
 use Rattle.cq_report.specs.declared.fault.RunFault.{RunFault}
 use Rattle.cq_report.specs.declared.fault.RunFault.TheVariants as faults
+use Rattle.cq_report.specs.declared.numbering.Numbering.{Numbering}
+use Rattle.cq_report.specs.declared.numbering.Numbering.TheVariants.{Plain}
 use Rattle.cq_report.specs.Lines.{lines_of, whole_lines}
 use Rattle.cq_report.specs.Reading.{Reading}
-use Rattle.cq_report.specs.Machine.{begin_state}
-use Rattle.cq_report.specs.Output.{AreReadings, AreReadFrom, output}
+use Rattle.cq_report.specs.Machine.{State, begin_state, pool_shown}
+use Rattle.cq_report.specs.Output.{AreReadings, output, pool_left}
 use Rattle.cq_report.specs.Steps.Written.{Passes}
-use Rattle.cq_report.specs.Run.{IfRead, WroteWholeLines}
-use Rattle.cq_report.specs.Steps.Replay.{Replayed, BrokeOff}
+use Rattle.cq_report.specs.Run.{IfRead, WroteWholeLines, WroteFront}
+use Rattle.cq_report.specs.Steps.Replay.{Replayed, BrokeOff, Ended}
 use Rattle.cq_report.proofs.Cutting.{whole_lines_all_ended}
 
 -- a read that took nothing
@@ -31,22 +34,47 @@ IfRead-weaker faults.Places P Q f h = tt
 IfRead-weaker faults.Thread P Q f h = tt
 IfRead-weaker faults.NoMemory P Q f h = tt
 
-module _ {W A : Type 0} (taken : W → Option (List ℕ)) (failures : W → ℕ) (left left' : Option (List ℕ)) (first now : Output W A) where
+module _ {W A : Type 0} (taken : W → Option (List ℕ)) (failures : W → ℕ) (numbering : Numbering) (opening : State) (left left' : Option (List ℕ)) (first now : Output W A) where
   -- all was read, and its output written
-  pub Replayed-wrote : (t t' : Option (List ℕ)) → first.held.now.items ≡ [] → taken first.sink.now ≡ t → taken now.sink.now ≡ t' → Replayed taken failures left left' first now
-      → IfSome left (λ input. (rs : List Reading) → AreReadings (lines_of input) rs → Appends t t' (output rs))
-  Replayed-wrote t t' none e e' r =
-      Consumes-whole left left' r.bytes (λ input. (rs : List Reading) → AreReadings (lines_of input) rs → Appends t t' (output rs)) r.read r.at_end
-      (λ rs h. rw (← e, ← e') (Passes-all _ _ _ _ _ (r.finished.all rs h).passed none r.held))
+  pub Replayed-wrote : (state : State) (t t' : Option (List ℕ)) → opening ≡ begin_state numbering → first.held.now.items ≡ [] → taken first.sink.now ≡ t → taken now.sink.now ≡ t' → Replayed taken failures opening state left left' first now
+      → IfSome left (λ input. (rs : List Reading) → AreReadings (lines_of input) rs → Appends t t' (output numbering rs))
+  Replayed-wrote state t t' begins none e e' r0 =
+      let r = subst (λ (s : State). Replayed taken failures s state left left' first now) begins r0 in
+      Consumes-whole left left' r.bytes (λ input. (rs : List Reading) → AreReadings (lines_of input) rs → Appends t t' (output numbering rs)) r.read r.at_end
+      (λ rs h. rw (← e, ← e') (Passes-all _ _ _ _ _ (r.finished.all rs h).1.passed none r.held))
+
+  -- all was read, and has readings
+  pub Replayed-readings : (state : State) → opening ≡ begin_state numbering → Replayed taken failures opening state left left' first now → IfSome left (λ input. (rs : List Reading) × AreReadings (lines_of input) rs)
+  Replayed-readings state begins r0 =
+      let r = subst (λ (s : State). Replayed taken failures s state left left' first now) begins r0 in
+      Consumes-whole left left' r.bytes (λ input. (rs : List Reading) × AreReadings (lines_of input) rs) r.read r.at_end (r.finished.readings, r.finished.are)
+
+  -- all was read, and the pool that is shown is the one behind it
+  pub Replayed-left : (state : State) → opening ≡ begin_state Plain → Replayed taken failures opening state left left' first now → IfSome left (λ input. (rs : List Reading) → AreReadings (lines_of input) rs → pool_shown state ≡ pool_left rs)
+  Replayed-left state begins r0 =
+      let r = subst (λ (s : State). Replayed taken failures s state left left' first now) begins r0 in
+      Consumes-whole left left' r.bytes (λ input. (rs : List Reading) → AreReadings (lines_of input) rs → pool_shown state ≡ pool_left rs) r.read r.at_end
+      (λ rs h. ap pool_shown (r.finished.all rs h).0)
 
   -- the whole lines were answered
-  pub BrokeOff-wrote : (t t' : Option (List ℕ)) → first.held.now.items ≡ [] → taken first.sink.now ≡ t → taken now.sink.now ≡ t' → BrokeOff taken failures left left' first now → WroteWholeLines left left' t t'
-  BrokeOff-wrote t t' none e e' b =
+  pub BrokeOff-wrote : (t t' : Option (List ℕ)) → opening ≡ begin_state numbering → first.held.now.items ≡ [] → taken first.sink.now ≡ t → taken now.sink.now ≡ t' → BrokeOff taken failures opening left left' first now → WroteWholeLines numbering left left' t t'
+  BrokeOff-wrote t t' begins none e e' b0 =
+      let b = subst (λ (s : State). BrokeOff taken failures s left left' first now) begins b0 in
       let cut : whole_lines b.bytes ≡ b.served.lines = ap whole_lines b.served.cut ∙ whole_lines_all_ended b.served.lines b.served.pending b.served.no_end b.served.open_end in
       record {
         bytes = b.bytes;
         read = b.read;
         readings = b.served.readings;
-        are = subst (λ (ls : List (List ℕ)). AreReadFrom begin_state ls b.served.readings) (sym cut) b.served.are;
-        wrote = λ rs h. rw (← e, ← e') (Passes-all _ _ _ _ _ (b.served.answered rs (subst (λ (ls : List (List ℕ)). AreReadFrom begin_state ls rs) cut h)).1.passed none b.held);
+        are = subst (λ (ls : List (List ℕ)). AreReadings ls b.served.readings) (sym cut) b.served.are;
+        wrote = λ rs h. rw (← e, ← e') (Passes-all _ _ _ _ _ (b.served.answered rs (subst (λ (ls : List (List ℕ)). AreReadings ls rs) cut h)).1.passed none b.held);
+      }
+
+  -- a fault came, and no more than a front was written
+  pub Ended-wrote : (t t' : Option (List ℕ)) (fault : RunFault) → opening ≡ begin_state numbering → first.held.now.items ≡ [] → taken first.sink.now ≡ t → taken now.sink.now ≡ t' → Ended taken failures opening left left' first now fault → WroteFront numbering left left' t t'
+  Ended-wrote t t' fault begins none e e' d0 =
+      let d = subst (λ (s : State). Ended taken failures s left left' first now fault) begins d0 in
+      record {
+        bytes = d.bytes;
+        read = d.read;
+        wrote = λ rs h. rw (← e, ← e') (subst (λ (held : List ℕ). TakesFront (taken first.sink.now) (taken now.sink.now) (held ++ output numbering rs)) none (d.stopped rs h).took);
       }

@@ -12,6 +12,7 @@ use Rattle.cq_ground.specs.Grounding.{groundings_of}
 use Rattle.cq_match.specs.Matched.{is_closed, is_matched}
 use Rattle.cq_board.specs.Supply.{unifies}
 use Rattle.cq_report.specs.Reading.{Reading, Reads, Faulty}
+use Rattle.cq_report.specs.declared.numbering.Numbering.TheVariants.{Plain, Numbered}
 use Rattle.cq_report.specs.Output.{output}
 
 abbrev seat : List ℕ → AtomRecord
@@ -26,20 +27,25 @@ kramer = Reads (Post (codes "kramer") (waits_for (codes "Jerry") (codes "Kramer"
 abbrev jerry : Reading
 jerry = Reads (Post (codes "jerry") (waits_for (codes "Kramer") (codes "Jerry")))
 
-first_run : output (kramer ∷ jerry ∷ Reads Publish ∷ Reads Show ∷ [])
+first_run : output Plain (kramer ∷ jerry ∷ Reads Publish ∷ Reads Show ∷ [])
     ≡ codes "ok 1\nok 2\npublished 2\nshow 2\nquery kramer matched\n  text {R(\"Jerry\", 122)} R(\"Kramer\", 122) <-\n  post 0 providers 1\n    jerry head 0\n  groundings 1 ()\n    ()\nquery jerry matched\n  text {R(\"Kramer\", 122)} R(\"Jerry\", 122) <-\n  post 0 providers 1\n    kramer head 0\n  groundings 1 ()\n    ()\nend\n"
 unfolding unifies is_closed is_matched groundings_of digits
 first_run = refl
 
 -- A look shows what was published last, a name is taken once, and a blank line has no reply.
-first_run_refusals : output (Reads Show ∷ kramer ∷ Reads Blank ∷ Faulty Shape 18 ∷ kramer ∷ Reads Show ∷ Reads Publish ∷ [])
+first_run_refusals : output Plain (Reads Show ∷ kramer ∷ Reads Blank ∷ Faulty Shape 18 ∷ kramer ∷ Reads Show ∷ Reads Publish ∷ [])
     ≡ codes "show 0\nend\nok 1\nrefused Shape at 18\nrefused NameTaken\nshow 0\nend\npublished 1\n"
 unfolding unifies is_closed is_matched groundings_of digits
 first_run_refusals = refl
 
 -- The setup lasts until an edit, a publish or a show; a fault of text and a refused relation do not end it.
-setup_and_late : output (Reads (Relation (codes "T") 2) ∷ Reads (Limits 5 1) ∷ Faulty Shape 0 ∷ Reads (Relation (codes "T") 1) ∷ Reads (Limits 9 1) ∷ Reads Blank ∷ Reads (Withdraw (codes "a")) ∷ Reads (Relation (codes "T") 1) ∷ Reads (Limits 9 2)
+setup_and_late : output Plain (Reads (Relation (codes "T") 2) ∷ Reads (Limits 5 1) ∷ Faulty Shape 0 ∷ Reads (Relation (codes "T") 1) ∷ Reads (Limits 9 1) ∷ Reads Blank ∷ Reads (Withdraw (codes "a")) ∷ Reads (Relation (codes "T") 1) ∷ Reads (Limits 9 2)
     ∷ kramer ∷ jerry ∷ Reads Publish ∷ [])
     ≡ codes "ok\nok\nrefused Shape at 0\nrefused Declared\nok\nrefused NoSuchName\nrefused Late\nrefused Late\nok 1\nrefused JournalFull\npublished 1\n"
 unfolding unifies digits
 setup_and_late = refl
+
+-- Lines without a reply count, and have no number.
+numbered_replies : output Numbered (Faulty Shape 5 ∷ Reads Blank ∷ Reads (Limits 5 1) ∷ []) ≡ codes "1: refused Shape at 5\n3: ok\n"
+unfolding digits
+numbered_replies = refl

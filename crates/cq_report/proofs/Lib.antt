@@ -4,11 +4,13 @@ pub mod Left
 pub mod Named
 pub mod Refused
 pub mod Answering
+pub mod Numbers
 pub mod Cutting
 pub mod Kept
 pub mod Served
 pub mod Starving
 pub mod Ending
+pub mod Leaving
 pub mod Turns
 pub mod Sheets
 pub mod Clients

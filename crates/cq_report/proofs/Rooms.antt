@@ -18,6 +18,7 @@ use Rattle.cq_report.specs.declared.stage.Stage.TheVariants as stages
 use Rattle.cq_text.specs.declared.form.Form.{Form}
 use Rattle.cq_report.specs.Lines.{lines_of}
 use Rattle.cq_report.specs.Reading.{Reading}
+use Rattle.cq_report.specs.declared.numbering.Numbering.TheVariants.{Plain}
 use Rattle.cq_report.specs.Machine.{SetupRecord, begin_state, form_of}
 use Rattle.cq_report.specs.Script.{Sheet, form_line, declaration_line, limits_line, entries_from, replies_from, sheets_from, script_of}
 use Rattle.cq_report.specs.Sessions.{IfWritten, FileServed, FilesServed, SetupServed, Ran, Served, knowns_before, pool_of, setup_sheet}
@@ -27,17 +28,17 @@ use Rattle.cq_report.specs.Steps.Rooms.{AreDone, FirstServes, AllServed, PutEntr
 
 -- ---- what threads left
 
-module _ {C S : Type 0} (form : Form) (opening : PoolRecord) (limit : ℕ) (known : C → List Edit) (form_at : S → Form) (client : S → C) (file : S → List ℕ) where
-  abbrev pub leaves : S → Result (Done C) ServeFault → Type 0
+module _ {C A S : Type 0} (form : Form) (opening : PoolRecord) (limit : ℕ) (known : C → List Edit) (form_at : S → Form) (client : S → C) (file : S → List ℕ) where
+  abbrev pub leaves : S → Result (Done C A) ServeFault → Type 0
   leaves seat left = IfOk left (λ done. FileServed (form_at seat) opening limit (known (client seat)) (file seat) done.sheet.replies (known done.client))
 
-  one_served : (seat : S) (done : Done C) (c : C) (sheet : SheetRecord) → form_at seat ≡ form → c ≡ done.client → sheet ≡ done.sheet → leaves seat (Ok done) → FileServed form opening limit (known (client seat)) (file seat) sheet.replies (known c)
+  one_served : (seat : S) (done : Done C A) (c : C) (sheet : SheetRecord) → form_at seat ≡ form → c ≡ done.client → sheet ≡ done.sheet → leaves seat (Ok done) → FileServed form opening limit (known (client seat)) (file seat) sheet.replies (known c)
   one_served seat done c sheet at is same left =
       subst (λ (z : SheetRecord). FileServed form opening limit (known (client seat)) (file seat) z.replies (known c)) (sym same)
       (subst (λ (z : C). FileServed form opening limit (known (client seat)) (file seat) done.sheet.replies (known z)) (sym is)
       (subst (λ (z : Form). FileServed z opening limit (known (client seat)) (file seat) done.sheet.replies (known done.client)) at left))
 
-  pub files_served : {D : Type 0} (seats : List S) (ds : List D) (lefts : List (Result (Done C) ServeFault)) (clients : List C) (sheets : List SheetRecord) → map form_at seats ≡ map (λ _. form) ds
+  pub files_served : {D : Type 0} (seats : List S) (ds : List D) (lefts : List (Result (Done C A) ServeFault)) (clients : List C) (sheets : List SheetRecord) → map form_at seats ≡ map (λ _. form) ds
       → LeavesEach leaves seats lefts → length seats ≤ length lefts → AreDone lefts clients sheets
       → FilesServed form opening limit (map (λ seat. known (client seat)) seats) (map file seats) (map (λ sheet. sheet.replies) sheets) (map known clients)
   files_served [] ds [] [] [] forms each many done = tt
@@ -54,10 +55,10 @@ module _ {C S : Type 0} (form : Form) (opening : PoolRecord) (limit : ℕ) (know
       (one_served seat d c sheet at done.0 done.1 each.0, files_served seats ds lefts clients sheets others each.1 (omega (arith, many)) done.2)
   files_served (seat ∷ seats) (x ∷ ds) (Err fault ∷ lefts) clients sheets forms each many done = absurd done
 
-module _ {C : Type 0} where
-  pub done_on : (lefts : List (Result (Done C) ServeFault)) (clients : List C) (sheets : List SheetRecord) (left : Result (Done C) ServeFault) (done : Done C) → left ≡ Ok done → AreDone lefts clients sheets
+module _ {C A : Type 0} where
+  pub done_on : (lefts : List (Result (Done C A) ServeFault)) (clients : List C) (sheets : List SheetRecord) (left : Result (Done C A) ServeFault) (done : Done C A) → left ≡ Ok done → AreDone lefts clients sheets
       → AreDone (lefts ++ left ∷ []) (clients ++ done.client ∷ []) (sheets ++ done.sheet ∷ [])
-  done_on [] [] [] left done is are = subst (λ (z : Result (Done C) ServeFault). AreDone (z ∷ []) (done.client ∷ []) (done.sheet ∷ [])) (sym is) (refl, refl, tt)
+  done_on [] [] [] left done is are = subst (λ (z : Result (Done C A) ServeFault). AreDone (z ∷ []) (done.client ∷ []) (done.sheet ∷ [])) (sym is) (refl, refl, tt)
   done_on [] [] (s ∷ sheets) left done is are = absurd are
   done_on [] (c ∷ clients) sheets left done is are = absurd are
   done_on (Ok d ∷ lefts) [] sheets left done is are = absurd are
@@ -124,7 +125,7 @@ told_whole [] = refl
 told_whole (told ∷ sheet) = ap (λ (z : Sheet). told ∷ z) (told_whole sheet)
 
 pub set_even : (bytes rest : List ℕ) (heading : Option Form) (setup : SetupRecord) (sheet : SheetRecord) → SetTo bytes rest heading setup sheet → IsEven sheet
-set_even bytes rest heading setup sheet so = subst IsEven (sym so.told) (told_even (setup_sheet begin_state so.front))
+set_even bytes rest heading setup sheet so = subst IsEven (sym so.told) (told_even (setup_sheet (begin_state Plain) so.front))
 
 pub set_asked : (bytes rest : List ℕ) (heading : Option Form) (setup : SetupRecord) (sheet : SheetRecord) → SetTo bytes rest heading setup sheet → sheet.asked ≡ []
 set_asked bytes rest heading setup sheet so = ap (λ (z : SheetRecord). z.asked) so.told
@@ -142,7 +143,7 @@ setup_served bytes rest heading setup sheet replies known so begins b = record {
   set = so.set;
   begins = begins b.lines b.are;
   told = b.told;
-  whole = b.whole ∙ ap (λ (z : SheetRecord). whole z [] ++ b.told) so.told ∙ ap (λ (z : Sheet). z ++ b.told) (told_whole (setup_sheet begin_state so.front));
+  whole = b.whole ∙ ap (λ (z : SheetRecord). whole z [] ++ b.told) so.told ∙ ap (λ (z : Sheet). z ++ b.told) (told_whole (setup_sheet (begin_state Plain) so.front));
   served = b.served;
 }
 

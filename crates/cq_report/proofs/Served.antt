@@ -23,10 +23,10 @@ pub record Parted (state : State) (lines more : List (List ℕ)) (rs : List Read
   pub front : List Reading
   pub rest : List Reading
   pub whole : rs ≡ front ++ rest
-  pub are : AreReadFrom state lines front
-  pub follow : AreReadFrom (state_after state front) more rest
+  pub are : AreReadFrom state.heading lines front
+  pub follow : AreReadFrom (state_after state front).heading more rest
 
-pub part : (state : State) (lines more : List (List ℕ)) (rs : List Reading) → AreReadFrom state (lines ++ more) rs → Parted state lines more rs
+pub part : (state : State) (lines more : List (List ℕ)) (rs : List Reading) → AreReadFrom state.heading (lines ++ more) rs → Parted state lines more rs
 part state [] more rs h = record { front = []; rest = rs; whole = refl; are = tt; follow = h }
 part state (line ∷ lines) more [] h = absurd h
 part state (line ∷ lines) more (r ∷ rs) h = let p = part (next state r) lines more rs h.1 in record {
@@ -37,7 +37,7 @@ part state (line ∷ lines) more (r ∷ rs) h = let p = part (next state r) line
   follow = p.follow;
 }
 
-pub join : (state : State) (lines more : List (List ℕ)) (rs qs : List Reading) → AreReadFrom state lines rs → AreReadFrom (state_after state rs) more qs → AreReadFrom state (lines ++ more) (rs ++ qs)
+pub join : (state : State) (lines more : List (List ℕ)) (rs qs : List Reading) → AreReadFrom state.heading lines rs → AreReadFrom (state_after state rs).heading more qs → AreReadFrom state.heading (lines ++ more) (rs ++ qs)
 join state [] more [] qs h k = k
 join state [] more (r ∷ rs) qs h k = absurd h
 join state (line ∷ lines) more [] qs h k = absurd h
@@ -58,13 +58,13 @@ pub record First (state : State) (line : List ℕ) (more : List (List ℕ)) (rs 
   pub rest : List Reading
   pub whole : rs ≡ reading ∷ rest
   pub is : IsReading (form_in state) line reading
-  pub follow : AreReadFrom (next state reading) more rest
+  pub follow : AreReadFrom (next state reading).heading more rest
 
-pub first_of_them : (state : State) (line : List ℕ) (more : List (List ℕ)) (rs : List Reading) → AreReadFrom state (line ∷ more) rs → First state line more rs
+pub first_of_them : (state : State) (line : List ℕ) (more : List (List ℕ)) (rs : List Reading) → AreReadFrom state.heading (line ∷ more) rs → First state line more rs
 first_of_them state line more [] h = absurd h
 first_of_them state line more (r ∷ rs) h = record { reading = r; rest = rs; whole = refl; is = h.0; follow = h.1 }
 
-pub none_of_them : (state : State) (rs : List Reading) → AreReadFrom state [] rs → rs ≡ []
+pub none_of_them : (state : State) (rs : List Reading) → AreReadFrom state.heading [] rs → rs ≡ []
 none_of_them state [] h = refl
 none_of_them state (r ∷ rs) h = absurd h
 
@@ -100,7 +100,7 @@ module _ {W A : Type 0} (taken : W → Option (List ℕ)) (failures : W → ℕ)
   answered_more lines line now now' state state' a answer rs h =
       let p = part opening lines (line ∷ []) rs h in
       let before = a p.front p.are in
-      let f = first_of_them state line [] p.rest (subst (λ (s : State). AreReadFrom s (line ∷ []) p.rest) (sym before.0) p.follow) in
+      let f = first_of_them state line [] p.rest (subst (λ (s : State). AreReadFrom s.heading (line ∷ []) p.rest) (sym before.0) p.follow) in
       let e : rs ≡ p.front ++ (f.reading ∷ []) = p.whole ∙ ap (λ (l : List Reading). p.front ++ l) (f.whole ∙ ap (λ (l : List Reading). f.reading ∷ l) (none_of_them (next state f.reading) f.rest f.follow)) in
       let here = answer f.reading f.is in
       let out : output_from opening p.front ++ reply state f.reading ≡ output_from opening rs =
@@ -177,9 +177,9 @@ module _ {W A : Type 0} (taken : W → Option (List ℕ)) (failures : W → ℕ)
       → ((reading : Reading) → IsReading (form_in state) line reading → Breaks taken failures now now' (reply state reading) fault)
       → Stopped taken failures first opening now' bytes fault
   stopped_at lines line more now now' state bytes fault a cut breaks rs h =
-      let p = part opening lines (line ∷ more) rs (subst (λ (ls : List (List ℕ)). AreReadFrom opening ls rs) cut h) in
+      let p = part opening lines (line ∷ more) rs (subst (λ (ls : List (List ℕ)). AreReadFrom opening.heading ls rs) cut h) in
       let before = a p.front p.are in
-      let f = first_of_them state line more p.rest (subst (λ (s : State). AreReadFrom s (line ∷ more) p.rest) (sym before.0) p.follow) in
+      let f = first_of_them state line more p.rest (subst (λ (s : State). AreReadFrom s.heading (line ∷ more) p.rest) (sym before.0) p.follow) in
       let e : rs ≡ p.front ++ (f.reading ∷ f.rest) = p.whole ∙ ap (λ (l : List Reading). p.front ++ l) f.whole in
       let here = Puts-breaks taken failures first now now' (output_from opening p.front) (reply state f.reading) fault before.1 (breaks f.reading f.is) in
       let others = output_from (next state f.reading) f.rest in
@@ -234,7 +234,7 @@ module _ {W A : Type 0} (taken : W → Option (List ℕ)) (failures : W → ℕ)
       → Stopped taken failures first opening now' (bytes ++ rest) fault
   stopped_between now now' state line bytes rest fault s breaks rs h =
       let cut = lines_of_behind s.lines s.pending bytes rest s.cut s.no_end in
-      let p = part opening s.lines (lines_of (s.pending ++ rest)) rs (subst (λ (ls : List (List ℕ)). AreReadFrom opening ls rs) cut h) in
+      let p = part opening s.lines (lines_of (s.pending ++ rest)) rs (subst (λ (ls : List (List ℕ)). AreReadFrom opening.heading ls rs) cut h) in
       let others = output_from (state_after opening p.front) p.rest in
       subst (λ (l : List ℕ). Breaks taken failures first now' l fault) (output_from-split opening rs p.front p.rest p.whole) (breaks (output_from opening p.front) others (s.answered p.front p.are).1)
 
@@ -267,13 +267,13 @@ module _ {W A : Type 0} (taken : W → Option (List ℕ)) (failures : W → ℕ)
       let none : length s.pending ≡ 0 = kept_none s.pending (ap length (sym s.keeps) ∙ n) in
       ap lines_of (s.cut ∙ ap (λ (l : List ℕ). ended s.lines ++ l) (nil_from_length s.pending none)) ∙ lines_of_all_ended s.lines [] s.no_end ∙ append-nil s.lines
 
-  pub Finished-whole : (now : Output W A) (state : State) (line bytes : List ℕ) → Served taken failures first opening now state line bytes → length line ≡ 0 → Finished taken failures first opening now bytes
+  pub Finished-whole : (now : Output W A) (state : State) (line bytes : List ℕ) → Served taken failures first opening now state line bytes → length line ≡ 0 → Finished taken failures first opening now state bytes
   Finished-whole now state line bytes s n =
       let e = lines_all now state line bytes s n in
       record {
         readings = s.readings;
-        are = subst (λ (ls : List (List ℕ)). AreReadFrom opening ls s.readings) (sym e) s.are;
-        all = λ rs h. (s.answered rs (subst (λ (ls : List (List ℕ)). AreReadFrom opening ls rs) e h)).1;
+        are = subst (λ (ls : List (List ℕ)). AreReadFrom opening.heading ls s.readings) (sym e) s.are;
+        all = λ rs h. s.answered rs (subst (λ (ls : List (List ℕ)). AreReadFrom opening.heading ls rs) e h);
       }
 
   -- the last line, which no LF ends
@@ -284,7 +284,7 @@ module _ {W A : Type 0} (taken : W → Option (List ℕ)) (failures : W → ℕ)
   pub Finished-last : (now now' : Output W A) (state state' : State) (line bytes : List ℕ) → Served taken failures first opening now state line bytes → 0 < length line
       → (reading : Reading) × IsReading (form_in state) line reading
       → ((reading : Reading) → IsReading (form_in state) line reading → (state' ≡ next state reading) × Puts taken failures now now' (reply state reading))
-      → Finished taken failures first opening now' bytes
+      → Finished taken failures first opening now' state' bytes
   unfolding Served-line
   Finished-last now now' state state' line bytes s n read answer =
       let e = lines_last now state line bytes s n in
@@ -292,8 +292,8 @@ module _ {W A : Type 0} (taken : W → Option (List ℕ)) (failures : W → ℕ)
       let f : s.lines ++ s.pending ∷ [] ≡ t.lines = refl in
       record {
         readings = t.readings;
-        are = subst (λ (ls : List (List ℕ)). AreReadFrom opening ls t.readings) (sym (e ∙ f)) t.are;
-        all = λ rs h. (t.answered rs (subst (λ (ls : List (List ℕ)). AreReadFrom opening ls rs) (e ∙ f) h)).1;
+        are = subst (λ (ls : List (List ℕ)). AreReadFrom opening.heading ls t.readings) (sym (e ∙ f)) t.are;
+        all = λ rs h. t.answered rs (subst (λ (ls : List (List ℕ)). AreReadFrom opening.heading ls rs) (e ∙ f) h);
       }
 
   pub Stopped-last : (now now' : Output W A) (state : State) (line bytes : List ℕ) (fault : RunFault) → Served taken failures first opening now state line bytes → 0 < length line
@@ -303,15 +303,15 @@ module _ {W A : Type 0} (taken : W → Option (List ℕ)) (failures : W → ℕ)
       stopped_at s.lines s.pending [] now now' state bytes fault s.answered (lines_last now state line bytes s n)
       (of_kept (form_in state) line s.pending (λ r. Breaks taken failures now now' (reply state r) fault) s.keeps breaks)
 
-  pub Finished-passed : (now now' : Output W A) (bytes : List ℕ) → Finished taken failures first opening now bytes → Puts taken failures now now' [] → Finished taken failures first opening now' bytes
-  Finished-passed now now' bytes f p = record {
+  pub Finished-passed : (now now' : Output W A) (state : State) (bytes : List ℕ) → Finished taken failures first opening now state bytes → Puts taken failures now now' [] → Finished taken failures first opening now' state bytes
+  Finished-passed now now' state bytes f p = record {
     readings = f.readings;
     are = f.are;
-    all = λ rs h. subst (Put now') (append-nil (output_from opening rs)) (Puts-then taken failures first now now' (output_from opening rs) [] (f.all rs h) p);
+    all = λ rs h. ((f.all rs h).0, subst (Put now') (append-nil (output_from opening rs)) (Puts-then taken failures first now now' (output_from opening rs) [] (f.all rs h).1 p));
   }
 
-  pub Stopped-finished : (now now' : Output W A) (bytes : List ℕ) (fault : RunFault) → Finished taken failures first opening now bytes → Breaks taken failures now now' [] fault → Stopped taken failures first opening now' bytes fault
-  Stopped-finished now now' bytes fault f b rs h = subst (λ (l : List ℕ). Breaks taken failures first now' l fault) (append-nil (output_from opening rs)) (Puts-breaks taken failures first now now' (output_from opening rs) [] fault (f.all rs h) b)
+  pub Stopped-finished : (now now' : Output W A) (state : State) (bytes : List ℕ) (fault : RunFault) → Finished taken failures first opening now state bytes → Breaks taken failures now now' [] fault → Stopped taken failures first opening now' bytes fault
+  Stopped-finished now now' state bytes fault f b rs h = subst (λ (l : List ℕ). Breaks taken failures first now' l fault) (append-nil (output_from opening rs)) (Puts-breaks taken failures first now now' (output_from opening rs) [] fault (f.all rs h).1 b)
 
 module _ {W A : Type 0} (taken : W → Option (List ℕ)) (failures : W → ℕ) where
   pub ServesOn-nothing : (old : Output W A) (state : State) (line : List ℕ) → ServesOn taken failures old old state state line line []

@@ -9,6 +9,7 @@ use Rattle.cq_report.specs.declared.sessions.sheet.Line.TheVariants.{Told}
 use Rattle.cq_report.specs.declared.stage.Stage.TheVariants as stages
 use Rattle.cq_report.specs.Lines.{lines_of}
 use Rattle.cq_report.specs.Reading.{Reading, Reads, IsReading, AreReadIn}
+use Rattle.cq_report.specs.declared.numbering.Numbering.TheVariants.{Plain}
 use Rattle.cq_report.specs.Machine.{State, SetupRecord, begin_state, begin_setup, form_of, form_in, headed, next, reply}
 use Rattle.cq_report.specs.Output.{AreReadFrom, state_after}
 use Rattle.cq_report.specs.Script.{Sheet}
@@ -20,7 +21,7 @@ use Rattle.cq_report.proofs.Cutting.{lines_of_ended, lines_of_open}
 use Rattle.cq_report.proofs.Turns.{map-snoc}
 
 -- one line more is read in the form that those before it settle
-AreReadFrom-snoc : (state : State) (lines : List (List ℕ)) (front : List Reading) (line : List ℕ) (reading : Reading) → AreReadFrom state lines front → IsReading (form_in (state_after state front)) line reading → AreReadFrom state (lines ++ line ∷ []) (front ++ reading ∷ [])
+AreReadFrom-snoc : (state : State) (lines : List (List ℕ)) (front : List Reading) (line : List ℕ) (reading : Reading) → AreReadFrom state.heading lines front → IsReading (form_in (state_after state front)) line reading → AreReadFrom state.heading (lines ++ line ∷ []) (front ++ reading ∷ [])
 AreReadFrom-snoc state [] [] line reading are is = (is, tt)
 AreReadFrom-snoc state [] (r ∷ front) line reading are is = absurd are
 AreReadFrom-snoc state (l ∷ lines) [] line reading are is = absurd are
@@ -48,11 +49,11 @@ set_on bytes rest rest' line heading heading' setup setup' sheet sheet' cut so l
   lines = so.lines ++ line ∷ [];
   cut = so.cut ∙ ap (λ (z : List (List ℕ)). so.lines ++ z) cut ∙ sym (append_assoc so.lines (line ∷ []) (lines_of rest'));
   front = so.front ++ l.reading ∷ [];
-  are = AreReadFrom-snoc begin_state so.lines so.front line l.reading so.are (subst (λ (s : State). IsReading (form_in s) line l.reading) (sym (set_state begin_state so.front heading setup so.set)) l.is);
-  set = IsSetBy-snoc begin_state so.front heading heading' setup setup' l.reading so.set l.sets.of_setup (rw (l.sets.stage, l.settles) refl);
+  are = AreReadFrom-snoc (begin_state Plain) so.lines so.front line l.reading so.are (subst (λ (s : State). IsReading (form_in s) line l.reading) (sym (set_state (begin_state Plain) so.front heading setup so.set)) l.is);
+  set = IsSetBy-snoc (begin_state Plain) so.front heading heading' setup setup' l.reading so.set l.sets.of_setup (rw (l.sets.stage, l.settles) refl);
   told = l.sets.told ∙ ap (λ (z : SheetRecord). record z { batch = z.batch ++ Told (told_or_none (reply (in_setup heading setup) l.reading)) ∷ [] }) so.told
       ∙ ap (λ (z : List (Line (List ℕ))). record { replies = []; batch = z; asked = [] })
-      (sym (map-snoc Told (setup_sheet begin_state so.front) (told_or_none (reply (in_setup heading setup) l.reading))) ∙ ap (map Told) (sym (setup_sheet-snoc begin_state so.front heading setup l.reading so.set)));
+      (sym (map-snoc Told (setup_sheet (begin_state Plain) so.front) (told_or_none (reply (in_setup heading setup) l.reading))) ∙ ap (map Told) (sym (setup_sheet-snoc (begin_state Plain) so.front heading setup l.reading so.set)));
 }
 
 pub set_line : (bytes rest line behind : List ℕ) (heading heading' : Option Form) (setup setup' : SetupRecord) (sheet sheet' : SheetRecord) → rest ≡ line ++ (10 ∷ behind) → HasNoEnd line → SetTo bytes rest heading setup sheet → SetsLine heading setup sheet heading' setup' sheet' line

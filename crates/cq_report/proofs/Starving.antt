@@ -6,10 +6,11 @@ use Rattle.cq_text.specs.declared.limits.TheConstants.{MAX_PIECE}
 use Rattle.cq_report.specs.declared.output.Output.{Output}
 use Rattle.cq_report.specs.declared.fault.RunFault.{RunFault}
 use Rattle.cq_report.specs.declared.fault.RunFault.TheVariants as faults
+use Rattle.cq_report.specs.declared.numbering.Numbering.{Numbering}
 use Rattle.cq_report.specs.Lines.{whole_lines, before_whole}
 use Rattle.cq_report.specs.Reading.{Reading}
 use Rattle.cq_report.specs.Machine.{State, begin_state}
-use Rattle.cq_report.specs.Output.{AreReadings, AreReadFrom, output}
+use Rattle.cq_report.specs.Output.{AreReadings, output}
 use Rattle.cq_report.specs.Run.{IfMemory, WroteFirstLines}
 use Rattle.cq_report.specs.Steps.Written.{Puts, Breaks}
 use Rattle.cq_report.specs.Steps.Serving.{Served, Stopped, Starved, ServesOn, StarvesOn}
@@ -93,64 +94,65 @@ module _ {W A : Type 0} (taken : W → Option (List ℕ)) (failures : W → ℕ)
   StarvesOn-behind a b c r s k l done rest piece on cut p first opening bytes h = Starved-behind taken failures first opening b c s l bytes done rest piece cut (on first opening bytes h) p
 
   -- memory was wanting behind what was served
-  pub RanOut-behind : (left left' : Option (List ℕ)) (first now now' : Output W A) (state : State) (line bytes done rest piece : List ℕ) → done ++ rest ≡ piece → Consumes left left' (bytes ++ piece) → length piece ≤ MAX_PIECE
-      → Served taken failures first begin_state now state line (bytes ++ done) → Puts taken failures now now' [] → RanOut taken failures left left' first now'
-  RanOut-behind left left' first now now' state line bytes done rest piece cut read short s p = record {
+  pub RanOut-behind : (opening : State) (left left' : Option (List ℕ)) (first now now' : Output W A) (state : State) (line bytes done rest piece : List ℕ) → done ++ rest ≡ piece → Consumes left left' (bytes ++ piece) → length piece ≤ MAX_PIECE
+      → Served taken failures first opening now state line (bytes ++ done) → Puts taken failures now now' [] → RanOut taken failures opening left left' first now'
+  RanOut-behind opening left left' first now now' state line bytes done rest piece cut read short s p = record {
     bytes = bytes;
     piece = piece;
     read = read;
     short = short;
-    starved = Starved-behind taken failures first begin_state now now' state line bytes done rest piece cut s p;
+    starved = Starved-behind taken failures first opening now now' state line bytes done rest piece cut s p;
   }
 
   -- memory was wanting in the piece that was served next
-  pub RanOut-on : (left left' : Option (List ℕ)) (first now now' : Output W A) (state : State) (line bytes piece : List ℕ) → Consumes left left' (bytes ++ piece) → length piece ≤ MAX_PIECE
-      → Served taken failures first begin_state now state line bytes → StarvesOn taken failures now now' state line piece → RanOut taken failures left left' first now'
-  RanOut-on left left' first now now' state line bytes piece read short s on = record {
+  pub RanOut-on : (opening : State) (left left' : Option (List ℕ)) (first now now' : Output W A) (state : State) (line bytes piece : List ℕ) → Consumes left left' (bytes ++ piece) → length piece ≤ MAX_PIECE
+      → Served taken failures first opening now state line bytes → StarvesOn taken failures now now' state line piece → RanOut taken failures opening left left' first now'
+  RanOut-on opening left left' first now now' state line bytes piece read short s on = record {
     bytes = bytes;
     piece = piece;
     read = read;
     short = short;
-    starved = on first begin_state bytes s;
+    starved = on first opening bytes s;
   }
 
-  pub RanOut-passed : (left left' : Option (List ℕ)) (first now now' : Output W A) → RanOut taken failures left left' first now → Puts taken failures now now' [] → RanOut taken failures left left' first now'
-  RanOut-passed left left' first now now' r p = record {
+  pub RanOut-passed : (opening : State) (left left' : Option (List ℕ)) (first now now' : Output W A) → RanOut taken failures opening left left' first now → Puts taken failures now now' [] → RanOut taken failures opening left left' first now'
+  RanOut-passed opening left left' first now now' r p = record {
     bytes = r.bytes;
     piece = r.piece;
     read = r.read;
     short = r.short;
-    starved = Starved-passed taken failures first begin_state now now' r.bytes r.piece r.starved p;
+    starved = Starved-passed taken failures first opening now now' r.bytes r.piece r.starved p;
   }
 
   -- and what waited was passed on
-  pub RanOut-all : (left left' : Option (List ℕ)) (first now now' : Output W A) (fault : RunFault) → RanOut taken failures left left' first now → Puts taken failures now now' [] → now'.held.now.items ≡ []
-      → IfMemory fault (RanOut taken failures left left' first now' × (now'.held.now.items ≡ []))
-  RanOut-all left left' first now now' fault r p held = for_memory fault _ (RanOut-passed left left' first now now' r p, held)
+  pub RanOut-all : (opening : State) (left left' : Option (List ℕ)) (first now now' : Output W A) (fault : RunFault) → RanOut taken failures opening left left' first now → Puts taken failures now now' [] → now'.held.now.items ≡ []
+      → IfMemory fault (RanOut taken failures opening left left' first now' × (now'.held.now.items ≡ []))
+  RanOut-all opening left left' first now now' fault r p held = for_memory fault _ (RanOut-passed opening left left' first now now' r p, held)
 
   -- a fault ends what ran out of memory
-  pub RanOut-ended : (left left' : Option (List ℕ)) (first now now' : Output W A) → RanOut taken failures left left' first now → Puts taken failures now now' [] → Ended taken failures left left' first now' faults.NoMemory
-  RanOut-ended left left' first now now' r p = record {
+  pub RanOut-ended : (opening : State) (left left' : Option (List ℕ)) (first now now' : Output W A) → RanOut taken failures opening left left' first now → Puts taken failures now now' [] → Ended taken failures opening left left' first now' faults.NoMemory
+  RanOut-ended opening left left' first now now' r p = record {
     bytes = r.bytes ++ r.piece;
     read = r.read;
-    stopped = Starved-stopped taken failures first begin_state now' r.bytes r.piece (Starved-passed taken failures first begin_state now now' r.bytes r.piece r.starved p);
+    stopped = Starved-stopped taken failures first opening now' r.bytes r.piece (Starved-passed taken failures first opening now now' r.bytes r.piece r.starved p);
   }
 
-  pub RanOut-breaks : (left left' : Option (List ℕ)) (first now now' : Output W A) (fault : RunFault) → RanOut taken failures left left' first now → Breaks taken failures now now' [] fault → Ended taken failures left left' first now' fault
-  RanOut-breaks left left' first now now' fault r b = record {
+  pub RanOut-breaks : (opening : State) (left left' : Option (List ℕ)) (first now now' : Output W A) (fault : RunFault) → RanOut taken failures opening left left' first now → Breaks taken failures now now' [] fault → Ended taken failures opening left left' first now' fault
+  RanOut-breaks opening left left' first now now' fault r b = record {
     bytes = r.bytes ++ r.piece;
     read = r.read;
-    stopped = Starved-breaks taken failures first begin_state now now' r.bytes r.piece fault r.starved b;
+    stopped = Starved-breaks taken failures first opening now now' r.bytes r.piece fault r.starved b;
   }
 
   -- the first lines were answered
-  pub RanOut-wrote : (left left' : Option (List ℕ)) (first now : Output W A) (t t' : Option (List ℕ)) → first.held.now.items ≡ [] → taken first.sink.now ≡ t → taken now.sink.now ≡ t'
-      → RanOut taken failures left left' first now → now.held.now.items ≡ [] → WroteFirstLines left left' t t'
-  RanOut-wrote left left' first now t t' none e e' r held =
+  pub RanOut-wrote : (numbering : Numbering) (opening : State) (left left' : Option (List ℕ)) (first now : Output W A) (t t' : Option (List ℕ)) → opening ≡ begin_state numbering → first.held.now.items ≡ [] → taken first.sink.now ≡ t → taken now.sink.now ≡ t'
+      → RanOut taken failures opening left left' first now → now.held.now.items ≡ [] → WroteFirstLines numbering left left' t t'
+  RanOut-wrote numbering opening left left' first now t t' begins none e e' r0 held =
+      let r = subst (λ (s : State). RanOut taken failures s left left' first now) begins r0 in
       let s = r.starved in
       let there = longer r.bytes s.done in
       let behind = longer (r.bytes ++ s.done) s.rest in
-      let whole = whole_of taken failures first begin_state now r.bytes r.piece s in
+      let whole = whole_of taken failures first (begin_state numbering) now r.bytes r.piece s in
       let answered : whole_lines r.bytes ++ there.more ≡ s.served.lines =
       sym there.whole ∙ ap whole_lines s.served.cut ∙ whole_lines_all_ended s.served.lines s.served.pending s.served.no_end s.served.open_end in
       record {
@@ -162,13 +164,13 @@ module _ {W A : Type 0} (taken : W → Option (List ℕ)) (failures : W → ℕ)
         behind = behind.more;
         whole = ap whole_lines (sym whole) ∙ behind.whole ∙ ap (λ (ls : List (List ℕ)). ls ++ behind.more) there.whole;
         readings = s.served.readings;
-        are = subst (λ (ls : List (List ℕ)). AreReadFrom begin_state ls s.served.readings) (sym answered) s.served.are;
-        wrote = λ rs h. rw (← e, ← e') (Passes-all _ _ _ _ _ (s.served.answered rs (subst (λ (ls : List (List ℕ)). AreReadFrom begin_state ls rs) answered h)).1.passed none held);
+        are = subst (λ (ls : List (List ℕ)). AreReadings ls s.served.readings) (sym answered) s.served.are;
+        wrote = λ rs h. rw (← e, ← e') (Passes-all _ _ _ _ _ (s.served.answered rs (subst (λ (ls : List (List ℕ)). AreReadings ls rs) answered h)).1.passed none held);
       }
 
 -- nothing was read
-pub WroteFirstLines-none : (left taken : Option (List ℕ)) → WroteFirstLines left left taken taken
-WroteFirstLines-none left taken = record {
+pub WroteFirstLines-none : (numbering : Numbering) (left taken : Option (List ℕ)) → WroteFirstLines numbering left left taken taken
+WroteFirstLines-none numbering left taken = record {
   bytes = [];
   piece = [];
   read = Consumes-nil left;
@@ -178,5 +180,5 @@ WroteFirstLines-none left taken = record {
   whole = refl;
   readings = [];
   are = tt;
-  wrote = λ rs h. rw (none_of_them begin_state rs h) (Appends-nil taken);
+  wrote = λ rs h. rw (none_of_them (begin_state numbering) rs h) (Appends-nil taken);
 }

@@ -1,5 +1,5 @@
 -- A script is served by its setup first, and from then on by the floor machine with one session. (this project's profile)
-use Rattle.std.specs.Prelude.{ℕ, List, [], ◌∷◌, ◌++◌, Option, Some, None}
+use Rattle.std.specs.Prelude.{ℕ, suc, List, [], ◌∷◌, ◌++◌, ◌+◌, Option, Some, None, option_map, codes, decimal}
 use Rattle.cq_rel.specs.declared.fault.CatalogFault.{CatalogFault}
 use Rattle.cq_rel.specs.Tables.{Declaration, declaration, declare_fault}
 use Rattle.cq_text.specs.declared.form.Form.{Form}
@@ -14,6 +14,8 @@ use Rattle.cq_desk.specs.declared.event.Event.TheVariants as events
 use Rattle.cq_desk.specs.Machine.{opening_machine, answer_to, published_content}
 use Rattle.cq_desk.specs.Standing.{StandingRecord, stepped}
 use Rattle.cq_report.specs.declared.limits.TheConstants.{POOL_LIMIT, JOURNAL_LIMIT}
+use Rattle.cq_report.specs.declared.numbering.Numbering.{Numbering}
+use Rattle.cq_report.specs.declared.numbering.Numbering.TheVariants.{Plain, Numbered}
 use Rattle.cq_report.specs.declared.stage.Stage.{Stage}
 use Rattle.cq_report.specs.declared.stage.Stage.TheVariants.{Setup, Serving}
 use Rattle.cq_report.specs.Reading.{Reading, Reads, Faulty}
@@ -32,8 +34,10 @@ ServingRecord = StandingRecord PoolRecord Edit
 abbrev pub Staged : Type 0
 Staged = Stage SetupRecord ServingRecord
 
--- Which form a script is in, once a line was read that is not blank; and what serves its lines.
+-- How many lines came before, where replies are numbered; which form a script is in, once a line was read that is not blank; and what
+-- serves its lines.
 pub record State : Type 0 where
+  pub lines : Option ℕ
   pub heading : Option Form
   pub stage : Staged
 
@@ -44,8 +48,13 @@ begin_setup = record { catalog = []; limits = record { pool = POOL_LIMIT; journa
 abbrev pub begin_stage : Staged
 begin_stage = Setup begin_setup
 
-abbrev pub begin_state : State
-begin_state = record { heading = None; stage = begin_stage }
+-- No line came before.
+abbrev pub no_lines : Numbering → Option ℕ
+no_lines Plain = None
+no_lines Numbered = Some 0
+
+abbrev pub begin_state : Numbering → State
+begin_state numbering = record { lines = no_lines numbering; heading = None; stage = begin_stage }
 
 -- ---- the form
 
@@ -138,10 +147,32 @@ staged stage heading (Reads commands.Publish) = happen stage events.Publish
 staged stage heading (Reads commands.Show) = happen stage (events.Look 0)
 staged stage heading (Faulty kind offset) = (stage, fault_line kind offset)
 
+-- A reply behind the number of its line, counted from 1, where replies are numbered. Where a line has no reply, it has no number.
+abbrev pub numbered : Option ℕ → List ℕ → List ℕ
+numbered None bytes = bytes
+numbered (Some before) [] = []
+numbered (Some before) (b ∷ bs) = decimal (before + 1) ++ codes ": " ++ b ∷ bs
+
+-- The state behind a line that is not counted yet.
+abbrev pub served : State → Reading → State
+served state reading = record state { heading = headed state.heading reading; stage = (staged state.stage state.heading reading).0 }
+
+-- One line more came.
+abbrev pub counted : State → State
+counted state = record state { lines = option_map suc state.lines }
+
 -- The state behind a line.
 abbrev pub next : State → Reading → State
-next state reading = record { heading = headed state.heading reading; stage = (staged state.stage state.heading reading).0 }
+next state reading = counted (served state reading)
+
+-- The reply to a line, without a number.
+abbrev pub unnumbered : State → Reading → List ℕ
+unnumbered state reading = (staged state.stage state.heading reading).1
 
 -- The reply to a line.
 abbrev pub reply : State → Reading → List ℕ
-reply state reading = (staged state.stage state.heading reading).1
+reply state reading = numbered state.lines (unnumbered state reading)
+
+-- The pool that a look would show in this state: where the setup lasts, the opening pool.
+abbrev pub pool_shown : State → PoolRecord
+pool_shown state = shown (serving_of state.stage)

@@ -1,18 +1,22 @@
 -- What is written for a script (this project's profile).
-use Rattle.std.specs.Prelude.{ℕ, List, [], ◌∷◌, ◌++◌}
+use Rattle.std.specs.Prelude.{ℕ, List, [], ◌∷◌, ◌++◌, Option, None}
+use Rattle.cq_text.specs.declared.form.Form.{Form}
+use Rattle.cq_board.specs.Pool.{PoolRecord}
+use Rattle.cq_report.specs.declared.numbering.Numbering.{Numbering}
+use Rattle.cq_report.specs.declared.numbering.Numbering.TheVariants.{Plain}
 use Rattle.cq_report.specs.Reading.{Reading, IsReading}
-use Rattle.cq_report.specs.Machine.{State, begin_state, form_in, next, reply}
+use Rattle.cq_report.specs.Machine.{State, begin_state, form_of, headed, next, reply, pool_shown}
 
 -- Each line has its reading, in the form that is settled before it.
-abbrev pub AreReadFrom : State → List (List ℕ) → List Reading → Type 0
-AreReadFrom state [] [] = Unit {0}
-AreReadFrom state [] (reading ∷ readings) = ⊥
-AreReadFrom state (line ∷ lines) [] = ⊥
-AreReadFrom state (line ∷ lines) (reading ∷ readings) = IsReading (form_in state) line reading × AreReadFrom (next state reading) lines readings
+abbrev pub AreReadFrom : Option Form → List (List ℕ) → List Reading → Type 0
+AreReadFrom heading [] [] = Unit {0}
+AreReadFrom heading [] (reading ∷ readings) = ⊥
+AreReadFrom heading (line ∷ lines) [] = ⊥
+AreReadFrom heading (line ∷ lines) (reading ∷ readings) = IsReading (form_of heading) line reading × AreReadFrom (headed heading reading) lines readings
 
 -- Each line of a script has its reading.
 abbrev pub AreReadings : List (List ℕ) → List Reading → Type 0
-AreReadings lines readings = AreReadFrom begin_state lines readings
+AreReadings lines readings = AreReadFrom None lines readings
 
 -- The state behind some lines.
 abbrev pub state_after : State → List Reading → State
@@ -24,6 +28,10 @@ abbrev pub output_from : State → List Reading → List ℕ
 output_from state [] = []
 output_from state (reading ∷ readings) = reply state reading ++ output_from (next state reading) readings
 
--- What is written for lines that are read so.
-abbrev pub output : List Reading → List ℕ
-output readings = output_from begin_state readings
+-- What is written for lines that are read so, with the numbers of the lines or without them.
+abbrev pub output : Numbering → List Reading → List ℕ
+output numbering readings = output_from (begin_state numbering) readings
+
+-- The pool that a look would show behind lines that are read so.
+abbrev pub pool_left : List Reading → PoolRecord
+pool_left readings = pool_shown (state_after (begin_state Plain) readings)

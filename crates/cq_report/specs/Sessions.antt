@@ -18,6 +18,7 @@ use Rattle.cq_report.specs.declared.fault.RunFault.TheVariants as faults
 use Rattle.cq_report.specs.declared.stage.Stage.TheVariants as stages
 use Rattle.cq_report.specs.Lines.{lines_of}
 use Rattle.cq_report.specs.Reading.{Reading, Reads, Faulty, AreReadIn}
+use Rattle.cq_report.specs.declared.numbering.Numbering.TheVariants.{Plain}
 use Rattle.cq_report.specs.Machine.{SetupRecord, State, begin_setup, begin_state, form_of, next, reply}
 use Rattle.cq_report.specs.Output.{AreReadings}
 use Rattle.cq_report.specs.Reply.{entered_line, refused_line, why_words, published_line, show_line, fault_line, late_line}
@@ -112,7 +113,7 @@ setup_sheet state (line ∷ lines) = told_or_none (reply state line) ∷ setup_s
 
 -- A script in its setup, where this form is settled, if any.
 abbrev pub in_setup : Option Form → SetupRecord → State
-in_setup heading setup = record { heading = heading; stage = stages.Setup setup }
+in_setup heading setup = record { lines = None; heading = heading; stage = stages.Setup setup }
 
 -- The state behind lines of a setup is that of a replay.
 abbrev pub IsSetBy : State → List Reading → Option Form → SetupRecord → Type 0
@@ -132,10 +133,10 @@ pub record SetupServed (file : List ℕ) (heading : Option Form) (setup : SetupR
   pub behind : List Reading
   pub are_first : AreReadings first front
   pub are_behind : AreReadIn (form_of heading) rest behind
-  pub set : IsSetBy begin_state front heading setup
+  pub set : IsSetBy (begin_state Plain) front heading setup
   pub begins : BeginsBoard behind
   pub told : Sheet
-  pub whole : sheet ≡ setup_sheet begin_state front ++ told
+  pub whole : sheet ≡ setup_sheet (begin_state Plain) front ++ told
   pub served : Served (pool_of setup) setup.limits.journal behind [] [] [] told known
 
 -- ---- all of it

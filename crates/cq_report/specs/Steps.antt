@@ -1,11 +1,13 @@
 -- Definitions that only private steps are stated with.
 pub mod Written
 pub mod Put
+pub mod Count
 pub mod Left
 pub mod Writing
 pub mod Kept
 pub mod Serving
 pub mod Replay
+pub mod Playing
 pub mod Sheets
 pub mod Clients
 pub mod Settings

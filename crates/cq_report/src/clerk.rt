@@ -1,6 +1,6 @@
 //! What answers the commands of a script.
 
-ghost use Rattle.std.specs.Prelude.{◌≡◌, ◌<◌, ◌^◌, OnOk};
+ghost use Rattle.std.specs.Prelude.{◌≡◌, ◌<◌, ◌^◌, OnOk, IfOk};
 ghost use Rattle.cq_desk.specs.declared.event.Event.TheVariants.{Enter};
 ghost use Rattle.cq_report.specs.declared.stage.Stage.TheVariants.{Serving};
 ghost use Rattle.cq_report.specs.Reading.{Reads};
@@ -101,6 +101,17 @@ impl<A: Allocator + Copy> Clerk<A> {
             mem::drop(mem::replace(&mut self.stage, Stage::Serving(floor)));
         }
         Ok(())
+    }
+
+    /// The floor, which opens where the setup lasts.
+    pub(crate) fn into_floor(self) -> Result<BoardFloor<A>, AllocError>
+        ensures { IfOk result (λ floor. floor ≡ serving_of self) }
+    {
+        let Clerk { alloc, stage } = self;
+        match stage {
+            Stage::Setup(setup) => open(alloc, setup),
+            Stage::Serving(floor) => Ok(floor),
+        }
     }
 
     /// Answers an event of the session.

@@ -3,7 +3,7 @@
 //! The room above uses `run`: what it writes is `specs/Output` of what it reads. `specs/Lines` cuts
 //! a script into lines, `specs/Reading` says what a line is read as, `specs/Machine` what it does and
 //! is answered with, and `specs/Reply` and `specs/Report` how that reads. `report` gives the report on
-//! one board as a text, by the same lines.
+//! one board as a text, by the same lines. `read_script` serves a script unheard and gives the board that it leaves.
 //!
 //! Not here: which texts stand for what, and what a post does to a pool; a program's arguments, its
 //! exit status and its messages.
@@ -17,18 +17,23 @@ mod limits;
 mod line;
 mod listing;
 mod machine;
+mod numbering;
 mod output;
 mod page;
+mod playing;
 mod reply;
 mod reporting;
 mod running;
 mod sessions;
 mod setup;
 mod stage;
+mod unheard;
 mod whole;
 
 pub use fault::RunFault;
 pub use limits::{JOURNAL_LIMIT, POOL_LIMIT};
+pub use numbering::Numbering;
+pub use playing::{Played, read_script};
 pub use reporting::report;
 pub use running::run;
 pub use sessions::{run_sessions, run_sessions_past};

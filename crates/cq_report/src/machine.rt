@@ -1,25 +1,39 @@
 //! The machine of a script, line by line.
 
-ghost use Rattle.std.specs.Prelude.{◌≡◌, ◌<◌, ◌^◌, [], Some, OnOk, IfErr};
+ghost use Rattle.std.specs.Prelude.{◌≡◌, ◌<◌, ◌≤◌, ◌+◌, ◌^◌, ℕ, List, [], Some, OnOk, IfOk, IfErr};
 ghost use Rattle.cq_report.specs.Reading.{Reading, Reads, IsReading};
-ghost use Rattle.cq_report.specs.Machine.{begin_state, form_in, next, reply};
+ghost use Rattle.cq_report.specs.Machine.{begin_state, no_lines, numbered, form_in, served, counted, unnumbered, next, reply, serving_of};
 ghost use Rattle.cq_report.specs.Run.{IfMemory};
 ghost use Rattle.cq_report.specs.Steps.Written.{Puts, Breaks, Fails};
-ghost use Rattle.cq_report.specs.Steps.Put.{Put};
+ghost use Rattle.cq_report.specs.Steps.Put.{Put, led};
+ghost use Rattle.cq_report.specs.Steps.Count.{lines_before};
 
 use crate::clerk::Clerk;
 use crate::fault::RunFault;
+use crate::happening::BoardFloor;
 use crate::heading::{form_of, headed};
+use crate::numbering::Numbering;
 use crate::output::{Output, put_reply};
 use crate::reply::fault_line;
 use cq_text::{Command, Form, Sink, TextFault, read_command};
-use std::alloc::Allocator;
+use std::alloc::{AllocError, Allocator};
 use std::marker::Model;
 
-/// What serves the next line: the form that is settled, if any, and what answers commands. Contracts see the state.
+/// How many lines came before the first, where they are counted.
+fn no_lines(numbering: Numbering) -> Option<u64>
+    ensures { result ≡ no_lines numbering }
+{
+    match numbering {
+        Numbering::Plain => None,
+        Numbering::Numbered => Some(0),
+    }
+}
+
+/// What serves the next line: how many lines came before, where replies are numbered, the form that is settled, if any, and what answers commands. Contracts see the state.
 #[derive(Drop)]
 pub(crate) struct Machine<A: Allocator + Copy> {
     alloc: A,
+    lines: Option<u64>,
     heading: Option<Form>,
     clerk: Clerk<A>,
 }
@@ -29,18 +43,42 @@ impl<A: Allocator + Copy> Model for Machine<A> {
 
     ghost Value = { State };
 
-    ghost view = { λ m. record { heading = m.heading; stage = m.clerk } };
+    ghost view = { λ m. record { lines = m.lines; heading = m.heading; stage = m.clerk } };
 }
 
 impl<A: Allocator + Copy> Machine<A> {
     /// Nothing has happened yet.
-    pub(crate) fn begin(alloc: A) -> Self
-        ensures { result ≡ begin_state }
+    pub(crate) fn begin(alloc: A, numbering: Numbering) -> Self
+        ensures state { result ≡ begin_state numbering }
+        ensures lines { lines_before result ≡ 0 }
     {
         Machine {
             alloc,
+            lines: no_lines(numbering),
             heading: None,
             clerk: Clerk::begin(alloc),
+        }
+    }
+
+    /// What stands before the next reply: the number of its line, where replies are numbered.
+    fn lead(&self) -> Result<Option<String<A>>, AllocError>
+        requires { lines_before self.now < 2 ^ 62 }
+        ensures { IfOk result (λ lead. (told : List ℕ) → led lead told ≡ numbered self.now.lines told) }
+    {
+        let Some(before) = self.lines else {
+            return Ok(None);
+        };
+        let number = before + 1;
+        Ok(Some(format!(in self.alloc; "{number}: ")?))
+    }
+
+    /// One line more came.
+    fn count(&mut self)
+        requires { lines_before self.old < 2 ^ 62 }
+        ensures { self.new ≡ counted self.old }
+    {
+        if let Some(before) = self.lines {
+            self.lines = Some(before + 1);
         }
     }
 
@@ -65,28 +103,24 @@ impl<A: Allocator + Copy> Machine<A> {
         output: &mut Output<'_, W, A>,
     ) -> Result<(), RunFault>
         requires { W.write_failures output.old.sink.now < 2 ^ 62 }
-        ensures state { OnOk result (self.new ≡ next self.old (Reads command)) }
-        ensures put { Put W.taken W.write_failures output.old output.new (reply self.old (Reads command)) result }
+        ensures state { OnOk result (self.new ≡ served self.old (Reads command)) }
+        ensures put { Put W.taken W.write_failures output.old output.new (unnumbered self.old (Reads command)) result }
     {
         let heading = self.heading;
         self.heading = headed(heading, &command);
         self.clerk.serve(heading, command, output)
     }
 
-    /// Reads a line, and puts the reply to it.
-    ///
-    /// # Errors
-    /// `Write` where the writer failed, and a front of the reply may be put then; `NoMemory` where a growth was
-    /// refused, and nothing is put then. The machine is of no use any more.
-    pub(crate) fn answer<W: Sink>(
+    /// Reads a line, and puts the reply to it, behind what stands before it.
+    fn serve_line<W: Sink>(
         &mut self,
         line: &[u8],
         output: &mut Output<'_, W, A>,
     ) -> Result<(), RunFault>
         requires { W.write_failures output.old.sink.now < 2 ^ 62 }
         ensures read { OnOk result ((reading : Reading) × IsReading (form_in self.old) line.now reading) }
-        ensures ok { OnOk result ((reading : Reading) → IsReading (form_in self.old) line.now reading → (self.new ≡ next self.old reading) × Puts W.taken W.write_failures output.old output.new (reply self.old reading)) }
-        ensures err { IfErr result (λ fault. (reading : Reading) → IsReading (form_in self.old) line.now reading → Breaks W.taken W.write_failures output.old output.new (reply self.old reading) fault) }
+        ensures ok { OnOk result ((reading : Reading) → IsReading (form_in self.old) line.now reading → (self.new ≡ served self.old reading) × Puts W.taken W.write_failures output.old output.new (led output.old.lead.now (unnumbered self.old reading))) }
+        ensures err { IfErr result (λ fault. (reading : Reading) → IsReading (form_in self.old) line.now reading → Breaks W.taken W.write_failures output.old output.new (led output.old.lead.now (unnumbered self.old reading)) fault) }
         ensures fails { IfErr result (λ fault. Fails W.write_failures output.old output.new fault) }
         ensures nothing { IfErr result (λ fault. IfMemory fault (Puts W.taken W.write_failures output.old output.new [])) }
     {
@@ -99,5 +133,37 @@ impl<A: Allocator + Copy> Machine<A> {
             }
             Err(TextFault::NoMemory) => Err(RunFault::NoMemory),
         }
+    }
+
+    /// Reads a line, and puts the reply to it, behind its number where replies are numbered.
+    ///
+    /// # Errors
+    /// `Write` where the writer failed, and a front of the reply may be put then; `NoMemory` where a growth was
+    /// refused, and nothing is put then. The machine is of no use any more.
+    pub(crate) fn answer<W: Sink>(
+        &mut self,
+        line: &[u8],
+        output: &mut Output<'_, W, A>,
+    ) -> Result<(), RunFault>
+        requires failures { W.write_failures output.old.sink.now < 2 ^ 62 }
+        requires lines { lines_before self.old < 2 ^ 62 }
+        ensures lines { OnOk result (lines_before self.new ≤ lines_before self.old + 1) }
+        ensures read { OnOk result ((reading : Reading) × IsReading (form_in self.old) line.now reading) }
+        ensures ok { OnOk result ((reading : Reading) → IsReading (form_in self.old) line.now reading → (self.new ≡ next self.old reading) × Puts W.taken W.write_failures output.old output.new (reply self.old reading)) }
+        ensures err { IfErr result (λ fault. (reading : Reading) → IsReading (form_in self.old) line.now reading → Breaks W.taken W.write_failures output.old output.new (reply self.old reading) fault) }
+        ensures fails { IfErr result (λ fault. Fails W.write_failures output.old output.new fault) }
+        ensures nothing { IfErr result (λ fault. IfMemory fault (Puts W.taken W.write_failures output.old output.new [])) }
+    {
+        let lead = self.lead()?;
+        output.lead_by(lead);
+        self.count();
+        self.serve_line(line, output)
+    }
+
+    /// The floor, which opens where the setup lasts.
+    pub(crate) fn into_floor(self) -> Result<BoardFloor<A>, AllocError>
+        ensures { IfOk result (λ floor. floor ≡ serving_of self.stage) }
+    {
+        self.clerk.into_floor()
     }
 }

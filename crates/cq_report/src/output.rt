@@ -2,7 +2,7 @@
 
 ghost use Rattle.std.specs.Prelude.{◌≡◌, ◌<◌, ◌+◌, ◌^◌, ℕ, List, ◌++◌, [], string_bytes, OnOk, OnErr, IfOk, IfErr, MatchResult};
 ghost use Rattle.std.specs.Io.KnownBytes.{Appends};
-ghost use Rattle.cq_report.specs.Steps.Put.{Put};
+ghost use Rattle.cq_report.specs.Steps.Put.{Put, lead_bytes};
 ghost use Rattle.cq_report.specs.Steps.Written.{Puts, Breaks};
 
 use crate::fault::RunFault;
@@ -20,17 +20,36 @@ pub(crate) const ROOM: usize = 8192;
 pub(crate) struct Output<'w, W: Sink, A: Allocator> {
     sink: &'w mut W,
     held: &'w mut Vec<u8, A>,
+    lead: &'w mut Option<String<A>>,
 }
 
 impl<'w, W: Sink, A: Allocator> Output<'w, W, A> {
     /// The writer, and nothing that waits. What waits later is put into the room.
-    pub(crate) fn new(sink: &'w mut W, room: &'w mut Vec<u8, A>) -> Output<'w, W, A>
+    pub(crate) fn new(
+        sink: &'w mut W,
+        room: &'w mut Vec<u8, A>,
+        lead: &'w mut Option<String<A>>,
+    ) -> Output<'w, W, A>
         requires { room.old.items ≡ [] }
         ensures writer { result.sink.ghost_name ≡ sink.entry.ghost_name }
         ensures same { result.sink.now ≡ sink.old }
         ensures held { result.held.now.items ≡ [] }
     {
-        Output { sink, held: room }
+        Output {
+            sink,
+            held: room,
+            lead,
+        }
+    }
+
+    /// Sets what is to stand before the next text, if that is not empty.
+    pub(crate) fn lead_by(&mut self, lead: Option<String<A>>)
+        ensures lead { self.new.lead.now ≡ lead }
+        ensures writer { self.new.sink.ghost_name ≡ self.old.sink.ghost_name }
+        ensures sink { self.new.sink.now ≡ self.old.sink.now }
+        ensures held { self.new.held.now ≡ self.old.held.now }
+    {
+        *self.lead = lead;
     }
 
     /// Puts bytes behind what was put before. Its only fault is that of writing.
@@ -51,11 +70,28 @@ impl<'w, W: Sink, A: Allocator> Output<'w, W, A> {
         Ok(())
     }
 
-    /// Puts text behind what was put before. Its only fault is that of writing.
+    /// Puts what stands before the next text. Its only fault is that of writing.
+    fn put_lead(&mut self) -> Result<(), RunFault>
+        requires { W.write_failures self.old.sink.now < 2 ^ 62 }
+        ensures ok { OnOk result (Puts W.taken W.write_failures self.old self.new (lead_bytes self.old.lead.now)) }
+        ensures err { IfErr result (λ fault. Breaks W.taken W.write_failures self.old self.new (lead_bytes self.old.lead.now) fault) }
+        ensures fault { IfErr result (λ fault. fault ≡ RunFault.Write) }
+    {
+        let Some(lead) = self.lead.take() else {
+            return Ok(());
+        };
+        self.put(lead.as_bytes())
+    }
+
+    /// Puts text behind what was put before, and behind what stands before it. Its only fault is that of writing.
     pub(crate) fn put_text(&mut self, text: &str) -> Result<(), RunFault>
         requires { W.write_failures self.old.sink.now < 2 ^ 62 }
         ensures { Put W.taken W.write_failures self.old self.new text.now result }
     {
+        if text.is_empty() {
+            return Ok(());
+        }
+        self.put_lead()?;
         self.put(text.as_bytes())
     }
 

@@ -5,16 +5,17 @@ ghost use Rattle.std.specs.Io.KnownBytes.{Appends};
 ghost use Rattle.cq_report.specs.Lines.{lines_of};
 ghost use Rattle.cq_report.specs.Reading.{Reading};
 ghost use Rattle.cq_report.specs.Output.{AreReadings, output};
-ghost use Rattle.cq_report.specs.Machine.{State, begin_state};
 ghost use Rattle.cq_text.specs.Device.{FailedAtTurn};
 ghost use Rattle.cq_report.specs.Run.{IfRead, IfMemory, IsOfRead, IsOfRun, failures_of, WroteWholeLines, WroteFirstLines, WroteFront};
 ghost use Rattle.cq_report.specs.Steps.Written.{Fails, Puts};
+ghost use Rattle.cq_report.specs.Steps.Count.{lines_before};
 ghost use Rattle.cq_report.specs.Steps.Replay.{Replayed, BrokeOff, Ended, RanOut};
 ghost use Rattle.cq_report.specs.Steps.Serving.{HasNoEnd, ServesOn, StopsOn, StarvesOn, Finishes, IsSound};
 
 use crate::fault::RunFault;
 use crate::line::Line;
 use crate::machine::Machine;
+use crate::numbering::Numbering;
 use crate::output::{Output, ROOM};
 use cq_text::{MAX_PIECE, MAX_READS, Sink, Source};
 use std::alloc::Allocator;
@@ -48,6 +49,8 @@ fn serve_line<W: Sink, A: Allocator + Copy>(
 ) -> Result<(), RunFault>
     requires failures { W.write_failures output.old.sink.now < 2 ^ 62 }
     requires last { HasNoEnd last.now }
+    requires lines { lines_before machine.old < 2 ^ 62 }
+    ensures lines { OnOk result (lines_before machine.new ≤ lines_before machine.old + 1) }
     ensures ok { OnOk result (ServesOn W.taken W.write_failures output.old output.new machine.old machine.new line.old line.new (last.now ++ 10 ∷ [])) }
     ensures sound { OnOk result (IsSound W.write_failures output.old output.new) }
     ensures err { IfErr result (λ fault. (rest : List ℕ) → StopsOn W.taken W.write_failures output.old output.new machine.old line.old (last.now ++ (10 ∷ rest)) fault) }
@@ -71,7 +74,9 @@ fn feed<W: Sink, A: Allocator + Copy>(
     output: &mut Output<'_, W, A>,
     piece: &[u8],
 ) -> Result<(), RunFault>
-    requires { W.write_failures output.old.sink.now < 2 ^ 62 }
+    requires failures { W.write_failures output.old.sink.now < 2 ^ 62 }
+    requires lines { lines_before machine.old + length piece.now < 2 ^ 62 }
+    ensures lines { OnOk result (lines_before machine.new ≤ lines_before machine.old + length piece.now) }
     ensures ok { OnOk result (ServesOn W.taken W.write_failures output.old output.new machine.old machine.new line.old line.new piece.now) }
     ensures sound { OnOk result (IsSound W.write_failures output.old output.new) }
     ensures err { IfErr result (λ fault. StopsOn W.taken W.write_failures output.old output.new machine.old line.old piece.now fault) }
@@ -93,8 +98,9 @@ fn finish<W: Sink, A: Allocator + Copy>(
     line: &Line<A>,
     output: &mut Output<'_, W, A>,
 ) -> Result<(), RunFault>
-    requires { W.write_failures output.old.sink.now < 2 ^ 62 }
-    ensures ok { OnOk result (Finishes W.taken W.write_failures output.old output.new machine.old line.now) }
+    requires lines { lines_before machine.old < 2 ^ 62 }
+    requires failures { W.write_failures output.old.sink.now < 2 ^ 62 }
+    ensures ok { OnOk result (Finishes W.taken W.write_failures output.old output.new machine.old machine.new line.now) }
     ensures held { OnOk result (output.new.held.now.items ≡ []) }
     ensures sound { OnOk result (IsSound W.write_failures output.old output.new) }
     ensures err { IfErr result (λ fault. StopsOn W.taken W.write_failures output.old output.new machine.old line.now [] fault) }
@@ -120,19 +126,19 @@ fn serve_all<A: Allocator + Copy, R: Source, W: Sink>(
     reader: &mut R,
     output: &mut Output<'_, W, A>,
 ) -> Result<(), RunFault>
-    requires machine { machine.old ≡ begin_state }
+    requires lines { lines_before machine.old ≡ 0 }
     requires line { line.old ≡ [] }
     requires piece { length piece.old ≡ MAX_PIECE }
     requires reads { R.reads_made reader.old < 2 ^ 62 }
     requires failures { R.failures_met reader.old < 2 ^ 62 }
     requires write_failures { W.write_failures output.old.sink.now < 2 ^ 62 }
     requires held { output.old.held.now.items ≡ [] }
-    ensures ok { OnOk result (Replayed W.taken W.write_failures (R.left reader.old) (R.left reader.new) output.old output.new) }
-    ensures read { IfErr result (λ fault. IfRead fault (λ turn. BrokeOff W.taken W.write_failures (R.left reader.old) (R.left reader.new) output.old output.new)) }
-    ensures memory { IfErr result (λ fault. IfMemory fault (RanOut W.taken W.write_failures (R.left reader.old) (R.left reader.new) output.old output.new)) }
+    ensures ok { OnOk result (Replayed W.taken W.write_failures machine.old machine.new (R.left reader.old) (R.left reader.new) output.old output.new) }
+    ensures read { IfErr result (λ fault. IfRead fault (λ turn. BrokeOff W.taken W.write_failures machine.old (R.left reader.old) (R.left reader.new) output.old output.new)) }
+    ensures memory { IfErr result (λ fault. IfMemory fault (RanOut W.taken W.write_failures machine.old (R.left reader.old) (R.left reader.new) output.old output.new)) }
     ensures kind { IfErr result IsOfRun }
     ensures turn { IfErr result (λ fault. IfRead fault (λ turn. FailedAtTurn turn (R.reads_made reader.old) (R.reads_made reader.new) (R.failures_met reader.old) (R.failures_met reader.new))) }
-    ensures err { IfErr result (λ fault. Ended W.taken W.write_failures (R.left reader.old) (R.left reader.new) output.old output.new fault) }
+    ensures err { IfErr result (λ fault. Ended W.taken W.write_failures machine.old (R.left reader.old) (R.left reader.new) output.old output.new fault) }
     ensures writer { output.new.sink.ghost_name ≡ output.old.sink.ghost_name }
     ensures write_failures { MatchResult result (λ _. W.write_failures output.new.sink.now ≡ W.write_failures output.old.sink.now) (λ fault. W.write_failures output.new.sink.now ≡ W.write_failures output.old.sink.now + failures_of fault) }
     ensures reads { R.reads_made reader.new ≤ R.reads_made reader.old + MAX_READS }
@@ -155,31 +161,31 @@ fn serve_all<A: Allocator + Copy, R: Source, W: Sink>(
 }
 
 /// Serves all that is read, from the first line on. Where memory is wanting in the end, what waits is passed on all the same.
-fn replay<A: Allocator + Copy, R: Source, W: Sink>(
+pub(crate) fn replay<A: Allocator + Copy, R: Source, W: Sink>(
     alloc: A,
+    machine: &mut Machine<A>,
     reader: &mut R,
     output: &mut Output<'_, W, A>,
 ) -> Result<(), RunFault>
+    requires lines { lines_before machine.old ≡ 0 }
     requires reads { R.reads_made reader.old < 2 ^ 62 }
     requires failures { R.failures_met reader.old < 2 ^ 62 }
     requires write_failures { W.write_failures output.old.sink.now < 2 ^ 62 }
     requires held { output.old.held.now.items ≡ [] }
-    ensures ok { OnOk result (Replayed W.taken W.write_failures (R.left reader.old) (R.left reader.new) output.old output.new) }
-    ensures read { IfErr result (λ fault. IfRead fault (λ turn. BrokeOff W.taken W.write_failures (R.left reader.old) (R.left reader.new) output.old output.new)) }
-    ensures memory { IfErr result (λ fault. IfMemory fault (RanOut W.taken W.write_failures (R.left reader.old) (R.left reader.new) output.old output.new × (output.new.held.now.items ≡ []))) }
+    ensures ok { OnOk result (Replayed W.taken W.write_failures machine.old machine.new (R.left reader.old) (R.left reader.new) output.old output.new) }
+    ensures read { IfErr result (λ fault. IfRead fault (λ turn. BrokeOff W.taken W.write_failures machine.old (R.left reader.old) (R.left reader.new) output.old output.new)) }
+    ensures memory { IfErr result (λ fault. IfMemory fault (RanOut W.taken W.write_failures machine.old (R.left reader.old) (R.left reader.new) output.old output.new × (output.new.held.now.items ≡ []))) }
     ensures kind { IfErr result IsOfRun }
     ensures turn { IfErr result (λ fault. IfRead fault (λ turn. FailedAtTurn turn (R.reads_made reader.old) (R.reads_made reader.new) (R.failures_met reader.old) (R.failures_met reader.new))) }
-    ensures err { IfErr result (λ fault. Ended W.taken W.write_failures (R.left reader.old) (R.left reader.new) output.old output.new fault) }
+    ensures err { IfErr result (λ fault. Ended W.taken W.write_failures machine.old (R.left reader.old) (R.left reader.new) output.old output.new fault) }
     ensures writer { output.new.sink.ghost_name ≡ output.old.sink.ghost_name }
     ensures write_failures { MatchResult result (λ _. W.write_failures output.new.sink.now ≡ W.write_failures output.old.sink.now) (λ fault. W.write_failures output.new.sink.now ≡ W.write_failures output.old.sink.now + failures_of fault) }
     ensures reads { R.reads_made reader.new ≤ R.reads_made reader.old + MAX_READS }
     ensures read_failures { MatchResult result (λ _. R.failures_met reader.new ≡ R.failures_met reader.old) (λ fault. (IsOfRead fault → ⊥) → R.failures_met reader.new ≡ R.failures_met reader.old) }
 {
-    let mut machine = Machine::begin(alloc);
     let mut line = Line::new(alloc);
     let mut piece = [0u8; MAX_PIECE];
-    let served = serve_all(&mut machine, &mut line, &mut piece, reader, output);
-    mem::drop(machine);
+    let served = serve_all(machine, &mut line, &mut piece, reader, output);
     mem::drop(line);
     if let Err(RunFault::NoMemory) = served {
         output.write_out()?;
@@ -191,7 +197,8 @@ fn replay<A: Allocator + Copy, R: Source, W: Sink>(
 ///
 /// The bytes are cut into lines at LF. Each line has its reply before the next read; a last line
 /// without LF has its reply at the end, and then the writer is flushed once. Reads are of up to
-/// 4,096 bytes, and there are at most 1,048,576 of them.
+/// 4,096 bytes, and there are at most 1,048,576 of them. Where replies are numbered, the number of the line, from 1, and `: `
+/// stand before each reply that is not empty, once, also where it has several lines; blank lines and comments count.
 ///
 /// # Errors
 ///
@@ -201,6 +208,7 @@ fn replay<A: Allocator + Copy, R: Source, W: Sink>(
 /// that a fault cut off have no reply.
 pub fn run<A: Allocator + Copy, R: Source, W: Sink>(
     alloc: A,
+    numbering: Numbering,
     reader: &mut R,
     writer: &mut W,
 ) -> Result<(), RunFault>
@@ -209,16 +217,16 @@ pub fn run<A: Allocator + Copy, R: Source, W: Sink>(
     requires write_failures { W.write_failures writer.old < 2 ^ 62 }
 
     // Where all went well, the output of the lines was written, however they are read.
-    ensures output { OnOk result (IfSome (R.left reader.old) (λ input. (readings : List Reading) → AreReadings (lines_of input) readings → Appends (W.taken writer.old) (W.taken writer.new) (output readings))) }
+    ensures output { OnOk result (IfSome (R.left reader.old) (λ input. (readings : List Reading) → AreReadings (lines_of input) readings → Appends (W.taken writer.old) (W.taken writer.new) (output numbering readings))) }
 
     // And they can be read.
     ensures readings { OnOk result (IfSome (R.left reader.old) (λ input. (readings : List Reading) × AreReadings (lines_of input) readings)) }
 
     // After a fault of reading the output of the whole lines was written; where memory was wanting, that of the first lines, down to
     // somewhere in the last piece that was read; after any fault no more than a front of the output of what was read.
-    ensures whole_lines { IfErr result (λ fault. IfRead fault (λ turn. WroteWholeLines (R.left reader.old) (R.left reader.new) (W.taken writer.old) (W.taken writer.new))) }
-    ensures first_lines { IfErr result (λ fault. IfMemory fault (WroteFirstLines (R.left reader.old) (R.left reader.new) (W.taken writer.old) (W.taken writer.new))) }
-    ensures front { IfErr result (λ fault. WroteFront (R.left reader.old) (R.left reader.new) (W.taken writer.old) (W.taken writer.new)) }
+    ensures whole_lines { IfErr result (λ fault. IfRead fault (λ turn. WroteWholeLines numbering (R.left reader.old) (R.left reader.new) (W.taken writer.old) (W.taken writer.new))) }
+    ensures first_lines { IfErr result (λ fault. IfMemory fault (WroteFirstLines numbering (R.left reader.old) (R.left reader.new) (W.taken writer.old) (W.taken writer.new))) }
+    ensures front { IfErr result (λ fault. WroteFront numbering (R.left reader.old) (R.left reader.new) (W.taken writer.old) (W.taken writer.new)) }
 
     // Whose fault it was.
     ensures kind { IfErr result IsOfRun }
@@ -228,6 +236,10 @@ pub fn run<A: Allocator + Copy, R: Source, W: Sink>(
     ensures write_failures { MatchResult result (λ _. W.write_failures writer.new ≡ W.write_failures writer.old) (λ fault. W.write_failures writer.new ≡ W.write_failures writer.old + failures_of fault) }
 {
     let mut room = Vec::with_capacity(alloc, ROOM)?;
-    let mut output = Output::new(writer, &mut room);
-    replay(alloc, reader, &mut output)
+    let mut lead = None;
+    let mut output = Output::new(writer, &mut room, &mut lead);
+    let mut machine = Machine::begin(alloc, numbering);
+    let ended = replay(alloc, &mut machine, reader, &mut output);
+    mem::drop(machine);
+    ended
 }

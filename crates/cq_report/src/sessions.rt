@@ -9,7 +9,7 @@ ghost use Rattle.cq_report.specs.Run.{IsOfSessions, failures_of};
 ghost use Rattle.cq_report.specs.Script.{form_line, declaration_line, limits_line, replies_from, sheets_from};
 ghost use Rattle.cq_report.specs.Sessions.{FilesServed, Ran, IfWritten, Wrote, WroteFrontOf, pool_of};
 ghost use Rattle.cq_report.specs.Steps.Sheets.{IsEven};
-ghost use Rattle.cq_report.specs.Steps.Clients.{IsOpened, opened_pool};
+ghost use Rattle.cq_report.specs.Steps.Clients.{IsOpened, TakesEdits, opened_pool};
 ghost use Rattle.cq_report.specs.Steps.Rooms.{AreDone, FirstServes, AllServed, PutEntries, RoomServed};
 
 mod client;
@@ -23,7 +23,7 @@ mod threads;
 
 use crate::fault::RunFault;
 use crate::heading::form_of;
-use crate::sessions::client::{BoardClient, BoardRoom, BoardSession, Client, Hall};
+use crate::sessions::client::{BoardClient, Client, Hall};
 use crate::sessions::fault::ServeFault;
 use crate::sessions::script::{put_entries, put_replies, put_setup, put_sheets};
 use crate::sessions::seat::{Done, Seat};
@@ -32,17 +32,21 @@ use crate::sessions::setting::{Setting, read_setting};
 use crate::sessions::sheet::Sheet;
 use crate::sessions::threads::run_all;
 use crate::setup::Setup;
-use cq_board::Board;
-use cq_room::{Gate, OpenGate, Parts, Room, RoomName};
+use cq_board::{Board, Edit, Why};
+use cq_desk::Live;
+use cq_room::{Gate, OpenGate, Parts, Room, RoomName, Session, Watched};
 use cq_text::{Form, Sink, write_all};
-use std::alloc::{AllocError, Global};
+use std::alloc::{AllocError, Allocator};
 use std::marker::Brand;
 use std::mem;
 use std::sync::Wait;
 use std::thread::Threads;
 
 /// The first of the faults that ended threads. A thread that was not started left nothing.
-fn first_fault<C>(count: usize, lefts: &[Result<Done<C>, ServeFault>]) -> Option<ServeFault>
+fn first_fault<C, A: Allocator>(
+    count: usize,
+    lefts: &[Result<Done<C, A>, ServeFault>],
+) -> Option<ServeFault>
     ensures { IfNone result (count ≤ length lefts.now) }
 {
     let mut first = if lefts.len() < count {
@@ -60,16 +64,16 @@ fn first_fault<C>(count: usize, lefts: &[Result<Done<C>, ServeFault>]) -> Option
 
 /// What served the files, and what came of it, each in the files' order.
 #[derive(Drop)]
-struct Served<C> {
-    clients: Vec<C>,
-    sheets: Vec<Sheet<Global>>,
+struct Served<C, A: Allocator> {
+    clients: Vec<C, A>,
+    sheets: Vec<Sheet<A>, A>,
 }
 
 /// Takes apart what the threads left.
-fn take_apart<C: Drop>(
-    alloc: Global,
-    lefts: Vec<Result<Done<C>, ServeFault>>,
-) -> Result<Served<C>, ServeFault>
+fn take_apart<C: Drop, A: Allocator + Copy>(
+    alloc: A,
+    lefts: Vec<Result<Done<C, A>, ServeFault>, A>,
+) -> Result<Served<C, A>, ServeFault>
     ensures { IfOk result (λ served. AreDone lefts.items served.clients.items served.sheets.items) }
 {
     let mut clients = Vec::new(alloc);
@@ -83,13 +87,13 @@ fn take_apart<C: Drop>(
 }
 
 /// A seat for each file.
-fn seats<'a, C: Client, G: Gate>(
-    alloc: Global,
+fn seats<'a, C: Client<A>, G: Gate, A: Allocator + Copy>(
+    alloc: A,
     form: Form,
-    clients: Vec<C>,
-    files: &'a [Vec<u8>],
+    clients: Vec<C, A>,
+    files: &'a [Vec<u8, A>],
     gate: &'a G,
-) -> Result<Vec<Seat<'a, C, G>>, AllocError>
+) -> Result<Vec<Seat<'a, C, G, A>, A>, AllocError>
     requires { length clients.items ≡ length files.now }
     ensures clients { IfOk result (λ seats. map (λ seat. seat.client) seats.items ≡ clients.items) }
     ensures forms { IfOk result (λ seats. map (λ seat. seat.form) seats.items ≡ map (λ _. form) clients.items) }
@@ -111,14 +115,19 @@ fn seats<'a, C: Client, G: Gate>(
 }
 
 /// Serves each file by a thread of its own.
-fn serve_files<T: Threads + Wait + Sync, C: Client + Send, G: Gate>(
+fn serve_files<
+    T: Threads + Wait + Sync,
+    C: Client<A> + Send,
+    G: Gate,
+    A: Allocator + Copy + Send + Sync,
+>(
     rt: &T,
-    alloc: Global,
+    alloc: A,
     form: Form,
-    clients: Vec<C>,
-    files: &[Vec<u8>],
+    clients: Vec<C, A>,
+    files: &[Vec<u8, A>],
     gate: &G,
-) -> Result<Served<C>, ServeFault>
+) -> Result<Served<C, A>, ServeFault>
     requires { length clients.items ≡ length files.now }
     ensures { IfOk result (λ served. FilesServed form C.opening C.limit (map C.known clients.items) (map (λ file. file.items) files.now) (map (λ sheet. sheet.replies) served.sheets.items) (map C.known served.clients.items)) }
 {
@@ -131,11 +140,11 @@ fn serve_files<T: Threads + Wait + Sync, C: Client + Send, G: Gate>(
 }
 
 /// Serves what stands behind SETUP's setup, by the first of the clients.
-fn serve_setup<C: Client>(
-    alloc: Global,
+fn serve_setup<C: Client<A>, A: Allocator + Copy>(
+    alloc: A,
     form: Form,
-    clients: &mut Vec<C>,
-    sheet: &mut Sheet<Global>,
+    clients: &mut Vec<C, A>,
+    sheet: &mut Sheet<A>,
     rest: &[u8],
 ) -> Result<(), ServeFault>
     requires even { IsEven sheet.old }
@@ -150,16 +159,21 @@ fn serve_setup<C: Client>(
 }
 
 /// Serves SETUP's rest by the first client, and then each file by a thread of its own.
-fn serve_all<T: Threads + Wait + Sync, C: Client + Send, G: Gate>(
+fn serve_all<
+    T: Threads + Wait + Sync,
+    C: Client<A> + Send,
+    G: Gate,
+    A: Allocator + Copy + Send + Sync,
+>(
     rt: &T,
-    alloc: Global,
+    alloc: A,
     form: Form,
-    clients: Vec<C>,
-    sheet: &mut Sheet<Global>,
+    clients: Vec<C, A>,
+    sheet: &mut Sheet<A>,
     rest: &[u8],
-    files: &[Vec<u8>],
+    files: &[Vec<u8, A>],
     gate: &G,
-) -> Result<Served<C>, ServeFault>
+) -> Result<Served<C, A>, ServeFault>
     requires even { IsEven sheet.old }
     requires asked { sheet.old.asked ≡ [] }
     requires files { 0 < length files.now }
@@ -172,12 +186,19 @@ fn serve_all<T: Threads + Wait + Sync, C: Client + Send, G: Gate>(
 }
 
 /// A client for each session.
-fn clients<'a, N: RoomName<Board>, R: Wait + Drop>(
-    alloc: Global,
-    hall: &'a Hall<'a, N, R>,
-    sessions: Vec<BoardSession<N>>,
-) -> Result<Vec<BoardClient<'a, N, R>>, AllocError>
-    requires { IsOpened N.opening }
+fn clients<
+    'a,
+    L: Live<Edit = Edit<A>, Why = Why, Content = Board>,
+    N: RoomName<L::Content>,
+    R: Wait + Drop,
+    A: Allocator + Copy,
+>(
+    alloc: A,
+    hall: &'a Hall<'a, L, N, R, A>,
+    sessions: Vec<Session<L, N, A>, A>,
+) -> Result<Vec<BoardClient<'a, L, N, R, A>, A>, AllocError>
+    requires opened { IsOpened N.opening }
+    requires takes { TakesEdits L.after L.why }
     ensures { IfOk result (λ clients. clients.items ≡ map (λ session. edits_of session.history) sessions.items) }
 {
     let mut clients = Vec::new(alloc);
@@ -188,10 +209,15 @@ fn clients<'a, N: RoomName<Board>, R: Wait + Drop>(
 }
 
 /// The session of each client.
-fn sessions_of<N: RoomName<Board>, R: Wait + Drop>(
-    alloc: Global,
-    clients: Vec<BoardClient<'_, N, R>>,
-) -> Result<Vec<BoardSession<N>>, AllocError>
+fn sessions_of<
+    L: Live<Edit = Edit<A>, Why = Why, Content = Board>,
+    N: RoomName<L::Content>,
+    R: Wait + Drop,
+    A: Allocator + Copy,
+>(
+    alloc: A,
+    clients: Vec<BoardClient<'_, L, N, R, A>, A>,
+) -> Result<Vec<Session<L, N, A>, A>, AllocError>
     ensures { IfOk result (λ sessions. map (λ session. edits_of session.history) sessions.items ≡ clients.entry.items) }
 {
     let mut sessions = Vec::new(alloc);
@@ -203,22 +229,25 @@ fn sessions_of<N: RoomName<Board>, R: Wait + Drop>(
 
 /// Serves SETUP's rest and the files in a room, by its sessions.
 fn serve_in<
-    T: Threads + Wait + Sync,
-    N: RoomName<Board> + Send + Sync,
+    L: Live<Edit = Edit<A>, Why = Why, Content = Board> + Send + Sync,
+    N: RoomName<L::Content> + Send + Sync,
     R: Wait + Drop + Send + Sync,
+    A: Allocator + Copy + Send + Sync,
+    T: Threads + Wait + Sync,
     G: Gate,
 >(
     rt: &T,
-    alloc: Global,
+    alloc: A,
     form: Form,
-    hall: &Hall<'_, N, R>,
-    sessions: Vec<BoardSession<N>>,
-    sheet: &mut Sheet<Global>,
+    hall: &Hall<'_, L, N, R, A>,
+    sessions: Vec<Session<L, N, A>, A>,
+    sheet: &mut Sheet<A>,
     rest: &[u8],
-    files: &[Vec<u8>],
+    files: &[Vec<u8, A>],
     gate: &G,
-) -> Result<Served<BoardSession<N>>, ServeFault>
+) -> Result<Served<Session<L, N, A>, A>, ServeFault>
     requires opened { IsOpened N.opening }
+    requires takes { TakesEdits L.after L.why }
     requires even { IsEven sheet.old }
     requires asked { sheet.old.asked ≡ [] }
     requires files { 0 < length files.now }
@@ -233,14 +262,16 @@ fn serve_in<
     })
 }
 
-/// Closes the room, and puts its entries.
-fn close<N: RoomName<Board>, R: Wait + Drop>(
-    rt: &R,
-    alloc: Global,
-    room: BoardRoom<N, R>,
-    sessions: Vec<BoardSession<N>>,
-    page: &mut String,
+/// Closes the room, and puts its entries. The state is a parameter for the reason that `submit_in` has one.
+fn close<A: Allocator + Copy, L: Live<Edit = Edit<A>>, N: RoomName<L::Content>, P: Watched<L, N>>(
+    rt: &P::Leave,
+    alloc: A,
+    room: Room<L, N, P, A>,
+    sessions: Vec<Session<L, N, A>, A>,
+    page: &mut String<A>,
 ) -> Result<(), AllocError>
+where
+    P::Leave: Wait,
     ensures { OnOk result (PutEntries (map (λ session. edits_of session.history) sessions.items) (string_bytes page.old) (string_bytes page.new)) }
 {
     let desk = room.close(rt, sessions);
@@ -250,11 +281,11 @@ fn close<N: RoomName<Board>, R: Wait + Drop>(
 }
 
 /// Puts what stands behind the entries: a publish and a look, and all replies.
-fn put_behind(
-    alloc: Global,
-    setup: &Sheet<Global>,
-    sheets: &[Sheet<Global>],
-    page: &mut String,
+fn put_behind<A: Allocator + Copy>(
+    alloc: A,
+    setup: &Sheet<A>,
+    sheets: &[Sheet<A>],
+    page: &mut String<A>,
 ) -> Result<(), AllocError>
     ensures { OnOk result (string_bytes page.new ≡ string_bytes page.old ++ (codes "publish\nshow\n" ++ replies_from (codes "setup") 1 setup.now.replies ++ sheets_from 0 (map (λ sheet. sheet.replies) sheets.now))) }
 {
@@ -269,17 +300,18 @@ fn serve_room<
     N: RoomName<Board> + Send + Sync,
     R: Wait + Drop + Send + Sync,
     G: Gate,
+    A: Allocator + Copy + Send + Sync,
 >(
     threads: &T,
     rt: &R,
-    alloc: Global,
+    alloc: A,
     form: Form,
-    parts: Parts<Board, R>,
-    sheet: &mut Sheet<Global>,
+    parts: Parts<Board<A>, R, A>,
+    sheet: &mut Sheet<A>,
     rest: &[u8],
-    files: &[Vec<u8>],
+    files: &[Vec<u8, A>],
     gate: &G,
-    page: &mut String,
+    page: &mut String<A>,
 ) -> Result<(), ServeFault>
     requires book { parts.book ≡ N.book }
     requires opening { N.opening ≡ parts.opening ∷ [] }
@@ -304,14 +336,14 @@ fn serve_room<
 }
 
 /// The parts of a room over the setup's board, with a session for each file; what sets the board up is put.
-fn begin<R: Wait + Drop>(
+fn begin<R: Wait + Drop, A: Allocator + Copy>(
     rt: R,
-    alloc: Global,
+    alloc: A,
     form: Form,
-    setup: Setup<Global>,
+    setup: Setup<A>,
     files: usize,
-    page: &mut String,
-) -> Result<Parts<Board, R>, ServeFault>
+    page: &mut String<A>,
+) -> Result<Parts<Board<A>, R, A>, ServeFault>
     ensures opening { IfOk result (λ parts. parts.opening ≡ pool_of setup) }
     ensures limit { IfOk result (λ parts. parts.limit ≡ setup.limits.journal) }
     ensures sessions { IfOk result (λ parts. parts.sessions ≡ files) }
@@ -327,13 +359,13 @@ fn begin<R: Wait + Drop>(
 }
 
 /// The script that SETUP and the files leave.
-fn script_of<T: Threads + Wait + Sync, G: Gate>(
+fn script_of<T: Threads + Wait + Sync, G: Gate, A: Allocator + Copy + Send + Sync>(
     rt: &T,
-    alloc: Global,
+    alloc: A,
     setup: &[u8],
-    files: &[Vec<u8>],
+    files: &[Vec<u8, A>],
     gate: &G,
-) -> Result<String, ServeFault>
+) -> Result<String<A>, ServeFault>
     requires { 0 < length files.now }
     ensures { IfOk result (λ text. Ran setup.now (map (λ file. file.items) files.now) (string_bytes text)) }
 {
@@ -346,7 +378,7 @@ fn script_of<T: Threads + Wait + Sync, G: Gate>(
     let form = form_of(heading);
     let mut page = String::new(alloc);
     let parts = begin(rt, alloc, form, setup, files.len(), &mut page)?;
-    serve_room::<T, Brand, &T, G>(
+    serve_room::<T, Brand, &T, G, A>(
         rt, &rt, alloc, form, parts, &mut sheet, rest, files, gate, &mut page,
     )?;
     Ok(page)
@@ -384,11 +416,16 @@ fn write_out<W: Sink>(writer: &mut W, text: &str) -> Result<(), RunFault>
 /// `Places` where a session got no place or a look was refused, which never happens; `Thread` where a thread was not started: those that
 /// were are joined; `NoMemory` where a growth was refused. Of these the first in this order is answered, and nothing is written. `Write`
 /// where the writer failed: a front of the script is written then.
-pub fn run_sessions_past<T: Threads + Wait + Sync, W: Sink, G: Gate>(
+pub fn run_sessions_past<
+    T: Threads + Wait + Sync,
+    W: Sink,
+    G: Gate,
+    A: Allocator + Copy + Send + Sync,
+>(
     rt: &T,
-    alloc: Global,
+    alloc: A,
     setup: &[u8],
-    files: &[Vec<u8>],
+    files: &[Vec<u8, A>],
     writer: &mut W,
     gate: &G,
 ) -> Result<(), RunFault>
@@ -411,11 +448,11 @@ pub fn run_sessions_past<T: Threads + Wait + Sync, W: Sink, G: Gate>(
 ///
 /// # Errors
 /// As those of `run_sessions_past`.
-pub fn run_sessions<T: Threads + Wait + Sync, W: Sink>(
+pub fn run_sessions<T: Threads + Wait + Sync, W: Sink, A: Allocator + Copy + Send + Sync>(
     rt: &T,
-    alloc: Global,
+    alloc: A,
     setup: &[u8],
-    files: &[Vec<u8>],
+    files: &[Vec<u8, A>],
     writer: &mut W,
 ) -> Result<(), RunFault>
     requires files { (0 < length files.now) × (length files.now ≤ 16) }

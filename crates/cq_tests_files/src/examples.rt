@@ -2,9 +2,13 @@
 
 use crate::devices::Holding;
 use crate::served::{copies, told};
+use cq_budget::Budget;
 use cq_report::{RunFault, run_sessions};
 use cq_text::Counted;
+use std::alloc::Global;
+use std::sync::Wait;
 use std::test::Fail;
+use std::thread::Threads;
 
 const FLIGHTS: &[u8] = b"relation Flights 2\ninsert Flights(122, Paris)\n";
 
@@ -138,4 +142,38 @@ fn a_flush_fails(rt: HostRuntime) -> Result<(), Fail> {
     assert!(rt; ended == Err(RunFault::Write));
     assert!(rt; writer.into_inner().taken == TRAVELLED.len());
     Ok(())
+}
+
+/// More bytes than the run needs.
+const ENOUGH: usize = 4_000_000;
+
+/// How the run ends within so many bytes, how many bytes of the script are lacking then, and how many bytes did not come back.
+fn told_within<T: Threads + Wait + Sync>(
+    rt: &T,
+    alloc: Global,
+    bytes: usize,
+) -> (Result<(), RunFault>, usize, usize) {
+    let heap = Budget::new(alloc, bytes);
+    let (ended, lacking) = match copies(&heap, &[TRAVEL]) {
+        Ok(files) => told(rt, &heap, FLIGHTS, &files, TRAVELLED),
+        Err(_) => (Err(RunFault::NoMemory), TRAVELLED.len()),
+    };
+    (ended, lacking, heap.out())
+}
+
+// Each time there are some bytes more, until the run succeeds. The file is served in a thread, so growths are refused in it too.
+#[test]
+fn a_budget_refuses_growths(rt: HostRuntime) {
+    for bytes in (0..ENOUGH).step_by(40) {
+        let ended = told_within(&rt, rt.alloc(), bytes);
+        if ended == (Ok(()), 0, 0) {
+            assert!(rt; bytes > TRAVELLED.len());
+            return;
+        }
+        assert!(rt;
+            ended == (Err(RunFault::NoMemory), TRAVELLED.len(), 0),
+            "{bytes}"
+        );
+    }
+    assert!(rt; false);
 }

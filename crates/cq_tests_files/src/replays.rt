@@ -3,7 +3,7 @@
 use crate::asked::{FILES, LINES, files};
 use crate::judged::{Finding, entries_of, judge};
 use crate::served::written;
-use cq_report::run;
+use cq_report::{Numbering, run};
 use cq_text::Counted;
 use std::alloc::{AllocError, Global};
 use std::sync::Wait;
@@ -28,7 +28,7 @@ fn answers_of(alloc: Global, entries: usize) -> Result<String, AllocError> {
 fn replayed(alloc: Global, script: &str) -> Option<Vec<u8>> {
     let mut reader = Counted::new(script.as_bytes());
     let mut writer = Counted::new(Vec::new(alloc));
-    run(alloc, &mut reader, &mut writer).ok()?;
+    run(alloc, Numbering::Plain, &mut reader, &mut writer).ok()?;
     Some(writer.into_inner())
 }
 

@@ -17,7 +17,10 @@ pub fn copy<A: Allocator>(alloc: A, bytes: &[u8]) -> Result<Vec<u8, A>, AllocErr
 }
 
 /// The files, each in a list of its own.
-pub fn copies(alloc: Global, files: &[&[u8]]) -> Result<Vec<Vec<u8>>, AllocError>
+pub fn copies<A: Allocator + Copy>(
+    alloc: A,
+    files: &[&[u8]],
+) -> Result<Vec<Vec<u8, A>, A>, AllocError>
     ensures { IfOk result (λ copies. length copies.items ≡ length files.now) }
 {
     let mut copies = Vec::new(alloc);
@@ -28,11 +31,11 @@ pub fn copies(alloc: Global, files: &[&[u8]]) -> Result<Vec<Vec<u8>>, AllocError
 }
 
 /// How the run ends over a writer that takes the expected bytes and no others, and how many bytes it lacked.
-pub fn told<T: Threads + Wait + Sync>(
+pub fn told<T: Threads + Wait + Sync, A: Allocator + Copy + Send + Sync>(
     rt: &T,
-    alloc: Global,
+    alloc: A,
     setup: &[u8],
-    files: &[Vec<u8>],
+    files: &[Vec<u8, A>],
     expected: &[u8],
 ) -> (Result<(), RunFault>, usize)
     requires { (0 < length files.now) × (length files.now ≤ 16) }

@@ -3,7 +3,7 @@
 use crate::devices::Expecting;
 use crate::postings::{order_of, posting_files, replay_in, script_in};
 use crate::served::written;
-use cq_report::run;
+use cq_report::{Numbering, run};
 use cq_text::Counted;
 use std::alloc::Global;
 use std::sync::Wait;
@@ -29,7 +29,7 @@ fn replays_so(alloc: Global, script: &str, answers: &str) -> bool {
     let mut writer = Counted::new(Expecting {
         rest: answers.as_bytes(),
     });
-    let result = run(alloc, &mut reader, &mut writer);
+    let result = run(alloc, Numbering::Plain, &mut reader, &mut writer);
     result == Ok(()) && writer.into_inner().rest.is_empty()
 }
 

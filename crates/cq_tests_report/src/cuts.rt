@@ -3,7 +3,7 @@
 use crate::devices::{Endless, Expecting, Failing, Pieces, Slow};
 use crate::runs::{told, told_of};
 use crate::worked::{LINES, Line, answers, put_answer, script};
-use cq_report::{RunFault, read_whole, run};
+use cq_report::{Numbering, RunFault, read_whole, run};
 use cq_text::Counted;
 use std::alloc::{AllocError, Global};
 use std::io::Read;
@@ -85,7 +85,7 @@ fn told_slowly(
         rest: expected,
         flushes: 0,
     }));
-    let result = run(alloc, &mut reader, &mut writer);
+    let result = run(alloc, Numbering::Plain, &mut reader, &mut writer);
     let device = writer.into_inner();
     (result, device.0.rest.len(), device.0.flushes)
 }

@@ -3,7 +3,7 @@
 use crate::devices::{Expecting, OneLine, Pieces};
 use crate::reports::{post, with_one_row};
 use cq_board::{Board, Edit};
-use cq_report::{RunFault, read_whole, report, run};
+use cq_report::{Numbering, RunFault, read_whole, report, run};
 use cq_tests_growths::{ENOUGH, Outcome, Refusing, Tried, refusals};
 use cq_text::Counted;
 use std::alloc::{Allocator, Global};
@@ -14,8 +14,10 @@ const SCRIPT: &[u8] = b"relation T 1\nlimits 9 9\ninsert T(1)\ninsert T(2)\ndele
 post a {S(2)} S(1) <-\npost b {S(1)} S(2) <- T(x)\npost b {} S(3) <-
 publish\nshow\npost c {} S(3) <-\nwithdraw c\n";
 
-const ANSWERS: &[u8] = b"ok\nok\nok 1\nok 2\nok 3\nok 4\nok 5\nrefused NameTaken
-published 5\nshow 5
+/// The replies, with the numbers of their lines.
+const ANSWERS: &[u8] =
+    b"1: ok\n2: ok\n3: ok 1\n4: ok 2\n5: ok 3\n6: ok 4\n7: ok 5\n8: refused NameTaken
+9: published 5\n10: show 5
 relation T 1 rows 1
 query a matched
   text {S(2)} S(1) <-
@@ -30,10 +32,10 @@ query b matched
   groundings 1 (x)
     (1)
 end
-ok 6\nok 7
+11: ok 6\n12: ok 7
 ";
 
-/// A run of the script.
+/// A run of the script, with numbers, each of which takes memory too.
 struct Running;
 
 /// How the run of the script that is read ends, over a writer that takes the answers alone; and how many bytes it lacked.
@@ -43,7 +45,7 @@ fn told<A: Allocator + Copy, R: Read + Drop>(alloc: A, script: R) -> (Result<(),
         rest: ANSWERS,
         flushes: 0,
     });
-    let result = run(alloc, &mut reader, &mut writer);
+    let result = run(alloc, Numbering::Numbered, &mut reader, &mut writer);
     (result, writer.into_inner().rest.len())
 }
 
@@ -63,7 +65,7 @@ impl Tried for Running {
 // A refused growth ends the run as want of memory, and what was written is a front of the answers.
 #[test]
 fn refused_growth_in_run(rt: HostRuntime) {
-    assert!(rt; matches!(refusals::<Running>(rt.alloc()), Ok(21..)));
+    assert!(rt; matches!(refusals::<Running>(rt.alloc()), Ok(33..)));
 }
 
 /// How many different lengths of answers were written by runs with one growth refused, where each wrote as much as where each line

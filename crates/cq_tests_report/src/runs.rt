@@ -1,7 +1,7 @@
 //! Runs over readers and writers that cut their bytes and fail.
 
 use crate::devices::{CutOff, Expecting, Pieces};
-use cq_report::{JOURNAL_LIMIT, POOL_LIMIT, RunFault, run};
+use cq_report::{JOURNAL_LIMIT, Numbering, POOL_LIMIT, RunFault, run};
 use cq_text::Counted;
 use std::alloc::{AllocError, Global};
 use std::io::Read;
@@ -18,7 +18,7 @@ pub fn told<D: Read + Drop>(
         rest: expected,
         flushes: 0,
     });
-    let result = run(alloc, &mut reader, &mut writer);
+    let result = run(alloc, Numbering::Plain, &mut reader, &mut writer);
     let device = writer.into_inner();
     (result, device.rest.len(), device.flushes)
 }
@@ -31,6 +31,20 @@ pub fn told_of(
     expected: &[u8],
 ) -> (Result<(), RunFault>, usize, u32) {
     told(alloc, Pieces { rest: script, most }, expected)
+}
+
+/// A refused line, a blank one, a setup, a comment and a show.
+const NUMBERED: &[u8] = b"show 1\n\nrelation T 1\n# nothing\nshow\n";
+
+#[test]
+fn numbered_replies(rt: HostRuntime) {
+    let mut reader = Counted::new(NUMBERED);
+    let mut writer = Counted::new(Expecting {
+        rest: b"1: refused Shape at 5\n3: ok\n5: show 0\nrelation T 1 rows 0\nend\n",
+        flushes: 0,
+    });
+    let result = run(rt.alloc(), Numbering::Numbered, &mut reader, &mut writer);
+    assert!(rt; (result, writer.into_inner().rest.len()) == (Ok(()), 0));
 }
 
 #[test]

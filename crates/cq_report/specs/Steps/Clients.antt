@@ -3,7 +3,7 @@ use Rattle.std.specs.Prelude.{◌≡◌, ℕ, List, [], ◌∷◌, ◌++◌, Opt
 use mathlib.Core.List.{IsPrefix}
 use Rattle.cq_board.specs.declared.edit.Why.{Why}
 use Rattle.cq_board.specs.Pool.{PoolRecord, opening_pool}
-use Rattle.cq_board.specs.Edits.{Edit}
+use Rattle.cq_board.specs.Edits.{Edit, why, pool_after}
 use Rattle.cq_desk.specs.History.{edits_of}
 use Rattle.cq_desk.specs.declared.reply.Reply.{Reply}
 use Rattle.cq_room.specs.Sessions.{SessionRecord}
@@ -28,6 +28,10 @@ IsOpened pools = (pool : PoolRecord) × (pools ≡ pool ∷ [])
 abbrev pub opened_pool : List PoolRecord → PoolRecord
 opened_pool [] = opening_pool [] (record { pool = 0; journal = 0 })
 opened_pool (pool ∷ pools) = pool
+
+-- A state takes edits as a board does.
+abbrev pub TakesEdits : (PoolRecord → Edit → PoolRecord) → (PoolRecord → Edit → Option Why) → Type 0
+TakesEdits after reason = (after ≡ pool_after) × (reason ≡ why)
 
 -- What a submit is answered: a reply for each edit, and how many entries are published, which is how many the session knows of then.
 pub record IsSubmission (opening : PoolRecord) (limit : ℕ) (known known' asked : List Edit) (rs : List (Reply Why)) (published : ℕ) : Type 0 where

@@ -1,11 +1,21 @@
 -- Bytes that a step puts, and what is known where a fault came first.
-use Rattle.std.specs.Prelude.{ℕ, List, [], Option, Result, Ok, Err}
+use Rattle.std.specs.Prelude.{ℕ, List, [], ◌∷◌, ◌++◌, Option, None, Some, Result, Ok, Err, String, string_bytes}
 use Rattle.cq_report.specs.declared.output.Output.{Output}
 use Rattle.cq_report.specs.declared.fault.RunFault.{RunFault}
 use Rattle.cq_report.specs.Run.{IsOfRead, IsOfOutput, IfMemory}
 use Rattle.cq_report.specs.Steps.Written.{Puts, Breaks}
 
--- The bytes were put; or a fault came first, which is none of reading; and where it is want of memory, nothing was put.
+-- What stands before the next bytes.
+abbrev pub lead_bytes : {A : Type 0} → Option (String A) → List ℕ
+lead_bytes None = []
+lead_bytes (Some lead) = string_bytes lead
+
+-- Bytes behind what stands before them; no bytes have nothing before them.
+abbrev pub led : {A : Type 0} → Option (String A) → List ℕ → List ℕ
+led lead [] = []
+led lead (b ∷ bs) = lead_bytes lead ++ b ∷ bs
+
+-- The bytes were put behind what stands before them; or a fault came first, which is none of reading; and where it is want of memory, nothing was put.
 abbrev pub Put : {W A : Type 0} → (W → Option (List ℕ)) → (W → ℕ) → Output W A → Output W A → List ℕ → Result (Unit {0}) RunFault → Type 0
-Put taken failures old new bytes (Ok done) = Puts taken failures old new bytes
-Put taken failures old new bytes (Err fault) = Breaks taken failures old new bytes fault × (IsOfRead fault → ⊥) × IsOfOutput fault × IfMemory fault (Puts taken failures old new [])
+Put taken failures old new bytes (Ok done) = Puts taken failures old new (led old.lead.now bytes)
+Put taken failures old new bytes (Err fault) = Breaks taken failures old new (led old.lead.now bytes) fault × (IsOfRead fault → ⊥) × IsOfOutput fault × IfMemory fault (Puts taken failures old new [])

@@ -22,7 +22,7 @@ run_fault serves.Thread = runs.Thread
 run_fault serves.NoMemory = runs.NoMemory
 
 -- These are the clients and the sheets of what all threads left.
-abbrev pub AreDone : {C : Type 0} → List (Result (Done C) ServeFault) → List C → List SheetRecord → Type 0
+abbrev pub AreDone : {C A : Type 0} → List (Result (Done C A) ServeFault) → List C → List SheetRecord → Type 0
 AreDone [] [] [] = Unit {0}
 AreDone (Ok done ∷ lefts) (client ∷ clients) (sheet ∷ sheets) = (client ≡ done.client) × (sheet ≡ done.sheet) × AreDone lefts clients sheets
 AreDone lefts clients sheets = ⊥

@@ -25,7 +25,7 @@ ended (line ∷ lines) = line ++ (10 ∷ ended lines)
 
 -- However the lines are read: the state is the one behind them, and the replies to them were put.
 abbrev pub Answered : {W A : Type 0} → (W → Option (List ℕ)) → (W → ℕ) → Output W A → State → List (List ℕ) → Output W A → State → Type 0
-Answered taken failures first opening lines now state = (rs : List Reading) → AreReadFrom opening lines rs → (state ≡ state_after opening rs) × Puts taken failures first now (output_from opening rs)
+Answered taken failures first opening lines now state = (rs : List Reading) → AreReadFrom opening.heading lines rs → (state ≡ state_after opening rs) × Puts taken failures first now (output_from opening rs)
 
 -- The bytes are whole lines, which were answered, and the front of a line, of which `line` is kept.
 pub record Served {W A : Type 0} (taken : W → Option (List ℕ)) (failures : W → ℕ) (first : Output W A) (opening : State) (now : Output W A) (state : State) (line bytes : List ℕ) : Type 0 where
@@ -36,18 +36,18 @@ pub record Served {W A : Type 0} (taken : W → Option (List ℕ)) (failures : W
   pub open_end : HasNoEnd pending
   pub keeps : line ≡ kept pending
   pub readings : List Reading
-  pub are : AreReadFrom opening lines readings
+  pub are : AreReadFrom opening.heading lines readings
   pub answered : Answered taken failures first opening lines now state
 
--- The lines of the bytes have readings, and however they are read, their output was put.
-pub record Finished {W A : Type 0} (taken : W → Option (List ℕ)) (failures : W → ℕ) (first : Output W A) (opening : State) (now : Output W A) (bytes : List ℕ) : Type 0 where
+-- The lines of the bytes have readings, and however they are read, the state is the one behind them and their output was put.
+pub record Finished {W A : Type 0} (taken : W → Option (List ℕ)) (failures : W → ℕ) (first : Output W A) (opening : State) (now : Output W A) (state : State) (bytes : List ℕ) : Type 0 where
   pub readings : List Reading
-  pub are : AreReadFrom opening (lines_of bytes) readings
-  pub all : (rs : List Reading) → AreReadFrom opening (lines_of bytes) rs → Puts taken failures first now (output_from opening rs)
+  pub are : AreReadFrom opening.heading (lines_of bytes) readings
+  pub all : Answered taken failures first opening (lines_of bytes) now state
 
 -- A fault came while the bytes were served: a front of their output is written.
 abbrev pub Stopped : {W A : Type 0} → (W → Option (List ℕ)) → (W → ℕ) → Output W A → State → Output W A → List ℕ → RunFault → Type 0
-Stopped taken failures first opening now bytes fault = (rs : List Reading) → AreReadFrom opening (lines_of bytes) rs → Breaks taken failures first now (output_from opening rs) fault
+Stopped taken failures first opening now bytes fault = (rs : List Reading) → AreReadFrom opening.heading (lines_of bytes) rs → Breaks taken failures first now (output_from opening rs) fault
 
 -- Some bytes more were served, whatever was served before them.
 abbrev pub ServesOn : {W A : Type 0} → (W → Option (List ℕ)) → (W → ℕ) → (old new : Output W A) → (state state' : State) → (line line' piece : List ℕ) → Type 0
@@ -73,9 +73,9 @@ StarvesOn {W} {A} taken failures old new state line piece =
     (first : Output W A) (opening : State) (bytes : List ℕ) → Served taken failures first opening old state line bytes → Starved taken failures first opening new bytes piece
 
 -- The end came, whatever was served before it.
-abbrev pub Finishes : {W A : Type 0} → (W → Option (List ℕ)) → (W → ℕ) → (old new : Output W A) → State → (line : List ℕ) → Type 0
-Finishes {W} {A} taken failures old new state line =
-    (first : Output W A) (opening : State) (bytes : List ℕ) → Served taken failures first opening old state line bytes → Finished taken failures first opening new bytes
+abbrev pub Finishes : {W A : Type 0} → (W → Option (List ℕ)) → (W → ℕ) → (old new : Output W A) → (state state' : State) → (line : List ℕ) → Type 0
+Finishes {W} {A} taken failures old new state state' line =
+    (first : Output W A) (opening : State) (bytes : List ℕ) → Served taken failures first opening old state line bytes → Finished taken failures first opening new state' bytes
 
 -- The same writer, and no failure of it.
 pub record IsSound {W A : Type 0} (failures : W → ℕ) (old new : Output W A) : Type 0 where

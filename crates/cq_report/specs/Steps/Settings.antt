@@ -5,6 +5,7 @@ use Rattle.cq_report.specs.declared.sessions.sheet.Line.TheVariants.{Told}
 use Rattle.cq_report.specs.declared.stage.Stage.TheVariants as stages
 use Rattle.cq_report.specs.Lines.{lines_of}
 use Rattle.cq_report.specs.Reading.{Reading, IsReading, AreReadIn}
+use Rattle.cq_report.specs.declared.numbering.Numbering.TheVariants.{Plain}
 use Rattle.cq_report.specs.Machine.{SetupRecord, begin_state, form_of, headed, staged}
 use Rattle.cq_report.specs.Output.{AreReadings}
 use Rattle.cq_report.specs.Sessions.{is_of_setup, IsSetBy, BeginsBoard, setup_sheet, told_or_none}
@@ -42,8 +43,8 @@ pub record SetTo (bytes rest : List ℕ) (heading : Option Form) (setup : SetupR
   pub cut : lines_of bytes ≡ lines ++ lines_of rest
   pub front : List Reading
   pub are : AreReadings lines front
-  pub set : IsSetBy begin_state front heading setup
-  pub told : sheet ≡ record { replies = []; batch = map Told (setup_sheet begin_state front); asked = [] }
+  pub set : IsSetBy (begin_state Plain) front heading setup
+  pub told : sheet ≡ record { replies = []; batch = map Told (setup_sheet (begin_state Plain) front); asked = [] }
 
 -- The rest, read in this form, has no line of a setup first.
 abbrev pub RestBegins : Form → List ℕ → Type 0

@@ -1,29 +1,34 @@
 //! What serves the lines of a file: a session in its room.
 
-ghost use Rattle.std.specs.Prelude.{◌≡◌, ◌∷◌, [], ℕ, List, length, IfOk};
+ghost use Rattle.std.specs.Prelude.{◌≡◌, ◌<◌, ◌∷◌, ◌++◌, [], ℕ, List, length, None, IfNone, IfOk, IfSome, OnErr, MatchOption};
 ghost use mathlib.Core.List.{IsPrefix};
 ghost use Rattle.cq_board.specs.Edits.{Edit as EditContent};
 ghost use Rattle.cq_board.specs.Pool.{PoolRecord};
-ghost use Rattle.cq_desk.specs.History.{edits_of};
-ghost use Rattle.cq_desk.specs.Replies.{MatchEnd};
-ghost use Rattle.cq_report.specs.Steps.Clients.{IsOpened, IsSubmission, opened_pool};
+ghost use Rattle.cq_desk.specs.History.{StandsLast, edits_of};
+ghost use Rattle.cq_desk.specs.Replies.{MatchEnd, accepted};
+ghost use Rattle.cq_room.specs.Receipts.{AreNumbered, AreReplies, Heard, entered_before};
+ghost use Rattle.cq_report.specs.Steps.Sheets.{IsEven};
+ghost use Rattle.cq_report.specs.Steps.Clients.{IsOpened, TakesEdits, IsSubmission, Submits, opened_pool};
 
 use crate::sessions::fault::ServeFault;
+use crate::sessions::sheet::Sheet;
 use cq_board::{Board, Edit, Why};
-use cq_desk::{End, Reply};
+use cq_desk::{End, Live, NoMemory, Reply};
 use cq_room::{Pair, Receipt, Room, RoomName, Session};
+use std::alloc::Allocator;
 use std::marker::Model;
+use std::mem;
 use std::sync::Wait;
 
 /// What a submit was answered: a reply for each edit, and how many entries are published.
 #[derive(Drop)]
-pub(crate) struct Submission {
-    pub(crate) replies: Vec<Reply<Why>>,
-    pub(crate) published: u64,
+struct Submission<A: Allocator> {
+    replies: Vec<Reply<Why>, A>,
+    published: u64,
 }
 
 /// What submits edits to a board that others share, and looks at it.
-pub(crate) trait Client: Drop {
+pub(crate) trait Client<A: Allocator>: Drop {
     // The pool that the board began with, and how many entries its journal may hold.
     ghost opening: { PoolRecord };
 
@@ -32,9 +37,11 @@ pub(crate) trait Client: Drop {
     // The entries that the client has seen or heard of.
     ghost known: { Self → List EditContent };
 
-    /// Submits the edits, and waits for those who submit before.
-    fn submit(&mut self, asked: Vec<Edit>) -> Result<Submission, ServeFault>
-        ensures { IfOk result (λ submission. IsSubmission opening limit (known self.old) (known self.new) asked.items submission.replies.items submission.published) };
+    /// Submits the edits that wait, takes the replies down, and answers how many entries are published. It waits for those who
+    /// submit before.
+    fn submit(&mut self, sheet: &mut Sheet<A>) -> Result<u64, ServeFault>
+        requires { IsEven sheet.old }
+        ensures { IfOk result (λ published. Submits opening limit (known self.old) sheet.old (known self.new) sheet.new published) };
 
     /// Looks, and answers how many entries are shown.
     fn look(&mut self) -> Result<u64, ServeFault>
@@ -42,39 +49,64 @@ pub(crate) trait Client: Drop {
         ensures seen { IfOk result (λ count. IsPrefix (known self.old) (known self.new)) };
 }
 
-pub(crate) type BoardRoom<N, R> = Room<Board, N, Pair<Board, N, R>>;
-
-pub(crate) type BoardSession<N> = Session<Board, N>;
-
-/// What all files share.
+/// What all files share. The state of the room is a parameter, here and below, since what is known of a client over boards
+/// themselves would be too much.
 #[derive(Drop)]
-pub(crate) struct Hall<'a, N: RoomName<Board>, R: Wait + Drop> {
+pub(crate) struct Hall<
+    'a,
+    L: Live<Edit = Edit<A>, Why = Why, Content = Board>,
+    N: RoomName<L::Content>,
+    R: Wait + Drop,
+    A: Allocator + Copy,
+> {
     pub(crate) rt: &'a R,
-    pub(crate) room: &'a BoardRoom<N, R>,
+    pub(crate) room: &'a Room<L, N, Pair<L, N, R, A>, A>,
 }
 
 /// A session at its place in a room. It is away only in the course of a look. Contracts see the entries that it knows of.
 #[derive(Drop)]
-pub(crate) struct BoardClient<'a, N: RoomName<Board>, R: Wait + Drop> {
-    hall: &'a Hall<'a, N, R>,
-    session: Option<BoardSession<N>>,
+pub(crate) struct BoardClient<
+    'a,
+    L: Live<Edit = Edit<A>, Why = Why, Content = Board>,
+    N: RoomName<L::Content>,
+    R: Wait + Drop,
+    A: Allocator + Copy,
+> {
+    hall: &'a Hall<'a, L, N, R, A>,
+    session: Option<Session<L, N, A>>,
 }
 
-impl<'a, N: RoomName<Board>, R: Wait + Drop> Model for BoardClient<'a, N, R> {
+impl<
+    'a,
+    L: Live<Edit = Edit<A>, Why = Why, Content = Board>,
+    N: RoomName<L::Content>,
+    R: Wait + Drop,
+    A: Allocator + Copy,
+> Model for BoardClient<'a, L, N, R, A> {
     ghost use Rattle.std.specs.Prelude.{List};
     ghost use Rattle.cq_board.specs.Edits.{Edit as EditContent};
-    ghost use Rattle.cq_report.specs.Steps.Clients.{known_in, IsSeated, IsOpened};
+    ghost use Rattle.cq_report.specs.Steps.Clients.{known_in, IsSeated, IsOpened, TakesEdits};
 
     ghost Value = { List EditContent };
 
     ghost view = { λ c. known_in c.session };
 
-    ghost invariant = { λ c. IsSeated c.session × IsOpened N.opening };
+    ghost invariant = { λ c. IsSeated c.session × IsOpened N.opening × TakesEdits L.after L.why };
 }
 
-impl<'a, N: RoomName<Board>, R: Wait + Drop> BoardClient<'a, N, R> {
-    pub(crate) fn new(hall: &'a Hall<'a, N, R>, session: BoardSession<N>) -> BoardClient<'a, N, R>
-        requires { IsOpened N.opening }
+impl<
+    'a,
+    L: Live<Edit = Edit<A>, Why = Why, Content = Board>,
+    N: RoomName<L::Content>,
+    R: Wait + Drop,
+    A: Allocator + Copy,
+> BoardClient<'a, L, N, R, A> {
+    pub(crate) fn new(
+        hall: &'a Hall<'a, L, N, R, A>,
+        session: Session<L, N, A>,
+    ) -> BoardClient<'a, L, N, R, A>
+        requires opened { IsOpened N.opening }
+        requires takes { TakesEdits L.after L.why }
         ensures { result ≡ edits_of session.history }
     {
         BoardClient {
@@ -84,7 +116,7 @@ impl<'a, N: RoomName<Board>, R: Wait + Drop> BoardClient<'a, N, R> {
     }
 
     /// The session.
-    pub(crate) fn into_session(self) -> BoardSession<N>
+    pub(crate) fn into_session(self) -> Session<L, N, A>
         ensures { edits_of result.history ≡ self.entry }
     {
         let BoardClient { hall: _, session } = self;
@@ -96,13 +128,13 @@ impl<'a, N: RoomName<Board>, R: Wait + Drop> BoardClient<'a, N, R> {
 }
 
 /// What a receipt says, where all was published.
-fn published<N: RoomName<Board>>(receipt: Receipt<Board, N>) -> Result<Submission, ServeFault>
+fn published<L: Live<Why = Why>, N: RoomName<L::Content>, A: Allocator + Copy>(
+    receipt: Receipt<L, N, A>,
+) -> Result<Submission<A>, ServeFault>
     ensures { IfOk result (λ submission. (submission.replies ≡ receipt.submitted.replies) × MatchEnd receipt.submitted.end (λ count. submission.published ≡ count) ⊥ ⊥) }
 {
-    let Receipt {
-        submitted,
-        front: _front,
-    } = receipt;
+    let Receipt { submitted, front } = receipt;
+    mem::drop(front);
     match submitted.end {
         End::Published(published) => Ok(Submission {
             replies: submitted.replies,
@@ -112,36 +144,91 @@ fn published<N: RoomName<Board>>(receipt: Receipt<Board, N>) -> Result<Submissio
     }
 }
 
+/// Submits the edits by a session in its room.
+fn submit_in<L: Live, N: RoomName<L::Content>, R: Wait + Drop, A: Allocator + Copy>(
+    rt: &R,
+    room: &Room<L, N, Pair<L, N, R, A>, A>,
+    session: &mut Session<L, N, A>,
+    asked: Vec<L::Edit, A>,
+) -> Result<Receipt<L, N, A>, NoMemory>
+    ensures front { IfOk result (λ receipt. MatchEnd receipt.submitted.end (λ count. MatchOption receipt.front ⊥ (λ front. count ≡ length (edits_of front))) (receipt.front ≡ None) (receipt.front ≡ None)) }
+    ensures tried { IfOk result (λ receipt. MatchEnd receipt.submitted.end (λ _. length receipt.submitted.replies.items ≡ length asked.items) (length receipt.submitted.replies.items < length asked.items) (length receipt.submitted.replies.items ≡ length asked.items)) }
+    ensures seen { IfOk result (λ receipt. IfSome receipt.front (λ front. IsPrefix (edits_of session.old.history) (entered_before front asked.items receipt.submitted.replies.items))) }
+    ensures replies { IfOk result (λ receipt. IfSome receipt.front (λ front. AreReplies L.after L.why N.opening N.limit (entered_before front asked.items receipt.submitted.replies.items) asked.items receipt.submitted.replies.items)) }
+    ensures last { IfOk result (λ receipt. IfSome receipt.front (λ front. edits_of front ≡ entered_before front asked.items receipt.submitted.replies.items ++ accepted asked.items receipt.submitted.replies.items)) }
+    ensures publication { IfOk result (λ receipt. IfSome receipt.front (λ front. StandsLast (accepted asked.items receipt.submitted.replies.items) front)) }
+    ensures numbered { IfOk result (λ receipt. IfSome receipt.front (λ front. AreNumbered (edits_of front) asked.items receipt.submitted.replies.items)) }
+    ensures unpublished { IfOk result (λ receipt. IfNone receipt.front ((before : List L.Edit) × IsPrefix (edits_of session.old.history) before × AreReplies L.after L.why N.opening N.limit before asked.items receipt.submitted.replies.items)) }
+    ensures heard { IfOk result (λ receipt. MatchOption receipt.front (session.new ≡ session.old) (λ front. Heard session.old session.new front)) }
+    ensures err { OnErr result (session.new ≡ session.old) }
+{
+    session.submit(rt, room, asked)
+}
+
 /// Submits the edits by the session.
-fn submit_by<N: RoomName<Board>, R: Wait + Drop>(
-    hall: &Hall<'_, N, R>,
-    session: &mut BoardSession<N>,
-    asked: Vec<Edit>,
-) -> Result<Submission, ServeFault>
-    requires { IsOpened N.opening }
+fn submit_by<
+    L: Live<Edit = Edit<A>, Why = Why, Content = Board>,
+    N: RoomName<L::Content>,
+    R: Wait + Drop,
+    A: Allocator + Copy,
+>(
+    hall: &Hall<'_, L, N, R, A>,
+    session: &mut Session<L, N, A>,
+    asked: Vec<Edit<A>, A>,
+) -> Result<Submission<A>, ServeFault>
+    requires opened { IsOpened N.opening }
+    requires takes { TakesEdits L.after L.why }
     ensures { IfOk result (λ submission. IsSubmission (opened_pool N.opening) N.limit (edits_of session.old.history) (edits_of session.new.history) asked.items submission.replies.items submission.published) }
 {
-    let receipt = match session.submit(hall.rt, hall.room, asked) {
+    let receipt = match submit_in(hall.rt, hall.room, session, asked) {
         Ok(receipt) => receipt,
         Err(_) => return Err(ServeFault::NoMemory),
     };
     published(receipt)
 }
 
-impl<'a, N: RoomName<Board>, R: Wait + Drop> Client for BoardClient<'a, N, R> {
+/// Submits the edits that wait by the session, and takes the replies down.
+fn submit_waiting<
+    L: Live<Edit = Edit<A>, Why = Why, Content = Board>,
+    N: RoomName<L::Content>,
+    R: Wait + Drop,
+    A: Allocator + Copy,
+>(
+    hall: &Hall<'_, L, N, R, A>,
+    session: &mut Session<L, N, A>,
+    sheet: &mut Sheet<A>,
+) -> Result<u64, ServeFault>
+    requires opened { IsOpened N.opening }
+    requires takes { TakesEdits L.after L.why }
+    requires even { IsEven sheet.old }
+    ensures { IfOk result (λ published. Submits (opened_pool N.opening) N.limit (edits_of session.old.history) sheet.old (edits_of session.new.history) sheet.new published) }
+{
+    let submission = submit_by(hall, session, sheet.take())?;
+    sheet.end(&submission.replies)?;
+    Ok(submission.published)
+}
+
+impl<
+    'a,
+    L: Live<Edit = Edit<A>, Why = Why, Content = Board>,
+    N: RoomName<L::Content>,
+    R: Wait + Drop,
+    A: Allocator + Copy,
+> Client<A> for BoardClient<'a, L, N, R, A> {
     ghost opening = { opened_pool N.opening };
 
     ghost limit = { N.limit };
 
     ghost known = { λ client. client };
 
-    fn submit(&mut self, asked: Vec<Edit>) -> Result<Submission, ServeFault>
-        ensures { IfOk result (λ submission. IsSubmission (opened_pool N.opening) N.limit self.old self.new asked.items submission.replies.items submission.published) }
+    fn submit(&mut self, sheet: &mut Sheet<A>) -> Result<u64, ServeFault>
+        requires { IsEven sheet.old }
+        ensures { IfOk result (λ published. Submits (opened_pool N.opening) N.limit self.old sheet.old self.new sheet.new published) }
     {
         let Some(session) = &mut self.session else {
             unreachable!()
         };
-        submit_by(self.hall, session, asked)
+        submit_waiting(self.hall, session, sheet)
     }
 
     fn look(&mut self) -> Result<u64, ServeFault>
@@ -154,11 +241,11 @@ impl<'a, N: RoomName<Board>, R: Wait + Drop> Client for BoardClient<'a, N, R> {
         match session.watch() {
             Ok(look) => {
                 let count = look.count();
-                self.session = Some(look.leave());
+                mem::drop(self.session.replace(look.leave()));
                 Ok(count)
             }
             Err(session) => {
-                self.session = Some(session);
+                mem::drop(self.session.replace(session));
                 Err(ServeFault::Places)
             }
         }

@@ -10,31 +10,32 @@ use crate::sessions::sheet::Sheet;
 use crate::sessions::threads::Job;
 use cq_room::Gate;
 use cq_text::Form;
-use std::alloc::Global;
+use std::alloc::Allocator;
 
 /// What serves a file is done with it.
 #[derive(Drop)]
-pub(crate) struct Done<C> {
+pub(crate) struct Done<C, A: Allocator> {
     pub(crate) client: C,
-    pub(crate) sheet: Sheet<Global>,
+    pub(crate) sheet: Sheet<A>,
 }
 
 /// A file that is to be served in a thread.
 #[derive(Drop)]
-pub(crate) struct Seat<'a, C, G> {
-    pub(crate) alloc: Global,
+pub(crate) struct Seat<'a, C, G, A: Allocator> {
+    pub(crate) alloc: A,
     pub(crate) form: Form,
     pub(crate) client: C,
     pub(crate) file: &'a [u8],
     pub(crate) gate: &'a G,
 }
 
-impl<'a, C: Client + Send, G: Gate> Job for Seat<'a, C, G> {
-    type Left = Result<Done<C>, ServeFault>;
+impl<'a, C: Client<A> + Send, G: Gate, A: Allocator + Copy + Send + Sync> Job
+    for Seat<'a, C, G, A> {
+    type Left = Result<Done<C, A>, ServeFault>;
 
     ghost leaves = { λ seat left. IfOk left (λ done. FileServed seat.form C.opening C.limit (C.known seat.client) seat.file.now done.sheet.replies (C.known done.client)) };
 
-    fn run(self) -> Result<Done<C>, ServeFault> {
+    fn run(self) -> Result<Done<C, A>, ServeFault> {
         let Seat {
             alloc,
             form,

@@ -5,7 +5,7 @@ ghost use mathlib.Core.List.{IsPrefix};
 ghost use Rattle.cq_report.specs.Reading.{Reads};
 ghost use Rattle.cq_report.specs.Reply.{late_line, show_line};
 ghost use Rattle.cq_report.specs.Steps.Sheets.{IsEven, Onward, LineServed, ServedTo, BytesServed};
-ghost use Rattle.cq_report.specs.Steps.Clients.{Submits, Ends};
+ghost use Rattle.cq_report.specs.Steps.Clients.{Ends};
 ghost use Rattle.cq_report.specs.declared.sessions.sheet.Line.TheVariants.{Told};
 ghost use Rattle.cq_text.specs.declared.command.CommandKind.TheVariants.{Publish, Show};
 
@@ -16,20 +16,13 @@ use crate::sessions::fault::ServeFault;
 use crate::sessions::sheet::Sheet;
 use cq_board::EditKind;
 use cq_text::{Command, CommandKind, Form, TextFault, read_command};
-use std::alloc::{AllocError, Global};
-
-/// Submits the edits that wait, takes the replies down, and answers how many entries are published.
-fn submit<C: Client>(client: &mut C, sheet: &mut Sheet<Global>) -> Result<u64, ServeFault>
-    requires { IsEven sheet.old }
-    ensures { IfOk result (λ published. Submits C.opening C.limit (C.known client.old) sheet.old (C.known client.new) sheet.new published) }
-{
-    let submission = client.submit(sheet.take())?;
-    sheet.end(&submission.replies)?;
-    Ok(submission.published)
-}
+use std::alloc::{AllocError, Allocator};
 
 /// Takes down what a line is told.
-fn tell(sheet: &mut Sheet<Global>, text: Result<String, AllocError>) -> Result<(), ServeFault>
+fn tell<A: Allocator + Copy>(
+    sheet: &mut Sheet<A>,
+    text: Result<String<A>, AllocError>,
+) -> Result<(), ServeFault>
     ensures { (bytes : List ℕ) → IfOk text (λ text. string_bytes text ≡ bytes) → OnOk result (sheet.new ≡ record sheet.old { batch = sheet.old.batch ++ Told (Some bytes) ∷ [] }) }
 {
     sheet.tell(Some(text?))?;
@@ -37,30 +30,30 @@ fn tell(sheet: &mut Sheet<Global>, text: Result<String, AllocError>) -> Result<(
 }
 
 /// The reply to a line of a setup.
-fn late(alloc: Global) -> Result<String, AllocError>
+fn late<A: Allocator>(alloc: A) -> Result<String<A>, AllocError>
     ensures { IfOk result (λ text. string_bytes text ≡ late_line) }
 {
     String::from_str(alloc, late_line())
 }
 
 /// Answers a publish.
-fn publish<C: Client>(
-    alloc: Global,
+fn publish<A: Allocator + Copy, C: Client<A>>(
+    alloc: A,
     client: &mut C,
-    sheet: &mut Sheet<Global>,
+    sheet: &mut Sheet<A>,
 ) -> Result<(), ServeFault>
     requires { IsEven sheet.old }
     ensures { OnOk result (Onward C.opening C.limit (C.known client.old) sheet.old (C.known client.new) sheet.new (Reads Publish)) }
 {
-    let published = submit(client, sheet)?;
+    let published = client.submit(sheet)?;
     tell(sheet, published_line(alloc, published))
 }
 
 /// Answers a look.
-fn show<C: Client>(
-    alloc: Global,
+fn show<A: Allocator + Copy, C: Client<A>>(
+    alloc: A,
     client: &mut C,
-    sheet: &mut Sheet<Global>,
+    sheet: &mut Sheet<A>,
 ) -> Result<(), ServeFault>
     requires { IsEven sheet.old }
     ensures { OnOk result (Onward C.opening C.limit (C.known client.old) sheet.old (C.known client.new) sheet.new (Reads Show)) }
@@ -70,11 +63,11 @@ fn show<C: Client>(
 }
 
 /// Answers a command.
-fn serve_command<C: Client>(
-    alloc: Global,
+fn serve_command<A: Allocator + Copy, C: Client<A>>(
+    alloc: A,
     client: &mut C,
-    sheet: &mut Sheet<Global>,
-    command: Command,
+    sheet: &mut Sheet<A>,
+    command: Command<A>,
 ) -> Result<(), ServeFault>
     requires { IsEven sheet.old }
     ensures { OnOk result (Onward C.opening C.limit (C.known client.old) sheet.old (C.known client.new) sheet.new (Reads command)) }
@@ -101,11 +94,11 @@ fn serve_command<C: Client>(
 }
 
 /// Reads a line and answers it.
-fn serve_line<C: Client>(
-    alloc: Global,
+fn serve_line<A: Allocator + Copy, C: Client<A>>(
+    alloc: A,
     form: Form,
     client: &mut C,
-    sheet: &mut Sheet<Global>,
+    sheet: &mut Sheet<A>,
     line: &[u8],
 ) -> Result<(), ServeFault>
     requires { IsEven sheet.old }
@@ -119,11 +112,11 @@ fn serve_line<C: Client>(
 }
 
 /// Answers the lines one after another.
-fn serve_lines<C: Client>(
-    alloc: Global,
+fn serve_lines<A: Allocator + Copy, C: Client<A>>(
+    alloc: A,
     form: Form,
     client: &mut C,
-    sheet: &mut Sheet<Global>,
+    sheet: &mut Sheet<A>,
     bytes: &[u8],
 ) -> Result<(), ServeFault>
     requires even { IsEven sheet.old }
@@ -142,12 +135,15 @@ fn serve_lines<C: Client>(
 }
 
 /// Ends a file: submits the edits that wait, where any do.
-fn finish<C: Client>(client: &mut C, sheet: &mut Sheet<Global>) -> Result<(), ServeFault>
+fn finish<A: Allocator + Copy, C: Client<A>>(
+    client: &mut C,
+    sheet: &mut Sheet<A>,
+) -> Result<(), ServeFault>
     requires { IsEven sheet.old }
     ensures { OnOk result (Ends C.opening C.limit (C.known client.old) sheet.old (C.known client.new) sheet.new.replies) }
 {
     if sheet.waits() {
-        submit(client, sheet)?;
+        client.submit(sheet)?;
         return Ok(());
     }
     sheet.end(&[])?;
@@ -155,11 +151,11 @@ fn finish<C: Client>(client: &mut C, sheet: &mut Sheet<Global>) -> Result<(), Se
 }
 
 /// Serves the bytes of a file to their end; what the sheet held stands before their replies.
-pub(crate) fn serve_bytes<C: Client>(
-    alloc: Global,
+pub(crate) fn serve_bytes<A: Allocator + Copy, C: Client<A>>(
+    alloc: A,
     form: Form,
     client: &mut C,
-    sheet: &mut Sheet<Global>,
+    sheet: &mut Sheet<A>,
     bytes: &[u8],
 ) -> Result<(), ServeFault>
     requires even { IsEven sheet.old }

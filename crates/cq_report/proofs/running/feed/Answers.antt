@@ -20,6 +20,7 @@ loop-last-init g c = record {
   done = [];
   cut = refl;
   on = ServesOn-nothing _ _ _ _ _;
+  counted = omega arith;
   sound = IsSound-nothing g.W.Sink.taken _ _;
 }
 
@@ -42,10 +43,13 @@ loop-last-smaller g c =
 pub loop-last-preserved : goal.loop-last-preserved
 loop-last-preserved g c =
     let i = c.loop-last.invariant in
+    let parts = ap length c.in-Some.ensures.cut in
+    let both = length-append c.in-Some.last.now (10 ∷ c.in-Some.behind.now) in
     record {
       done = i.done ++ (c.in-Some.last.now ++ 10 ∷ []);
       cut = cut_past i.done c.loop-last.rest.now c.in-Some.last.now c.in-Some.behind.now c.args.piece.now i.cut c.in-Some.ensures.cut;
       on = ServesOn-then _ _ _ _ _ _ _ _ _ _ _ i.done (c.in-Some.last.now ++ 10 ∷ []) i.on c.in_ok-serve_line.ensures.ok;
+      counted = omega (arith, parts, both, i.counted, c.in_ok-serve_line.ensures.lines);
       sound = IsSound-then g.W.Sink.taken _ _ _ _ i.sound c.in_ok-serve_line.ensures.sound;
     }
 

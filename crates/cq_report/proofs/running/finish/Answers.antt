@@ -11,7 +11,7 @@ returns-in_err-finish-clause-err g c =
 pub returns-then-is_empty-clause-ok : goal.returns-then-is_empty-clause-ok
 returns-then-is_empty-clause-ok g c =
     let none : length c.args.line.now ≡ 0 = grind arith in
-    λ first opening bytes s. Finished-passed _ _ first opening _ _ bytes (Finished-whole _ _ first opening _ _ _ bytes s none) c.in_ok-finish.ensures.ok
+    λ first opening bytes s. Finished-passed _ _ first opening _ _ _ bytes (Finished-whole _ _ first opening _ _ _ bytes s none) c.in_ok-finish.ensures.ok
 
 pub returns-in_err-answer-clause-err : goal.returns-in_err-answer-clause-err
 returns-in_err-answer-clause-err g c =
@@ -27,7 +27,7 @@ returns-in_err-finish-2-clause-err g c =
     let read = rw c.as_bytes.ensures at e.read in
     let ok = rw c.as_bytes.ensures at e.ok in
     let some : 0 < length c.args.line.now = grind arith in
-    rw (p.1, p.2) (λ first opening bytes s. rw (append-nil bytes) (Stopped-finished _ _ first opening _ _ bytes _ (Finished-last _ _ first opening _ _ _ _ _ bytes s some read ok) c.in_err-finish-2.ensures.err))
+    rw (p.1, p.2) (λ first opening bytes s. rw (append-nil bytes) (Stopped-finished _ _ first opening _ _ _ bytes _ (Finished-last _ _ first opening _ _ _ _ _ bytes s some read ok) c.in_err-finish-2.ensures.err))
 
 pub returns-clause-ok : goal.returns-clause-ok
 returns-clause-ok g c =
@@ -35,4 +35,4 @@ returns-clause-ok g c =
     let read = rw c.as_bytes.ensures at e.read in
     let ok = rw c.as_bytes.ensures at e.ok in
     let some : 0 < length c.args.line.now = grind arith in
-    λ first opening bytes s. Finished-passed _ _ first opening _ _ bytes (Finished-last _ _ first opening _ _ _ _ _ bytes s some read ok) c.in_ok-finish-2.ensures.ok
+    λ first opening bytes s. Finished-passed _ _ first opening _ _ _ bytes (Finished-last _ _ first opening _ _ _ _ _ bytes s some read ok) c.in_ok-finish-2.ensures.ok

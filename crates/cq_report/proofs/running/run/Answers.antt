@@ -1,22 +1,30 @@
 use Rattle.std.proofs.Common.{rules, ap}
 use Rattle.std.proofs.lemmas.Result.{err_from_is_err_and, on_ok_weaker, IfErr-weaker}
-use Rattle.cq_report.proofs.Ending.{Replayed-wrote, BrokeOff-wrote, IfRead-weaker}
+use Rattle.cq_report.proofs.Ending.{Replayed-wrote, Replayed-readings, BrokeOff-wrote, Ended-wrote, IfRead-weaker}
 use Rattle.cq_report.proofs.Starving.{IfMemory-weaker, RanOut-wrote, WroteFirstLines-none}
 use Rattle.cq_report.proofs.running.run.Goals as goal
 
 pub returns-clause-output : goal.returns-clause-output
 returns-clause-output g c =
-    on_ok_weaker c.replay.result (λ r. Replayed-wrote g.W.Sink.taken g.W.Sink.write_failures _ _ _ _ _ _ c.new-output.ensures.held (ap g.W.Sink.taken c.new-output.ensures.same) (search rules) r) c.replay.ensures.ok
+    on_ok_weaker c.replay-ended.result (λ r. Replayed-wrote g.W.Sink.taken g.W.Sink.write_failures _ _ _ _ _ _ _ _ _ c.begin-machine.ensures.state c.new-output.ensures.held (ap g.W.Sink.taken c.new-output.ensures.same) (search rules) r) c.replay-ended.ensures.ok
+
+pub returns-clause-readings : goal.returns-clause-readings
+returns-clause-readings g c =
+    on_ok_weaker c.replay-ended.result (λ r. Replayed-readings g.W.Sink.taken g.W.Sink.write_failures c.args.numbering _ _ _ _ _ _ c.begin-machine.ensures.state r) c.replay-ended.ensures.ok
 
 pub returns-clause-whole_lines : goal.returns-clause-whole_lines
 returns-clause-whole_lines g c =
-    IfErr-weaker c.replay.result _ _ (λ fault h. IfRead-weaker fault _ _ (λ turn b. BrokeOff-wrote g.W.Sink.taken g.W.Sink.write_failures _ _ _ _ _ _ c.new-output.ensures.held (ap g.W.Sink.taken c.new-output.ensures.same) (search rules) b) h) c.replay.ensures.read
+    IfErr-weaker c.replay-ended.result _ _ (λ fault h. IfRead-weaker fault _ _ (λ turn b. BrokeOff-wrote g.W.Sink.taken g.W.Sink.write_failures _ _ _ _ _ _ _ _ c.begin-machine.ensures.state c.new-output.ensures.held (ap g.W.Sink.taken c.new-output.ensures.same) (search rules) b) h) c.replay-ended.ensures.read
 
 pub returns-clause-first_lines : goal.returns-clause-first_lines
 returns-clause-first_lines g c =
-    IfErr-weaker c.replay.result _ _ (λ fault h. IfMemory-weaker fault _ _ (λ r. RanOut-wrote g.W.Sink.taken g.W.Sink.write_failures _ _ _ _ _ _ c.new-output.ensures.held (ap g.W.Sink.taken c.new-output.ensures.same) (search rules) r.0 r.1) h) c.replay.ensures.memory
+    IfErr-weaker c.replay-ended.result _ _ (λ fault h. IfMemory-weaker fault _ _ (λ r. RanOut-wrote g.W.Sink.taken g.W.Sink.write_failures _ _ _ _ _ _ _ _ c.begin-machine.ensures.state c.new-output.ensures.held (ap g.W.Sink.taken c.new-output.ensures.same) (search rules) r.0 r.1) h) c.replay-ended.ensures.memory
 
 pub returns-in_err-room-clause-first_lines : goal.returns-in_err-room-clause-first_lines
 returns-in_err-room-clause-first_lines g c =
     let p = err_from_is_err_and c.from_residual.result c.from_residual.ensures.1 in
-    rw (p.1, p.2) (WroteFirstLines-none _ _)
+    rw (p.1, p.2) (WroteFirstLines-none _ _ _)
+
+pub returns-clause-front : goal.returns-clause-front
+returns-clause-front g c =
+    IfErr-weaker c.replay-ended.result _ _ (λ fault h. Ended-wrote g.W.Sink.taken g.W.Sink.write_failures _ _ _ _ _ _ _ _ fault c.begin-machine.ensures.state c.new-output.ensures.held (ap g.W.Sink.taken c.new-output.ensures.same) (search rules) h) c.replay-ended.ensures.err

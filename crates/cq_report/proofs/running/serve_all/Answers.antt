@@ -1,5 +1,5 @@
-use Rattle.std.proofs.Common.{◌++◌, [], ◌∙◌, arith, take, refl, sym, subst, inl, append-nil}
-use Rattle.cq_report.specs.Machine.{begin_state}
+use Rattle.cq_text.specs.declared.limits.TheConstants.{MAX_PIECE}
+use Rattle.std.proofs.Common.{◌≡◌, ◌++◌, [], ◌∙◌, arith, take, refl, sym, subst, inl, append-nil}
 use Rattle.cq_report.specs.Steps.Serving.{Served}
 use Rattle.cq_report.proofs.Ending.{Consumes-none}
 use Rattle.std.proofs.KnownBytes.{Consumes-nil, Consumes-trans, Consumes-kept}
@@ -13,7 +13,8 @@ pub loop-i-init : goal.loop-i-init
 loop-i-init g c = record {
   bytes = [];
   read = Consumes-nil _;
-  served = rw (c.requires.machine, c.requires.line) (Served-nothing _ _ _ _);
+  served = rw c.requires.line (Served-nothing _ _ _ _);
+  lines = omega (arith, c.requires.lines);
   sound = IsSound-nothing g.W.Sink.taken _ _;
   held = c.requires.held;
   reads = omega arith;
@@ -84,9 +85,12 @@ pub loop-i-preserved : goal.loop-i-preserved
 loop-i-preserved g c =
     let i = c.loop-i.invariant in
     let piece = take c.in-Ok.len c.read.new.buf in
+    let long = length-take c.in-Ok.len c.read.new.buf in
+    let size : MAX_PIECE ≡ 4096 = refl in
     record {
       bytes = i.bytes ++ piece;
       read = Consumes-trans _ _ _ i.bytes piece i.read c.in-Ok.ensures.bytes.0;
+      lines = omega (arith, i.lines, c.in_ok-feed.ensures.lines, long, i.room, c.requires.piece, size);
       served = Served-passed _ _ _ _ _ _ _ _ _ (c.in_ok-feed.ensures.ok _ _ _ i.served) c.in_ok-write_out.ensures.ok;
       sound = IsSound-then g.W.Sink.taken _ _ _ _ (IsSound-then g.W.Sink.taken _ _ _ _ i.sound c.in_ok-feed.ensures.sound) (IsSound-puts _ _ _ _ _ c.in_ok-write_out.ensures.ok);
       held = c.in_ok-write_out.ensures.held;
@@ -109,8 +113,8 @@ returns-in_err-finish-clause-memory g c =
     let p = err_from_is_err_and c.from_residual.result c.from_residual.ensures.1 in
     let i = c.loop-i.invariant in
     let none = rw c.if-len-eq0.true at c.in-Ok.ensures.bytes.0 in
-    let kept = subst (Served g.W.Sink.taken g.W.Sink.write_failures c.args.output.now begin_state c.loop-i.output c.loop-i.machine c.loop-i.line) (sym (append-nil i.bytes)) i.served in
-    rw (p.1, p.2) (IfMemory-weaker _ _ _ (RanOut-behind _ _ _ _ _ _ _ _ _ i.bytes [] [] [] refl (Consumes-trans _ _ _ i.bytes [] i.read none) (omega arith) kept) c.in_err-finish.ensures.nothing)
+    let kept = subst (Served g.W.Sink.taken g.W.Sink.write_failures c.args.output.now c.args.machine.now c.loop-i.output c.loop-i.machine c.loop-i.line) (sym (append-nil i.bytes)) i.served in
+    rw (p.1, p.2) (IfMemory-weaker _ _ _ (RanOut-behind _ _ _ _ _ _ _ _ _ _ i.bytes [] [] [] refl (Consumes-trans _ _ _ i.bytes [] i.read none) (omega arith) kept) c.in_err-finish.ensures.nothing)
 
 pub returns-in_err-feed-clause-memory : goal.returns-in_err-feed-clause-memory
 returns-in_err-feed-clause-memory g c =
@@ -118,7 +122,7 @@ returns-in_err-feed-clause-memory g c =
     let i = c.loop-i.invariant in
     let piece = take c.in-Ok.len c.read.new.buf in
     let long = length-take c.in-Ok.len c.read.new.buf in
-    rw (p.1, p.2) (IfMemory-weaker _ _ _ (RanOut-on _ _ _ _ _ _ _ _ _ i.bytes piece (Consumes-trans _ _ _ i.bytes piece i.read c.in-Ok.ensures.bytes.0) (omega (arith, long, i.room, c.requires.piece)) i.served) c.in_err-feed.ensures.starves)
+    rw (p.1, p.2) (IfMemory-weaker _ _ _ (RanOut-on _ _ _ _ _ _ _ _ _ _ i.bytes piece (Consumes-trans _ _ _ i.bytes piece i.read c.in-Ok.ensures.bytes.0) (omega (arith, long, i.room, c.requires.piece)) i.served) c.in_err-feed.ensures.starves)
 
 pub returns-in_err-write_out-clause-memory : goal.returns-in_err-write_out-clause-memory
 returns-in_err-write_out-clause-memory g c =

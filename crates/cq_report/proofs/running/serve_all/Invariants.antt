@@ -1,5 +1,5 @@
-use Rattle.std.proofs.Common.{◌≡◌, ◌+◌, length, []}
-use Rattle.cq_report.specs.Machine.{begin_state}
+use Rattle.std.proofs.Common.{◌≡◌, ◌≤◌, ◌*◌, ◌+◌, length, []}
+use Rattle.cq_report.specs.Steps.Count.{lines_before}
 use Rattle.cq_report.specs.Steps.Serving.{IsSound}
 use Rattle.cq_report.specs.Steps.Serving.{Served}
 use Rattle.std.specs.Io.KnownBytes.{Consumes}
@@ -10,7 +10,8 @@ abbrev pub invariant-loop-i : goal.invariant-loop-i
 invariant-loop-i g l = record {
   bytes : List ℕ;
   read : Consumes (g.R.Source.left l.fn.reader) (g.R.Source.left l.reader) bytes;
-  served : Served g.W.Sink.taken g.W.Sink.write_failures l.fn.output begin_state l.output l.machine l.line bytes;
+  served : Served g.W.Sink.taken g.W.Sink.write_failures l.fn.output l.fn.machine l.output l.machine l.line bytes;
+  lines : lines_before l.machine ≤ l.i * 4096;
   sound : IsSound g.W.Sink.write_failures l.fn.output l.output;
   held : l.output.held.now.items ≡ [];
   reads : g.R.Source.reads_made l.reader ≡ g.R.Source.reads_made l.fn.reader + l.i;

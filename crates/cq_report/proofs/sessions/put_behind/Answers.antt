@@ -6,7 +6,7 @@ use Rattle.cq_report.proofs.Pages.{put_both}
 use Rattle.cq_report.proofs.sessions.put_behind.Goals as goal
 
 pub returns : goal.returns
-returns c =
+returns g c =
     let first = codes "publish\nshow\n" in
     let setup = replies_from (codes "setup") 1 c.args.setup.now.replies in
     let files = sheets_from 0 (map (λ sheet. sheet.replies) c.args.sheets.now) in

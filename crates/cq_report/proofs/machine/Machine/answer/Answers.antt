@@ -1,59 +1,40 @@
-use Rattle.std.proofs.Common.{◌≡◌, ◌∙◌, ℕ, Option, Some, None, refl, ap}
-use Rattle.cq_text.specs.declared.fault.Kind.{Kind}
-use Rattle.cq_text.specs.declared.form.Form.{Form}
-use Rattle.cq_report.specs.Machine.{form_in, form_of, headed, reply}
+use Rattle.std.proofs.lemmas.Result.{err_from_is_err_and, on_ok_weaker, IfErr-weaker}
 use Rattle.cq_report.specs.Steps.Writing.{Puts-nothing}
-use Rattle.cq_report.specs.Reading.{Reads, Faulty}
-use Rattle.cq_report.specs.Reply.{fault_line}
-use Rattle.cq_report.proofs.Answering.{on_ok, only_command, only_the_fault, the_fault, reads_ok, reads_err, put_fails, put_nothing, starved}
+use Rattle.cq_report.proofs.Answering.{starved}
+use Rattle.cq_report.proofs.Starving.{IfMemory-weaker}
+use Rattle.cq_report.proofs.Numbers.{Puts-since, Fails-since, numbered_ok, numbered_err, lines_on}
 use Rattle.cq_report.proofs.machine.Machine.answer.Goals as goal
 
--- a faulty line settles the form in which it was read
-settled : (heading : Option Form) (kind : Kind) (offset : ℕ) → Some (form_of heading) ≡ headed heading (Faulty kind offset)
-settled None kind offset = refl
-settled (Some form) kind offset = refl
+pub returns-clause-lines : goal.returns-clause-lines
+returns-clause-lines g c =
+    lines_on _ c.args.self.now c.serve_line.new.self c.args.line.now c.serve_line.result (rw c.count.ensures at c.serve_line.ensures.read) (rw c.count.ensures at c.serve_line.ensures.ok)
 
-pub returns-in-Ok-clause-read : goal.returns-in-Ok-clause-read
-returns-in-Ok-clause-read g c = on_ok c.serve.result _ (Reads c.in-Ok.command, rw c.form-form.ensures at c.in-Ok.ensures.found)
+pub returns-clause-read : goal.returns-clause-read
+returns-clause-read g c = rw c.count.ensures at c.serve_line.ensures.read
 
-pub returns-in-Ok-clause-ok : goal.returns-in-Ok-clause-ok
-returns-in-Ok-clause-ok g c =
-    reads_ok _ _ c.args.output.now c.serve.new.output (form_in c.args.self.now) c.args.self.now c.serve.new.self c.args.line.now (Reads c.in-Ok.command)
-    (only_command (form_in c.args.self.now) c.args.line.now c.in-Ok.command (rw c.form-form.ensures at c.in-Ok.ensures.only) (rw c.form-form.ensures at c.in-Ok.ensures.only_fault)) c.serve.result c.serve.ensures.state c.serve.ensures.put
+pub returns-clause-ok : goal.returns-clause-ok
+returns-clause-ok g c =
+    let leads = rw (← c.lead_by.ensures.lead) at c.in_ok-lead.ensures in
+    on_ok_weaker c.serve_line.result (numbered_ok _ _ _ _ _ c.lead_by.ensures.writer c.lead_by.ensures.sink c.lead_by.ensures.held c.args.self.now c.serve_line.new.self c.args.line.now leads) (rw c.count.ensures at c.serve_line.ensures.ok)
 
-pub returns-in-Ok-clause-err : goal.returns-in-Ok-clause-err
-returns-in-Ok-clause-err g c =
-    reads_err _ _ c.args.output.now c.serve.new.output (form_in c.args.self.now) c.args.self.now c.serve.new.self c.args.line.now (Reads c.in-Ok.command)
-    (only_command (form_in c.args.self.now) c.args.line.now c.in-Ok.command (rw c.form-form.ensures at c.in-Ok.ensures.only) (rw c.form-form.ensures at c.in-Ok.ensures.only_fault)) c.serve.result c.serve.ensures.put
+pub returns-clause-err : goal.returns-clause-err
+returns-clause-err g c =
+    let leads = rw (← c.lead_by.ensures.lead) at c.in_ok-lead.ensures in
+    IfErr-weaker c.serve_line.result _ _ (numbered_err _ _ _ _ _ c.lead_by.ensures.writer c.lead_by.ensures.sink c.lead_by.ensures.held c.args.self.now c.serve_line.new.self c.args.line.now leads) (rw c.count.ensures at c.serve_line.ensures.err)
 
-pub returns-in-Err-At-clause-read : goal.returns-in-Err-At-clause-read
-returns-in-Err-At-clause-read g c = on_ok c.put_reply.result _ (Faulty c.in-Err-At.kind c.in-Err-At.offset, the_fault (form_in c.args.self.now) c.args.line.now _ c.in-Err-At.kind c.in-Err-At.offset c.in-Err-At.field-0-is (rw c.form-form.ensures at c.in-Err-At.ensures.fault))
+pub returns-clause-fails : goal.returns-clause-fails
+returns-clause-fails g c = IfErr-weaker c.serve_line.result _ _ (Fails-since g.W.Sink.taken g.W.Sink.write_failures _ _ _ c.lead_by.ensures.writer c.lead_by.ensures.sink c.lead_by.ensures.held) c.serve_line.ensures.fails
 
-pub returns-in-Err-At-clause-ok : goal.returns-in-Err-At-clause-ok
-returns-in-Err-At-clause-ok g c =
-    reads_ok _ _ c.args.output.now c.put_reply.new.output (form_in c.args.self.now) c.args.self.now c.settle.new.self c.args.line.now (Faulty c.in-Err-At.kind c.in-Err-At.offset)
-    (only_the_fault (form_in c.args.self.now) c.args.line.now _ c.in-Err-At.kind c.in-Err-At.offset c.in-Err-At.field-0-is (rw c.form-form.ensures at c.in-Err-At.ensures.only) (rw c.form-form.ensures at c.in-Err-At.ensures.only_fault)) c.put_reply.result
-    (on_ok c.put_reply.result _ (c.settle.ensures ∙ rw c.form-form.ensures (ap (λ (h : Option Form). record { heading = h; stage = c.args.self.now.stage }) (settled c.args.self.now.heading c.in-Err-At.kind c.in-Err-At.offset)))) (c.put_reply.ensures (fault_line c.in-Err-At.kind c.in-Err-At.offset) c.fault_line.ensures)
+pub returns-clause-nothing : goal.returns-clause-nothing
+returns-clause-nothing g c =
+    IfErr-weaker c.serve_line.result _ _ (λ fault h. IfMemory-weaker fault _ _ (Puts-since _ _ _ _ _ c.lead_by.ensures.writer c.lead_by.ensures.sink c.lead_by.ensures.held _) h) c.serve_line.ensures.nothing
 
-pub returns-in-Err-At-clause-err : goal.returns-in-Err-At-clause-err
-returns-in-Err-At-clause-err g c =
-    reads_err _ _ c.args.output.now c.put_reply.new.output (form_in c.args.self.now) c.args.self.now c.settle.new.self c.args.line.now (Faulty c.in-Err-At.kind c.in-Err-At.offset)
-    (only_the_fault (form_in c.args.self.now) c.args.line.now _ c.in-Err-At.kind c.in-Err-At.offset c.in-Err-At.field-0-is (rw c.form-form.ensures at c.in-Err-At.ensures.only) (rw c.form-form.ensures at c.in-Err-At.ensures.only_fault)) c.put_reply.result
-    (c.put_reply.ensures (fault_line c.in-Err-At.kind c.in-Err-At.offset) c.fault_line.ensures)
+pub returns-in_err-lead-clause-err : goal.returns-in_err-lead-clause-err
+returns-in_err-lead-clause-err g c =
+    let p = err_from_is_err_and c.from_residual.result c.from_residual.ensures.1 in
+    rw (p.1, p.2) (λ reading is. starved _ _ c.args.output.now _)
 
-pub returns-in-Err-At-clause-fails : goal.returns-in-Err-At-clause-fails
-returns-in-Err-At-clause-fails g c =
-    put_fails _ _ c.args.output.now c.put_reply.new.output (fault_line c.in-Err-At.kind c.in-Err-At.offset) c.put_reply.result (c.put_reply.ensures (fault_line c.in-Err-At.kind c.in-Err-At.offset) c.fault_line.ensures)
-
-pub returns-in-Err-NoMemory-clause-err : goal.returns-in-Err-NoMemory-clause-err
-returns-in-Err-NoMemory-clause-err g c = λ reading is. starved _ _ c.args.output.now _
-
-pub returns-in-Ok-clause-nothing : goal.returns-in-Ok-clause-nothing
-returns-in-Ok-clause-nothing g c = put_nothing _ _ c.args.output.now c.serve.new.output (reply c.args.self.now (Reads c.in-Ok.command)) c.serve.result c.serve.ensures.put
-
-pub returns-in-Err-At-clause-nothing : goal.returns-in-Err-At-clause-nothing
-returns-in-Err-At-clause-nothing g c =
-    put_nothing _ _ c.args.output.now c.put_reply.new.output (fault_line c.in-Err-At.kind c.in-Err-At.offset) c.put_reply.result (c.put_reply.ensures (fault_line c.in-Err-At.kind c.in-Err-At.offset) c.fault_line.ensures)
-
-pub returns-in-Err-NoMemory-clause-nothing : goal.returns-in-Err-NoMemory-clause-nothing
-returns-in-Err-NoMemory-clause-nothing g c = Puts-nothing _ _ c.args.output.now
+pub returns-in_err-lead-clause-nothing : goal.returns-in_err-lead-clause-nothing
+returns-in_err-lead-clause-nothing g c =
+    let p = err_from_is_err_and c.from_residual.result c.from_residual.ensures.1 in
+    rw (p.1, p.2) (Puts-nothing _ _ c.args.output.now)

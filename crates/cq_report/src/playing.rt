@@ -1,0 +1,101 @@
+//! The board that a script leaves.
+
+ghost use Rattle.std.specs.Prelude.{◌≡◌, ◌<◌, ◌≤◌, ◌+◌, ◌^◌, List, OnOk, IfOk, IfErr, IfSome, MatchResult};
+ghost use Rattle.cq_text.specs.Device.{FailedAtTurn};
+ghost use Rattle.cq_report.specs.Lines.{lines_of};
+ghost use Rattle.cq_report.specs.Reading.{Reading};
+ghost use Rattle.cq_report.specs.Output.{AreReadings, pool_left};
+ghost use Rattle.cq_report.specs.Run.{IfRead, IsOfRead, IsOfReading};
+ghost use Rattle.cq_report.specs.Steps.Playing.{IsPlayed};
+
+use crate::fault::RunFault;
+use crate::happening::BoardFloor;
+use crate::machine::Machine;
+use crate::numbering::Numbering;
+use crate::output::Output;
+use crate::running::replay;
+use crate::unheard::Unheard;
+use cq_board::Board;
+use cq_text::{MAX_READS, Source};
+use std::alloc::Allocator;
+use std::marker::Model;
+use std::mem;
+
+/// A script that was served to its end. Contracts see the pool that a `show` behind its last line would print.
+#[derive(Drop)]
+pub struct Played<A: Allocator + Copy> {
+    floor: BoardFloor<A>,
+}
+
+impl<A: Allocator + Copy> Model for Played<A> {
+    ghost use Rattle.cq_board.specs.Pool.{PoolRecord};
+    ghost use Rattle.cq_report.specs.Machine.{shown};
+
+    ghost Value = { PoolRecord };
+
+    ghost view = { λ p. shown p.floor };
+}
+
+impl<A: Allocator + Copy> Played<A> {
+    /// The board that is published behind the script: what was entered behind the last publish is not on it.
+    pub fn board(&self) -> &Board<A>
+        ensures { result.now ≡ self.now }
+    {
+        self.floor.board()
+    }
+}
+
+/// What is left of a script that ended so: its floor, which opens where the setup lasts.
+fn left_by<A: Allocator + Copy>(
+    machine: Machine<A>,
+    ended: Result<(), RunFault>,
+) -> Result<Played<A>, RunFault>
+    ensures { IsPlayed ended machine result }
+{
+    match ended {
+        Ok(()) => {
+            let floor = machine.into_floor()?;
+            Ok(Played { floor })
+        }
+        Err(fault) => {
+            mem::drop(machine);
+            Err(fault)
+        }
+    }
+}
+
+/// Reads a script to its end, and gives the board that it leaves: the one that a `show` behind its last line would print.
+///
+/// The script is cut into lines and served as `run` does, and no reply is written. Lines that are refused leave nothing behind.
+/// Where no line ends the setup, the board is the one that the setup opens.
+///
+/// # Errors
+/// `Read` tells the number, from 1, of the read that failed, and 1,048,577 where no read failed and none came to the end;
+/// `NoMemory` says that a growth was refused. No board is left with either.
+pub fn read_script<A: Allocator + Copy, R: Source>(
+    alloc: A,
+    reader: &mut R,
+) -> Result<Played<A>, RunFault>
+    requires reads { R.reads_made reader.old < 2 ^ 62 }
+    requires failures { R.failures_met reader.old < 2 ^ 62 }
+
+    // Where all went well, the board is the one that the lines leave, however they are read.
+    ensures board { IfOk result (λ played. IfSome (R.left reader.old) (λ input. (readings : List Reading) → AreReadings (lines_of input) readings → played ≡ pool_left readings)) }
+
+    // And they can be read.
+    ensures readings { OnOk result (IfSome (R.left reader.old) (λ input. (readings : List Reading) × AreReadings (lines_of input) readings)) }
+
+    // Whose fault it was.
+    ensures kind { IfErr result IsOfReading }
+    ensures turn { IfErr result (λ fault. IfRead fault (λ turn. FailedAtTurn turn (R.reads_made reader.old) (R.reads_made reader.new) (R.failures_met reader.old) (R.failures_met reader.new))) }
+    ensures reads { R.reads_made reader.new ≤ R.reads_made reader.old + MAX_READS }
+    ensures read_failures { MatchResult result (λ _. R.failures_met reader.new ≡ R.failures_met reader.old) (λ fault. (IsOfRead fault → ⊥) → R.failures_met reader.new ≡ R.failures_met reader.old) }
+{
+    let mut unheard = Unheard;
+    let mut room = Vec::new(alloc);
+    let mut lead = None;
+    let mut output = Output::new(&mut unheard, &mut room, &mut lead);
+    let mut machine = Machine::begin(alloc, Numbering::Plain);
+    let ended = replay(alloc, &mut machine, reader, &mut output);
+    left_by(machine, ended)
+}
