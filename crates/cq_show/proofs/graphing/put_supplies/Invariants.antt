@@ -1,0 +1,16 @@
+use Rattle.std.proofs.Common.{◌≡◌, ◌++◌, drop}
+use Rattle.std.specs.Prelude.{string_bytes}
+use Rattle.std.specs.List.{flat_map, enumerate_from}
+use Rattle.cq_board.specs.Edges.{edges_into, edges_of}
+use Rattle.cq_match.specs.Graph.{edges_to}
+use Rattle.cq_show.specs.Graph.{supply}
+use Rattle.cq_show.proofs.graphing.put_supplies.Given as goal
+
+abbrev pub invariant-loop-post : goal.invariant-loop-post
+invariant-loop-post g l =
+    let pending = l.listing.board.now.pending in
+    record {
+      left : l.left ≡ flat_map (edges_into pending l.waiter) (enumerate_from l.post (drop l.post l.query.posts));
+      put : string_bytes l.page ++ flat_map (λ post. supply l.waiter post (edges_to l.waiter post.0 (edges_of pending))) (enumerate_from l.post (drop l.post l.query.posts))
+          ≡ string_bytes l.initial.page ++ flat_map (λ post. supply l.waiter post (edges_to l.waiter post.0 (edges_of pending))) (enumerate_from 0 l.query.posts);
+    }

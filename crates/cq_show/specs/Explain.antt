@@ -1,0 +1,105 @@
+-- Why pending queries wait: a text made of whole lines. (this project's profile)
+use Rattle.std.specs.Prelude.{◌≡◌, ℕ, Bool, true, false, ◌==◌, ◌&&◌, List, [], ◌∷◌, ◌++◌, length, map, filter, codes, decimal, if◌then◌else◌, Option, Some, None}
+use Rattle.std.specs.List.{slice_get, list_any, join_by}
+use Rattle.std.specs.Option.{option_and_then}
+use Rattle.std.specs.Str.{bytes_eq}
+use Rattle.cq_atom.specs.Text.{is_name}
+use Rattle.cq_atom.specs.Atom.{AtomRecord}
+use Rattle.cq_text.specs.Print.{printed_atom}
+use Rattle.cq_match.specs.declared.falls.Reason.{Reason}
+use Rattle.cq_match.specs.declared.falls.Reason.TheVariants.{NotAble, Unmet}
+use Rattle.cq_board.specs.declared.link.Link.{Link}
+use Rattle.cq_board.specs.declared.near.NearMiss.{NearMiss}
+use Rattle.cq_board.specs.declared.waiting.Wait.{Wait}
+use Rattle.cq_board.specs.Pool.{PendingQuery, PoolRecord, name_of}
+use Rattle.cq_board.specs.Board.{links_of, place_of}
+use Rattle.cq_board.specs.Named.{query_named, matched_named}
+use Rattle.cq_board.specs.Near.{post_named, misses_named, miss_named, AreNearest}
+use Rattle.cq_board.specs.Waiting.{is_waiting, IsReason}
+
+-- A text is made of pieces, one for each element of a list, in its order, which tells that element.
+abbrev pub ArePieces : {X : Type 0} → (X → List ℕ → Type 0) → List X → List ℕ → Type 0
+ArePieces tells [] text = text ≡ []
+ArePieces tells (x ∷ xs) text = (piece : List ℕ) × (rest : List ℕ) × tells x piece × ArePieces tells xs rest × (text ≡ piece ++ rest)
+
+-- The atom in its printed form, or nothing where there is none.
+abbrev pub atom_or_none : Option AtomRecord → List ℕ
+atom_or_none None = []
+atom_or_none (Some atom) = printed_atom atom
+
+-- A head of the pending query of that name, where there is one.
+abbrev pub head_named : List ℕ → ℕ → List PendingQuery → Option AtomRecord
+head_named name head pending = option_and_then (λ query. slice_get query.heads head) (query_named name pending)
+
+-- A head that nearly supplies: its query, its place among the heads, and its printed form.
+abbrev pub near_words : List PendingQuery → NearMiss (List ℕ) → List ℕ
+near_words pending near = near.provider ++ codes " head " ++ decimal near.head ++ codes " " ++ atom_or_none (head_named near.provider near.head pending)
+
+-- There is no provider, but these heads are near.
+abbrev pub missing_words : List PendingQuery → List (NearMiss (List ℕ)) → List ℕ
+missing_words pending [] = codes "no provider"
+missing_words pending (near ∷ more) = codes "no provider; near: " ++ join_by (near_words pending) (codes ", ") (near ∷ more)
+
+-- The edge leads to the postcondition of the query of that name.
+abbrev pub leads_to : List ℕ → ℕ → Link (List ℕ) → Bool
+leads_to name post link = bytes_eq name link.waiter && (link.post == post)
+
+-- The names of the queries from which an edge to the postcondition comes, in posting order, each once.
+abbrev pub providers_of : List PendingQuery → List ℕ → ℕ → List (List ℕ)
+providers_of pending name post =
+    let senders = map (λ link. link.provider) (filter (leads_to name post) (links_of pending)) in
+    filter (λ provider. list_any (bytes_eq provider) senders) (map name_of pending)
+
+-- One waits, and more of them wait.
+abbrev pub wait_word : ℕ → List ℕ
+wait_word count = if count == 1 then codes "waits" else codes "wait"
+
+-- Who alone could supply.
+abbrev pub only_words : List (List ℕ) → List ℕ
+only_words names = codes "only " ++ join_by (λ name. name) (codes ", ") names ++ codes ", who " ++ wait_word (length names)
+
+-- What is told of an unmet postcondition, by its providers: all of them wait, or there is none, and then the heads are told that are nearest.
+abbrev pub IsUnmetTold : List PendingQuery → List ℕ → ℕ → List (List ℕ) → List ℕ → Type 0
+IsUnmetTold pending name post [] words =
+    (nearest : List (ℕ × ℕ × ℕ)) × AreNearest (misses_named name post pending) nearest × (words ≡ missing_words pending (map (miss_named pending) nearest))
+IsUnmetTold pending name post (provider ∷ providers) words = words ≡ only_words (provider ∷ providers)
+
+-- A reason why the query of that name waits, once those wait that are told before it.
+abbrev pub IsReasonTold : List PendingQuery → List ℕ → Reason → List ℕ → Type 0
+IsReasonTold pending name NotAble words = words ≡ codes "no row for its body"
+IsReasonTold pending name (Unmet post) words =
+    (unmet : List ℕ) × IsUnmetTold pending name post (providers_of pending name post) unmet
+    × (words ≡ codes "post " ++ decimal post ++ codes " " ++ atom_or_none (post_named name post pending) ++ codes ": " ++ unmet)
+
+-- A step: a query, and why it waits.
+abbrev pub IsStep : List PendingQuery → Wait (List ℕ) → List ℕ → Type 0
+IsStep pending wait line =
+    (words : List ℕ) × IsReasonTold pending wait.name wait.reason words × (line ≡ codes "  " ++ wait.name ++ codes ": " ++ words ++ codes "\n")
+
+-- What is told of a query that waits: its name, and a step for each query on which it rests, itself last.
+pub record IsExplanation (pool : PoolRecord) (name : List ℕ) (text : List ℕ) : Type 0 where
+  pub place : ℕ
+  pub there : place_of name pool.pending ≡ Some place
+  pub waits : List (Wait (List ℕ))
+  pub reason : IsReason pool place waits
+  pub steps : List ℕ
+  pub told : ArePieces (IsStep pool.pending) waits steps
+  pub is : text ≡ name ++ codes " waits\n" ++ steps
+
+-- Whether the query that a word names is matched; nothing where it names no pending one.
+abbrev pub state_of : PoolRecord → List ℕ → Option Bool
+state_of pool word = if is_name word then matched_named word pool else None
+
+-- What is told of a word, by what it names.
+abbrev pub IsToldBy : Option Bool → PoolRecord → List ℕ → List ℕ → Type 0
+IsToldBy None pool word text = text ≡ []
+IsToldBy (Some true) pool word text = text ≡ word ++ codes " is matched\n"
+IsToldBy (Some false) pool word text = IsExplanation pool word text
+
+-- What is told of a word: why the query of that name waits, or that it is matched; nothing where none is pending.
+abbrev pub IsTold : PoolRecord → List ℕ → List ℕ → Type 0
+IsTold pool word text = IsToldBy (state_of pool word) pool word text
+
+-- The names of the queries that wait, in posting order.
+abbrev pub waiting_names : PoolRecord → List (List ℕ)
+waiting_names pool = filter (λ name. is_waiting name pool) (map name_of pool.pending)

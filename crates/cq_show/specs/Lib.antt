@@ -1,0 +1,4 @@
+pub mod Explain
+pub mod Graph
+pub mod Json
+pub mod Steps

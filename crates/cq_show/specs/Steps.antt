@@ -1,0 +1,2 @@
+-- Definitions that only private steps are stated with.
+pub mod Left
