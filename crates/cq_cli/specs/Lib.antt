@@ -1,3 +1,5 @@
 pub mod Status
 pub mod Rows
 pub mod Sessions
+pub mod Views
+pub mod Explained

@@ -1,5 +1,5 @@
 -- How the program ends. (this project's profile)
-use Rattle.std.specs.Prelude.{◌<◌, ℕ, ◌⊎◌}
+use Rattle.std.specs.Prelude.{◌<◌, ℕ, ◌⊎◌, Result, Ok, Err}
 use Rattle.cq_text.specs.Device.{FailedAtTurn}
 use Rattle.cq_report.specs.declared.fault.RunFault.{RunFault}
 use Rattle.cq_report.specs.declared.fault.RunFault.TheVariants as runs
@@ -7,10 +7,12 @@ use Rattle.cq_cli.specs.declared.rows.RowsFault.{RowsFault}
 use Rattle.cq_cli.specs.declared.rows.RowsFault.TheVariants as rows
 use Rattle.cq_cli.specs.declared.sessions.SessionsFault.{SessionsFault}
 use Rattle.cq_cli.specs.declared.sessions.SessionsFault.TheVariants as sessions
+use Rattle.cq_cli.specs.declared.choices.ChoiceFault.{ChoiceFault}
+use Rattle.cq_cli.specs.declared.choices.ChoiceFault.TheVariants as choices
 use Rattle.cq_cli.specs.declared.status.Status.{Status}
-use Rattle.cq_cli.specs.declared.status.Status.TheVariants.{Done, Failed, Usage, NoMemory, BadRecord, Unserved}
+use Rattle.cq_cli.specs.declared.status.Status.TheVariants.{Done, Failed, Usage, NoMemory, BadRecord, Unserved, NotSo}
 
--- Done is 0, a device that failed is 1, and so are sessions that were not served, a fault of usage is 2, want of memory is 3, a record at fault is 4.
+-- Done is 0, a device that failed is 1, and so are sessions that were not served, a fault of usage is 2, want of memory is 3, a record at fault is 4, what is not so on a board is 5.
 abbrev pub code_of : Status → ℕ
 code_of Done = 0
 code_of Failed = 1
@@ -18,6 +20,7 @@ code_of Usage = 2
 code_of NoMemory = 3
 code_of BadRecord = 4
 code_of Unserved = 1
+code_of NotSo = 5
 
 -- A fault of reading or writing is a device that failed.
 abbrev pub status_of_run : RunFault → Status
@@ -45,6 +48,16 @@ status_of_rows (rows.Width index arity) = BadRecord
 status_of_rows (rows.Text index) = BadRecord
 status_of_rows rows.NoMemory = NoMemory
 
+-- Words that are no choice are a fault of usage.
+abbrev pub status_of_choices : ChoiceFault → Status
+status_of_choices (choices.Bad word) = Usage
+status_of_choices choices.NoMemory = NoMemory
+
+-- How the program ends where this was told, or where that fault kept it from being told.
+abbrev pub ended : Result Status RunFault → Status
+ended (Ok status) = status
+ended (Err fault) = status_of_run fault
+
 -- The writer failed, or the reader did at some read or gave no end.
 abbrev pub DeviceFailed : (reads reads' read_failures read_failures' write_failures write_failures' : ℕ) → Type 0
 DeviceFailed reads reads' read_failures read_failures' write_failures write_failures' =
@@ -59,3 +72,4 @@ IsRefused Usage = Unit {0}
 IsRefused NoMemory = ⊥
 IsRefused BadRecord = Unit {0}
 IsRefused Unserved = Unit {0}
+IsRefused NotSo = ⊥

@@ -4,15 +4,17 @@ ghost use Rattle.std.specs.Prelude.{◌≡◌, ◌<◌, ◌^◌};
 ghost use Rattle.cq_cli.specs.declared.status.Status.{Status};
 ghost use Rattle.cq_cli.specs.Status.{DeviceFailed, IsRefused};
 
+use crate::explaining::explain_within;
 use crate::rows::write_rows;
 use crate::sessions::serve_files;
 use crate::status::Status;
+use crate::views::{choice_within, view_within};
 use crate::wanted::{Wanted, read_words};
 use crate::writing::{tell, tell_fault, write_text};
 use clap::Error;
 use clap::error::ErrorKind;
 use cq_budget::Budget;
-use cq_report::{RunFault, run};
+use cq_report::{Numbering, RunFault, run};
 use cq_text::{Sink, Source};
 use std::alloc::{Allocator, Global};
 use std::convert::AsStr;
@@ -54,6 +56,7 @@ fn answer_words<W: Sink, E: Sink>(
 fn answer_replay<A: Allocator + Copy, R: Source, W: Sink, E: Sink>(
     alloc: Global,
     heap: A,
+    numbering: Numbering,
     source: &mut R,
     sink: &mut W,
     errors: &mut E,
@@ -68,7 +71,7 @@ fn answer_replay<A: Allocator + Copy, R: Source, W: Sink, E: Sink>(
     ensures refused { IsRefused result → (sink.new ≡ sink.old) }
     ensures unread { result ≡ Status.Usage → source.new ≡ source.old }
 {
-    let Err(fault) = run(heap, source, sink) else {
+    let Err(fault) = run(heap, numbering, source, sink) else {
         return Status::Done;
     };
     tell_fault(alloc, &fault, errors);
@@ -80,6 +83,7 @@ fn replay_within<A: Allocator + Copy, R: Source, W: Sink, E: Sink>(
     alloc: Global,
     heap: A,
     bytes: usize,
+    numbering: Numbering,
     source: &mut R,
     sink: &mut W,
     errors: &mut E,
@@ -95,7 +99,7 @@ fn replay_within<A: Allocator + Copy, R: Source, W: Sink, E: Sink>(
     ensures unread { result ≡ Status.Usage → source.new ≡ source.old }
 {
     let budget = Budget::new(heap, bytes);
-    answer_replay(alloc, &budget, source, sink, errors)
+    answer_replay(alloc, &budget, numbering, source, sink, errors)
 }
 
 /// Writes the insert lines of the CSV that the source gives, and tells a fault of it.
@@ -151,9 +155,15 @@ fn rows_within<A: Allocator + Copy, R: Source, W: Sink, E: Sink>(
 }
 
 /// Serves the files, and tells a fault of it.
-fn answer_sessions<H: Files + Threads + Wait + Sync, W: Sink, E: Sink>(
+fn answer_sessions<
+    H: Files + Threads + Wait + Sync,
+    A: Allocator + Copy + Send + Sync,
+    W: Sink,
+    E: Sink,
+>(
     host: &H,
     alloc: Global,
+    heap: A,
     setup: &str,
     files: &[&str],
     sink: &mut W,
@@ -165,11 +175,104 @@ fn answer_sessions<H: Files + Threads + Wait + Sync, W: Sink, E: Sink>(
     ensures failed { result ≡ Status.Failed → W.write_failures sink.old < W.write_failures sink.new }
     ensures refused { IsRefused result → (sink.new ≡ sink.old) }
 {
-    let Err(fault) = serve_files(host, alloc, setup, files, sink) else {
+    let Err(fault) = serve_files(host, heap, setup, files, sink) else {
         return Status::Done;
     };
     tell_fault(alloc, &fault, errors);
     Status::of_sessions(fault)
+}
+
+/// Serves the files with no more than so many bytes of the heap out at a time, in all threads together, and tells a fault of it.
+fn sessions_within<
+    H: Files + Threads + Wait + Sync,
+    A: Allocator + Copy + Send + Sync,
+    W: Sink,
+    E: Sink,
+>(
+    host: &H,
+    alloc: Global,
+    heap: A,
+    bytes: usize,
+    setup: &str,
+    files: &[&str],
+    sink: &mut W,
+    errors: &mut E,
+) -> Status
+    requires sink { W.write_failures sink.old < 2 ^ 62 }
+    requires errors { E.write_failures errors.old < 2 ^ 62 }
+    ensures write { W.write_failures sink.old < W.write_failures sink.new → result ≡ Status.Failed }
+    ensures failed { result ≡ Status.Failed → W.write_failures sink.old < W.write_failures sink.new }
+    ensures refused { IsRefused result → (sink.new ≡ sink.old) }
+{
+    let budget = Budget::new(heap, bytes);
+    answer_sessions(host, alloc, &budget, setup, files, sink, errors)
+}
+
+/// Does what is wanted.
+fn answer_wanted<
+    H: Files + Threads + Wait + Sync,
+    A: Allocator + Copy + Send + Sync,
+    R: Source,
+    W: Sink,
+    E: Sink,
+>(
+    host: &H,
+    alloc: Global,
+    heap: A,
+    wanted: &Wanted<'_>,
+    source: &mut R,
+    sink: &mut W,
+    errors: &mut E,
+) -> Status
+    requires reads { R.reads_made source.old < 2 ^ 62 }
+    requires read_failures { R.failures_met source.old < 2 ^ 62 }
+    requires sink { W.write_failures sink.old < 2 ^ 62 }
+    requires errors { E.write_failures errors.old < 2 ^ 62 }
+    ensures read { R.failures_met source.old < R.failures_met source.new → result ≡ Status.Failed }
+    ensures write { W.write_failures sink.old < W.write_failures sink.new → result ≡ Status.Failed }
+    ensures failed { result ≡ Status.Failed → DeviceFailed (R.reads_made source.old) (R.reads_made source.new) (R.failures_met source.old) (R.failures_met source.new) (W.write_failures sink.old) (W.write_failures sink.new) }
+    ensures refused { IsRefused result → (sink.new ≡ sink.old) }
+    ensures unread { result ≡ Status.Usage → source.new ≡ source.old }
+{
+    match wanted {
+        Wanted::Replay {
+            numbering,
+            memory: None,
+        } => answer_replay(alloc, heap, *numbering, source, sink, errors),
+        Wanted::Replay {
+            numbering,
+            memory: Some(bytes),
+        } => replay_within(alloc, heap, *bytes, *numbering, source, sink, errors),
+        Wanted::Rows {
+            relation,
+            arity,
+            memory: None,
+        } => answer_rows(alloc, heap, relation, arity, source, sink, errors),
+        Wanted::Rows {
+            relation,
+            arity,
+            memory: Some(bytes),
+        } => rows_within(alloc, heap, *bytes, relation, arity, source, sink, errors),
+        Wanted::Sessions {
+            setup,
+            files,
+            memory: None,
+        } => answer_sessions(host, alloc, heap, setup, files, sink, errors),
+        Wanted::Sessions {
+            setup,
+            files,
+            memory: Some(bytes),
+        } => sessions_within(host, alloc, heap, *bytes, setup, files, sink, errors),
+        Wanted::View { view, memory } => {
+            view_within(alloc, heap, *memory, *view, source, sink, errors)
+        }
+        Wanted::Explain { names, memory } => {
+            explain_within(alloc, heap, *memory, names, source, sink, errors)
+        }
+        Wanted::Choice { words, memory } => {
+            choice_within(alloc, heap, *memory, words, source, sink, errors)
+        }
+    }
 }
 
 /// Does what the words say. Texts of faults go to the sink of errors, each one line; help goes to the other.
@@ -177,7 +280,7 @@ fn answer_sessions<H: Files + Threads + Wait + Sync, W: Sink, E: Sink>(
 pub(crate) fn answer<
     H: Files + Threads + Wait + Sync,
     S: AsStr,
-    A: Allocator + Copy,
+    A: Allocator + Copy + Send + Sync,
     R: Source,
     W: Sink,
     E: Sink,
@@ -206,28 +309,6 @@ pub(crate) fn answer<
 {
     match read_words(alloc, words) {
         Err(error) => answer_words(alloc, &error, sink, errors),
-        Ok(Wanted::Replay { memory: None }) => answer_replay(alloc, heap, source, sink, errors),
-        Ok(
-            Wanted::Replay {
-                memory: Some(bytes),
-            },
-        ) => replay_within(alloc, heap, bytes, source, sink, errors),
-        Ok(
-            Wanted::Rows {
-                relation,
-                arity,
-                memory: None,
-            },
-        ) => answer_rows(alloc, heap, relation, arity, source, sink, errors),
-        Ok(
-            Wanted::Rows {
-                relation,
-                arity,
-                memory: Some(bytes),
-            },
-        ) => rows_within(alloc, heap, bytes, relation, arity, source, sink, errors),
-        Ok(Wanted::Sessions { setup, files }) => {
-            answer_sessions(host, alloc, setup, &files, sink, errors)
-        }
+        Ok(wanted) => answer_wanted(host, alloc, heap, &wanted, source, sink, errors),
     }
 }

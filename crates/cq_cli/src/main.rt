@@ -1,14 +1,17 @@
-//! The program `board`: replays a script, or turns CSV into the insert lines of one.
+//! The program `board`: replays a script, turns CSV into the insert lines of one, serves files, or tells something of the board that a script leaves.
 //!
-//! `wanted` says what the words ask for, `rows` writes the insert lines of CSV, and `answering` turns words, a source
+//! `wanted` says what the words ask for, `rows` writes the insert lines of CSV, `views` tells what is asked of a board, `explaining` why its queries wait, `choices` reads choices from words, and `answering` turns words, a source
 //! and two sinks into the status that `status` numbers; `main` only opens the three standard streams. What a
 //! script means stands in the crates below.
 #![tactic(auto)]
 
 mod answering;
+mod choices;
+mod explaining;
 mod rows;
 mod sessions;
 mod status;
+mod views;
 mod wanted;
 mod writing;
 

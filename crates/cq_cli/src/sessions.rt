@@ -5,7 +5,7 @@ ghost use Rattle.cq_cli.specs.Sessions.{WroteScript, IsOfFile, IsOfWriting, IsOf
 
 use cq_report::{RunFault, read_whole, run_sessions};
 use cq_text::{Counted, Sink};
-use std::alloc::Global;
+use std::alloc::Allocator;
 use std::fs;
 use std::fs::Files;
 use std::io::ErrorKind;
@@ -34,11 +34,11 @@ pub(crate) enum SessionsFault<'a> {
 }
 
 /// All bytes of the file.
-fn read_file<'a, H: Files>(
+fn read_file<'a, H: Files, A: Allocator>(
     host: &H,
-    alloc: Global,
+    alloc: A,
     path: &'a str,
-) -> Result<Vec<u8>, SessionsFault<'a>>
+) -> Result<Vec<u8, A>, SessionsFault<'a>>
     ensures fault { IfErr result IsOfFile }
 {
     let file = match fs::open(host, path) {
@@ -56,11 +56,11 @@ fn read_file<'a, H: Files>(
 }
 
 /// All bytes of each file, which are read in order.
-fn read_files<'a, H: Files>(
+fn read_files<'a, H: Files, A: Allocator + Copy>(
     host: &H,
-    alloc: Global,
+    alloc: A,
     paths: &[&'a str],
-) -> Result<Vec<Vec<u8>>, SessionsFault<'a>>
+) -> Result<Vec<Vec<u8, A>, A>, SessionsFault<'a>>
     ensures count { IfOk result (λ files. length files.items ≡ length paths.now) }
     ensures fault { IfErr result IsOfFile }
 {
@@ -78,9 +78,14 @@ fn read_files<'a, H: Files>(
 ///
 /// The files are counted before any is opened; then SETUP and the files are opened and read to their ends, one after another
 /// in their order.
-pub(crate) fn serve_files<'a, H: Files + Threads + Wait + Sync, W: Sink>(
+pub(crate) fn serve_files<
+    'a,
+    H: Files + Threads + Wait + Sync,
+    A: Allocator + Copy + Send + Sync,
+    W: Sink,
+>(
     host: &H,
-    alloc: Global,
+    alloc: A,
     setup: &'a str,
     paths: &[&'a str],
     sink: &mut W,

@@ -1,8 +1,9 @@
 //! How the program ends.
 
 ghost use Rattle.std.specs.Prelude.{◌≡◌};
-ghost use Rattle.cq_cli.specs.Status.{code_of, status_of_run, status_of_rows, status_of_sessions};
+ghost use Rattle.cq_cli.specs.Status.{code_of, status_of_run, status_of_choices, status_of_rows, status_of_sessions};
 
+use crate::choices::ChoiceFault;
 use crate::rows::RowsFault;
 use crate::sessions::SessionsFault;
 use cq_report::RunFault;
@@ -22,6 +23,8 @@ pub(crate) enum Status {
     BadRecord,
     /// Sessions were not served: a file failed, or no thread or place was had.
     Unserved,
+    /// What was asked of a board is not so: the choices do not coordinate.
+    NotSo,
 }
 
 impl Status {
@@ -36,6 +39,7 @@ impl Status {
             Status::NoMemory => 3,
             Status::BadRecord => 4,
             Status::Unserved => 1,
+            Status::NotSo => 5,
         }
     }
 
@@ -60,6 +64,16 @@ impl Status {
                 Status::Unserved
             }
             SessionsFault::Run(fault) => Status::of_run(fault),
+        }
+    }
+
+    /// How the program ends after words that are no choices.
+    pub(crate) fn of_choices(fault: ChoiceFault<'_>) -> Status
+        ensures { result ≡ status_of_choices fault.entry }
+    {
+        match fault {
+            ChoiceFault::Bad { word: _ } => Status::Usage,
+            ChoiceFault::NoMemory => Status::NoMemory,
         }
     }
 

@@ -1,11 +1,13 @@
 //! The words of the command line, by the kit's `clap`.
 
-use clap::{Arg, Command, Error, value_parser};
+use crate::views::View;
+use clap::{Arg, ArgAction, ArgMatches, Command, Error, value_parser};
+use cq_report::Numbering;
 use std::alloc::{AllocError, Global};
 use std::convert::AsStr;
 
 /// The number that `--version` tells; CHANGELOG.md says what came with each.
-const VERSION: &str = "0.6.0";
+const VERSION: &str = "0.7.0";
 
 const ABOUT: &str = "A live coordination board for entangled queries.";
 
@@ -19,8 +21,9 @@ Exit status:
   2  words that are no command, a bad relation name, a bad arity, too many files
   3  out of memory
   4  a record of CSV at fault; then nothing is written to standard output
+  5  a choice that does not coordinate, or a name under which no query is pending
 
-docs/formats.md describes the language, its replies, the report, CSV and sessions.";
+docs/formats.md describes the language, its replies, the report, CSV, sessions, and what is told of a board.";
 
 const ABOUT_REPLAY: &str = "Reads a script on standard input, and writes its replies and reports.";
 
@@ -77,17 +80,85 @@ end, and show tells how many entries are published.
 What is written is a script: the relations and limits, each entry under a comment with its number and session, a publish
 and a show, and the replies to all lines as comments. Replayed, it shows the same board.
 
+Where the sessions need more memory than there is, or than --memory allows, nothing is written, and
+`board: out of memory` is told.
+
 Example:
   board sessions setup.board kramer.board jerry.board
 
 Exit status: 0 done (refused lines included), 1 a device failed, 2 usage, 3 out of memory.
 docs/formats.md describes sessions.";
 
+const ABOUT_EXPLAIN: &str =
+    "Reads a script on standard input, and tells why queries of its board wait.";
+
+const BEHIND_EXPLAIN: &str =
+    "The script is read as by `board replay`, and no reply is written. What is told is of the published board, which a `show`
+behind the last line would print: for each query that waits, or for each NAME, the queries on which it rests, itself last, one
+line each. A query waits where its body finds no row, or where nobody supplies a postcondition of it but queries that wait.
+
+Example:
+  relation Flights 2
+  insert Flights(122, Paris)
+  post kramer {R(Jerry, x)} R(Kramer, x) <- Flights(x, Paris)
+  publish
+tells
+  kramer waits
+    kramer: post 0 R(\"Jerry\", x): no provider; near: kramer head 0 R(\"Kramer\", x)
+
+Exit status: 0 done, 1 a device failed, 2 usage, 3 out of memory, 5 no query of a NAME is pending.
+docs/formats.md describes the lines.";
+
+const ABOUT_GRAPH: &str =
+    "Reads a script on standard input, and writes the graph of its board for Graphviz.";
+
+const BEHIND_GRAPH: &str =
+    "The script is read as by `board replay`, and no reply is written. The graph is of the published board, which a `show`
+behind the last line would print: a node for each query, and an edge for each head that supplies a postcondition.
+
+Example:
+  board graph <pool.board | dot -Tsvg >pool.svg
+
+Exit status: 0 done, 1 a device failed, 2 usage, 3 out of memory.
+docs/formats.md describes the graph.";
+
+const ABOUT_JSON: &str =
+    "Reads a script on standard input, and writes the report on its board in JSON.";
+
+const BEHIND_JSON: &str =
+    "The script is read as by `board replay`, and no reply is written. The report is on the published board, which a `show`
+behind the last line would print.
+
+Example:
+  board json <pool.board | jq '.queries[] | select(.state == \"waiting\") | .name'
+
+Exit status: 0 done, 1 a device failed, 2 usage, 3 out of memory.
+docs/formats.md describes the shape.";
+
+const ABOUT_CHOICE: &str =
+    "Reads a script on standard input, and says whether a choice coordinates on its board.";
+
+const BEHIND_CHOICE: &str =
+    "The script is read as by `board replay`, and no reply is written. A CHOICE is a query's name with a value for each variable of
+its body in brackets, in the order in which the report lists them. The choices coordinate where they are of distinct pending
+queries, each a grounding of its query, and each postcondition equals a head of one of them under these values. The board is the published
+one, which a `show` behind the last line would print.
+
+Example:
+  board choice 'kramer(122)' 'jerry(122)' <pool.board
+writes
+  coordinating
+
+Exit status: 0 coordinating, 1 a device failed, 2 usage, 3 out of memory, 5 not coordinating.
+docs/formats.md describes values and choices.";
+
 /// What the words ask for.
 #[derive(Drop, Debug)]
 pub(crate) enum Wanted<'a> {
     /// A script is replayed.
     Replay {
+        /// Whether replies have the numbers of their lines.
+        numbering: Numbering,
         /// How many bytes of memory the run may have at a time; no bound where none is told.
         memory: Option<usize>,
     },
@@ -106,6 +177,29 @@ pub(crate) enum Wanted<'a> {
         setup: &'a str,
         /// The paths of the files.
         files: Vec<&'a str>,
+        /// How many bytes of memory the sessions may have at a time; no bound where none is told.
+        memory: Option<usize>,
+    },
+    /// Something is told of the board that a script leaves.
+    View {
+        /// What is told.
+        view: View,
+        /// How many bytes of memory that may take at a time; no bound where none is told.
+        memory: Option<usize>,
+    },
+    /// It is told why queries of the board that a script leaves wait.
+    Explain {
+        /// The words that stand for the queries' names; none for all that wait.
+        names: Vec<&'a str>,
+        /// How many bytes of memory that may take at a time; no bound where none is told.
+        memory: Option<usize>,
+    },
+    /// It is said whether choices coordinate on the board that a script leaves.
+    Choice {
+        /// The words that stand for the choices.
+        words: Vec<&'a str>,
+        /// How many bytes of memory that may take at a time; no bound where none is told.
+        memory: Option<usize>,
     },
 }
 
@@ -122,6 +216,12 @@ fn replay_command<'a>(alloc: Global) -> Result<Command<'a>, AllocError> {
     Command::new(alloc, "replay")
         .about(ABOUT_REPLAY)
         .after_help(BEHIND_REPLAY)
+        .arg(
+            Arg::new(alloc, "number")
+                .long("number")
+                .action(ArgAction::SetTrue)
+                .help("Write the number of its line, from 1, before each reply"),
+        )?
         .arg(memory(
             alloc,
             "The most bytes of memory that the script may have at a time",
@@ -166,7 +266,58 @@ fn sessions_command<'a>(alloc: Global) -> Result<Command<'a>, AllocError> {
             "FILE",
             "The scripts that are served in threads, 1 to 16",
         )
-        .num_args(1..))
+        .num_args(1..))?
+        .arg(memory(
+            alloc,
+            "The most bytes of memory that the sessions may have at a time",
+        ))
+}
+
+/// The option that bounds the memory of a command that tells something of a board.
+fn view_memory<'a>(alloc: Global) -> Arg<'a> {
+    memory(
+        alloc,
+        "The most bytes of memory that the script and what is told may have at a time",
+    )
+}
+
+fn explain_command<'a>(alloc: Global) -> Result<Command<'a>, AllocError> {
+    Command::new(alloc, "explain")
+        .about(ABOUT_EXPLAIN)
+        .after_help(BEHIND_EXPLAIN)
+        .arg(
+            Arg::new(alloc, "NAME").num_args(0..).help(
+                "The queries that are told of; all that wait where there is no name",
+            ),
+        )?
+        .arg(view_memory(alloc))
+}
+
+fn graph_command<'a>(alloc: Global) -> Result<Command<'a>, AllocError> {
+    Command::new(alloc, "graph")
+        .about(ABOUT_GRAPH)
+        .after_help(BEHIND_GRAPH)
+        .arg(view_memory(alloc))
+}
+
+fn json_command<'a>(alloc: Global) -> Result<Command<'a>, AllocError> {
+    Command::new(alloc, "json")
+        .about(ABOUT_JSON)
+        .after_help(BEHIND_JSON)
+        .arg(view_memory(alloc))
+}
+
+fn choice_command<'a>(alloc: Global) -> Result<Command<'a>, AllocError> {
+    Command::new(alloc, "choice")
+        .about(ABOUT_CHOICE)
+        .after_help(BEHIND_CHOICE)
+        .arg(word(
+            alloc,
+            "CHOICE",
+            "A query's name, and a value for each variable of its body: NAME(V, ..)",
+        )
+        .num_args(1..))?
+        .arg(view_memory(alloc))
 }
 
 fn board_command<'a>(alloc: Global) -> Result<Command<'a>, AllocError> {
@@ -179,7 +330,30 @@ fn board_command<'a>(alloc: Global) -> Result<Command<'a>, AllocError> {
         .bin_name("board")?
         .subcommand(replay_command(alloc)?)?
         .subcommand(rows_command(alloc)?)?
-        .subcommand(sessions_command(alloc)?)
+        .subcommand(sessions_command(alloc)?)?
+        .subcommand(explain_command(alloc)?)?
+        .subcommand(graph_command(alloc)?)?
+        .subcommand(json_command(alloc)?)?
+        .subcommand(choice_command(alloc)?)
+}
+
+/// All the words that stand for that argument.
+fn words_of<'a>(
+    alloc: Global,
+    matches: &ArgMatches<'a>,
+    name: &str,
+) -> Result<Vec<&'a str>, AllocError> {
+    let mut words = Vec::new(alloc);
+    words.extend_from_slice(matches.get_strs(name).unwrap_or(&[]))?;
+    Ok(words)
+}
+
+/// How replies are numbered, by whether the option for it stands there.
+fn numbering(asked: bool) -> Numbering {
+    match asked {
+        true => Numbering::Numbered,
+        false => Numbering::Plain,
+    }
 }
 
 /// What the words ask for, of which the first is the program's name.
@@ -195,17 +369,34 @@ pub(crate) fn read_words<'a, S: AsStr>(alloc: Global, words: &'a [S]) -> Result<
             arity: rows.get_str("ARITY").unwrap_or(""),
             memory: rows.get_one::<usize>("memory"),
         }),
-        Some(("sessions", sessions)) => {
-            let mut files = Vec::new(alloc);
-            files.extend_from_slice(sessions.get_strs("FILE").unwrap_or(&[]))?;
-            Ok(Wanted::Sessions {
-                setup: sessions.get_str("SETUP").unwrap_or(""),
-                files,
-            })
-        }
+        Some(("sessions", sessions)) => Ok(Wanted::Sessions {
+            setup: sessions.get_str("SETUP").unwrap_or(""),
+            files: words_of(alloc, sessions, "FILE")?,
+            memory: sessions.get_one::<usize>("memory"),
+        }),
+        Some(("explain", explain)) => Ok(Wanted::Explain {
+            names: words_of(alloc, explain, "NAME")?,
+            memory: explain.get_one::<usize>("memory"),
+        }),
+        Some(("graph", graph)) => Ok(Wanted::View {
+            view: View::Graph,
+            memory: graph.get_one::<usize>("memory"),
+        }),
+        Some(("json", json)) => Ok(Wanted::View {
+            view: View::Json,
+            memory: json.get_one::<usize>("memory"),
+        }),
+        Some(("choice", choice)) => Ok(Wanted::Choice {
+            words: words_of(alloc, choice, "CHOICE")?,
+            memory: choice.get_one::<usize>("memory"),
+        }),
         Some((_, replay)) => Ok(Wanted::Replay {
+            numbering: numbering(replay.get_flag("number")),
             memory: replay.get_one::<usize>("memory"),
         }),
-        None => Ok(Wanted::Replay { memory: None }),
+        None => Ok(Wanted::Replay {
+            numbering: Numbering::Plain,
+            memory: None,
+        }),
     }
 }

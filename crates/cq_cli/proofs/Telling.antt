@@ -1,0 +1,25 @@
+-- What is said of a board that a script leaves.
+use Rattle.std.proofs.Common.{◌≡◌, ℕ, List, Option, subst}
+use Rattle.std.specs.Prelude.{◌↔◌, Result, Ok, Err, IfOk, IfErr, IfSome}
+use Rattle.std.proofs.lemmas.Result.{IfOk-weaker}
+use Rattle.std.proofs.lemmas.Option.{IfSome_then}
+use Rattle.cq_board.specs.Choice.{ChoiceRecord, IsCoordinating}
+use Rattle.cq_board.specs.Pool.{PoolRecord}
+use Rattle.cq_report.specs.declared.fault.RunFault.{RunFault}
+use Rattle.cq_report.specs.Lines.{lines_of}
+use Rattle.cq_report.specs.Reading.{Reading}
+use Rattle.cq_report.specs.Output.{AreReadings, pool_left}
+use Rattle.cq_cli.specs.declared.status.Status.{Status}
+use Rattle.cq_cli.specs.declared.status.Status.TheVariants.{Done}
+
+-- what is said of choices on the board is said of them on the pool that the lines leave
+pub said_of_left : (r : Result Status RunFault) (left : Option (List ℕ)) (board : PoolRecord) (choices : List ChoiceRecord) → IfSome left (λ input. (readings : List Reading) → AreReadings (lines_of input) readings → board ≡ pool_left readings)
+    → IfOk r (λ status. (status ≡ Done) ↔ IsCoordinating board choices)
+    → IfOk r (λ status. IfSome left (λ input. (readings : List Reading) → AreReadings (lines_of input) readings → (status ≡ Done) ↔ IsCoordinating (pool_left readings) choices))
+said_of_left r left board choices is said =
+    IfOk-weaker r _ _ (λ status so. IfSome_then left is (λ input played readings are. subst (λ (pool : PoolRecord). (status ≡ Done) ↔ IsCoordinating pool choices) (played readings are) so)) said
+
+-- what holds whether a run failed or not holds where it failed
+pub where_failed : (r : Result Status RunFault) {P : Type 0} → P → IfErr r (λ fault. P)
+where_failed (Ok status) p = tt
+where_failed (Err fault) p = p

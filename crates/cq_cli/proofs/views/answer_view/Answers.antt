@@ -1,0 +1,5 @@
+use Rattle.cq_cli.proofs.Telling.{where_failed}
+use Rattle.cq_cli.proofs.views.answer_view.Goals as goal
+
+pub end_with-requires : goal.end_with-requires
+end_with-requires g c = where_failed c.show_view-shown.result c.requires.errors

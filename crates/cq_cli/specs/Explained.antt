@@ -1,0 +1,34 @@
+-- What is told of why queries wait. (this project's profile)
+use Rattle.std.specs.Prelude.{ℕ, not, List, [], ◌∷◌, ◌++◌, filter, codes, Option}
+use Rattle.std.specs.List.{flat_map}
+use Rattle.std.specs.Option.{is_some}
+use Rattle.std.specs.Io.KnownBytes.{Appends}
+use Rattle.cq_board.specs.Pool.{PoolRecord}
+use Rattle.cq_show.specs.Explain.{ArePieces, IsTold, state_of, waiting_names}
+use Rattle.cq_cli.specs.declared.status.Status.{Status}
+use Rattle.cq_cli.specs.declared.status.Status.TheVariants.{Done, NotSo}
+
+-- Of all queries that wait where no name is asked for, and else of each of the names.
+abbrev pub IsExplained : PoolRecord → List (List ℕ) → List ℕ → Type 0
+IsExplained pool [] text = ArePieces (IsTold pool) (waiting_names pool) text
+IsExplained pool (name ∷ names) text = ArePieces (IsTold pool) (name ∷ names) text
+
+-- That is what a writer took.
+abbrev pub IsWritten : PoolRecord → List (List ℕ) → Option (List ℕ) → Option (List ℕ) → Type 0
+IsWritten pool names before after = (text : List ℕ) × IsExplained pool names text × Appends before after text
+
+-- The names under which no query is pending.
+abbrev pub absent_names : PoolRecord → List (List ℕ) → List (List ℕ)
+absent_names pool names = filter (λ name. not (is_some (state_of pool name))) names
+
+-- Such a name, told in a line.
+abbrev pub absent_line : List ℕ → List ℕ
+absent_line name = codes "board: no pending query " ++ name ++ codes "\n"
+
+abbrev pub absent_lines : PoolRecord → List (List ℕ) → List ℕ
+absent_lines pool names = flat_map absent_line (absent_names pool names)
+
+-- All was told where there is no such name.
+abbrev pub status_of_absent : List (List ℕ) → Status
+status_of_absent [] = Done
+status_of_absent (name ∷ names) = NotSo

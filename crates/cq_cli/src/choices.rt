@@ -1,0 +1,157 @@
+//! Choices from words: `NAME(V, ..)`.
+
+use cq_atom::{Bad, Name, Value};
+use cq_board::Choice;
+use cq_text::{Form, TextFault, read_ground_atom};
+use std::alloc::{AllocError, Allocator};
+use thiserror::Error;
+
+/// Why words are no choice.
+#[derive(Clone, Copy, Debug, PartialEq, Eq, Error)]
+pub(crate) enum ChoiceFault<'a> {
+    /// The word is no name with values in brackets behind it.
+    #[error("bad choice: {word}")]
+    Bad { word: &'a str },
+    /// A growth was refused.
+    #[error("out of memory")]
+    NoMemory,
+}
+
+impl<'a> From<AllocError> for ChoiceFault<'a> {
+    fn from(_e: AllocError) -> ChoiceFault<'a> {
+        ChoiceFault::NoMemory
+    }
+}
+
+/// Where a reader of bytes stands: between quotes or not.
+#[derive(Clone, Copy)]
+struct Quotes {
+    inside: bool,
+    escaped: bool,
+}
+
+impl Quotes {
+    /// Behind a further byte. A quote behind a backslash ends no text.
+    fn step(&mut self, byte: u8) {
+        let turns = byte == b'"' && !self.escaped;
+        self.escaped = byte == b'\\' && self.inside && !self.escaped;
+        self.inside = self.inside != turns;
+    }
+}
+
+/// The bytes of a ground atom with that value alone.
+fn atom_around<A: Allocator>(alloc: A, text: &[u8]) -> Result<Vec<u8, A>, AllocError> {
+    let mut atom = Vec::from_slice(alloc, b"V(")?;
+    atom.extend_from_slice(text)?;
+    atom.push(b')')?;
+    Ok(atom)
+}
+
+/// The value that a text stands for, or nothing where it stands for none.
+fn value_of<A: Allocator + Copy>(alloc: A, text: &[u8]) -> Result<Option<Value<A>>, AllocError> {
+    let atom = atom_around(alloc, text)?;
+    match read_ground_atom(alloc, &atom, Form::Two) {
+        Ok(row) => match row.values() {
+            [value] => Ok(Some(value.copy()?)),
+            _ => Ok(None),
+        },
+        Err(TextFault::NoMemory) => Err(AllocError),
+        Err(TextFault::At { kind: _, offset: _ }) => Ok(None),
+    }
+}
+
+/// Adds the value that a text stands for, and says whether it stands for one.
+fn add_value<A: Allocator + Copy>(
+    alloc: A,
+    values: &mut Vec<Value<A>, A>,
+    text: &[u8],
+) -> Result<bool, AllocError> {
+    let Some(value) = value_of(alloc, text)? else {
+        return Ok(false);
+    };
+    values.push(value)?;
+    Ok(true)
+}
+
+/// Adds the values that a text lists, which commas part that stand in no quotes, and says whether each is one.
+fn add_values<A: Allocator + Copy>(
+    alloc: A,
+    values: &mut Vec<Value<A>, A>,
+    piece: &mut Vec<u8, A>,
+    text: &[u8],
+) -> Result<bool, AllocError> {
+    let mut quotes = Quotes {
+        inside: false,
+        escaped: false,
+    };
+    for byte in text {
+        if *byte == b',' && !quotes.inside {
+            if !add_value(alloc, values, piece)? {
+                return Ok(false);
+            }
+            piece.clear();
+        } else {
+            quotes.step(*byte);
+            piece.push(*byte)?;
+        }
+    }
+    add_value(alloc, values, piece)
+}
+
+/// The values that a text lists, or nothing where one of them is none. An empty text lists no value.
+fn values_of<A: Allocator + Copy>(
+    alloc: A,
+    text: &[u8],
+) -> Result<Option<Vec<Value<A>, A>>, AllocError> {
+    let mut values = Vec::new(alloc);
+    let mut piece = Vec::new(alloc);
+    if text.is_empty() || add_values(alloc, &mut values, &mut piece, text)? {
+        Ok(Some(values))
+    } else {
+        Ok(None)
+    }
+}
+
+/// The name in front of the brackets, and what stands in them.
+fn parts_of(word: &str) -> Option<(&str, &[u8])> {
+    let (name, behind) = word.split_once('(')?;
+    let (last, inner) = behind.as_bytes().split_last()?;
+    if *last == b')' {
+        Some((name, inner))
+    } else {
+        None
+    }
+}
+
+/// The choice that a word stands for: a query's name, and values in brackets, with commas between them.
+fn choice_of<A: Allocator + Copy>(alloc: A, word: &str) -> Result<Option<Choice<A>>, AllocError> {
+    let Some((name, inner)) = parts_of(word) else {
+        return Ok(None);
+    };
+    let name = match Name::new(alloc, name) {
+        Ok(name) => name,
+        Err(Bad::NoMemory) => return Err(AllocError),
+        Err(_) => return Ok(None),
+    };
+    match values_of(alloc, inner)? {
+        Some(values) => Ok(Some(Choice { name, values })),
+        None => Ok(None),
+    }
+}
+
+/// The choices that the words stand for, in their order.
+pub(crate) fn read_choices<'a, A: Allocator + Copy>(
+    alloc: A,
+    words: &[&'a str],
+) -> Result<Vec<Choice<A>, A>, ChoiceFault<'a>> {
+    let mut choices = Vec::new(alloc);
+    for word in words {
+        let Some(choice) = choice_of(alloc, *word)? else {
+            return Err(ChoiceFault::Bad { word: *word });
+        };
+        if choices.push(choice).is_err() {
+            return Err(ChoiceFault::NoMemory);
+        }
+    }
+    Ok(choices)
+}

@@ -1,0 +1,230 @@
+//! Why queries of the board that a script leaves wait.
+
+ghost use Rattle.std.specs.Prelude.{◌≡◌, ◌<◌, ◌+◌, ◌^◌, ◌⊎◌, ◌++◌, ◌∷◌, [], List, map, string_bytes, IfOk, IfErr, IfSome, OnOk, MatchResult};
+ghost use Rattle.std.specs.Option.{is_some};
+ghost use Rattle.cq_report.specs.Lines.{lines_of};
+ghost use Rattle.cq_report.specs.Reading.{Reading};
+ghost use Rattle.cq_report.specs.Output.{AreReadings, pool_left};
+ghost use Rattle.cq_report.specs.Run.{IfRead, IsOfOutput, IsOfRead, IsOfRun, failures_of};
+ghost use Rattle.cq_text.specs.Device.{FailedAtTurn};
+ghost use Rattle.cq_show.specs.Explain.{state_of};
+ghost use Rattle.cq_cli.specs.declared.status.Status.{Status};
+ghost use Rattle.cq_cli.specs.Status.{DeviceFailed, IsRefused};
+ghost use Rattle.cq_cli.specs.Explained.{absent_line, absent_lines, absent_names, IsExplained, IsWritten, status_of_absent};
+
+use crate::status::Status;
+use crate::views::{end_with, write_lines};
+use crate::writing::tell;
+use cq_atom::{Bad, Name};
+use cq_board::Board;
+use cq_budget::Budget;
+use cq_report::{RunFault, read_script};
+use cq_show::{explain, explain_named};
+use cq_text::{Sink, Source};
+use std::alloc::{AllocError, Allocator, Global};
+
+/// What is told of these names; of all queries that wait where there is none.
+fn text_of<A: Allocator + Copy>(
+    heap: A,
+    board: &Board<A>,
+    names: &[&str],
+) -> Result<String<A>, AllocError>
+    ensures { IfOk result (λ text. IsExplained board.now (map (λ name. name.now) names.now) (string_bytes text)) }
+{
+    if names.is_empty() {
+        explain(heap, board)
+    } else {
+        explain_named(heap, board, names)
+    }
+}
+
+/// Whether a query is pending under that name.
+fn is_pending<A: Allocator + Copy>(
+    heap: A,
+    board: &Board<A>,
+    name: &str,
+) -> Result<bool, AllocError>
+    ensures { IfOk result (λ pending. pending ≡ is_some (state_of board.now name.now)) }
+{
+    match Name::new(heap, name) {
+        Ok(name) => Ok(board.is_matched(&name).is_some()),
+        Err(Bad::NoMemory) => Err(AllocError),
+        Err(_) => Ok(false),
+    }
+}
+
+fn absent_line<A: Allocator>(heap: A, name: &str) -> Result<String<A>, AllocError>
+    ensures { IfOk result (λ text. string_bytes text ≡ absent_line name.now) }
+{
+    format!(in heap; "board: no pending query {name}\n")
+}
+
+/// Puts a line for the name, where no query is pending under it.
+fn put_if_absent<A: Allocator + Copy>(
+    heap: A,
+    board: &Board<A>,
+    name: &str,
+    page: &mut String<A>,
+) -> Result<(), AllocError>
+    ensures { OnOk result (string_bytes page.new ≡ string_bytes page.old ++ absent_lines board.now (name.now ∷ [])) }
+{
+    if is_pending(heap, board, name)? {
+        return Ok(());
+    }
+    let line = absent_line(heap, name)?;
+    page.push_str(line.as_str())?;
+    Ok(())
+}
+
+/// Puts a line for each name under which no query is pending on an empty page.
+fn put_absent<A: Allocator + Copy>(
+    heap: A,
+    board: &Board<A>,
+    names: &[&str],
+    page: &mut String<A>,
+) -> Result<(), AllocError>
+    ensures { string_bytes page.old ≡ [] → OnOk result (string_bytes page.new ≡ absent_lines board.now (map (λ name. name.now) names.now)) }
+{
+    for name in names {
+        put_if_absent(heap, board, name, page)?;
+    }
+    Ok(())
+}
+
+/// Tells the names under which no query is pending.
+fn tell_absent<A: Allocator + Copy, E: Sink>(
+    heap: A,
+    board: &Board<A>,
+    names: &[&str],
+    errors: &mut E,
+) -> Result<Status, RunFault>
+    requires { E.write_failures errors.old < 2 ^ 62 }
+    ensures status { IfOk result (λ status. status ≡ status_of_absent (absent_names board.now (map (λ name. name.now) names.now))) }
+    ensures either { IfOk result (λ status. (status ≡ Status.Done) ⊎ (status ≡ Status.NotSo)) }
+    ensures kind { IfErr result (λ fault. fault ≡ RunFault.NoMemory) }
+    ensures errors { IfErr result (λ _. errors.new ≡ errors.old) }
+{
+    let mut lines = String::new(heap);
+    put_absent(heap, board, names, &mut lines)?;
+    if lines.is_empty() {
+        return Ok(Status::Done);
+    }
+    tell(errors, &lines);
+    Ok(Status::NotSo)
+}
+
+/// Writes what is told of the names.
+fn write_told<A: Allocator + Copy, W: Sink>(
+    heap: A,
+    board: &Board<A>,
+    names: &[&str],
+    sink: &mut W,
+) -> Result<(), RunFault>
+    requires { W.write_failures sink.old < 2 ^ 62 }
+    ensures ok { OnOk result (IsWritten board.now (map (λ name. name.now) names.now) (W.taken sink.old) (W.taken sink.new)) }
+    ensures kind { IfErr result IsOfOutput }
+    ensures failures { MatchResult result (λ _. W.write_failures sink.new ≡ W.write_failures sink.old) (λ fault. W.write_failures sink.new ≡ W.write_failures sink.old + failures_of fault) }
+{
+    let text = text_of(heap, board, names)?;
+    write_lines(sink, &text)
+}
+
+/// Writes what is told of the names, and tells those under which no query is pending.
+fn write_explained<A: Allocator + Copy, W: Sink, E: Sink>(
+    heap: A,
+    board: &Board<A>,
+    names: &[&str],
+    sink: &mut W,
+    errors: &mut E,
+) -> Result<Status, RunFault>
+    requires sink { W.write_failures sink.old < 2 ^ 62 }
+    requires errors { E.write_failures errors.old < 2 ^ 62 }
+    ensures ok { OnOk result (IsWritten board.now (map (λ name. name.now) names.now) (W.taken sink.old) (W.taken sink.new)) }
+    ensures status { IfOk result (λ status. status ≡ status_of_absent (absent_names board.now (map (λ name. name.now) names.now))) }
+    ensures either { IfOk result (λ status. (status ≡ Status.Done) ⊎ (status ≡ Status.NotSo)) }
+    ensures kind { IfErr result IsOfOutput }
+    ensures errors { IfErr result (λ _. errors.new ≡ errors.old) }
+    ensures failures { MatchResult result (λ _. W.write_failures sink.new ≡ W.write_failures sink.old) (λ fault. W.write_failures sink.new ≡ W.write_failures sink.old + failures_of fault) }
+{
+    write_told(heap, board, names, sink)?;
+    tell_absent(heap, board, names, errors)
+}
+
+/// Reads the script that the source gives, and writes why queries of the board that it leaves wait.
+fn show_explained<A: Allocator + Copy, R: Source, W: Sink, E: Sink>(
+    heap: A,
+    names: &[&str],
+    source: &mut R,
+    sink: &mut W,
+    errors: &mut E,
+) -> Result<Status, RunFault>
+    requires reads { R.reads_made source.old < 2 ^ 62 }
+    requires read_failures { R.failures_met source.old < 2 ^ 62 }
+    requires sink { W.write_failures sink.old < 2 ^ 62 }
+    requires errors { E.write_failures errors.old < 2 ^ 62 }
+    ensures told { OnOk result (IfSome (R.left source.old) (λ input. (readings : List Reading) → AreReadings (lines_of input) readings → IsWritten (pool_left readings) (map (λ name. name.now) names.now) (W.taken sink.old) (W.taken sink.new))) }
+    ensures status { IfOk result (λ status. IfSome (R.left source.old) (λ input. (readings : List Reading) → AreReadings (lines_of input) readings → status ≡ status_of_absent (absent_names (pool_left readings) (map (λ name. name.now) names.now)))) }
+    ensures either { IfOk result (λ status. (status ≡ Status.Done) ⊎ (status ≡ Status.NotSo)) }
+    ensures kind { IfErr result IsOfRun }
+    ensures errors { IfErr result (λ _. errors.new ≡ errors.old) }
+    ensures turn { IfErr result (λ fault. IfRead fault (λ turn. FailedAtTurn turn (R.reads_made source.old) (R.reads_made source.new) (R.failures_met source.old) (R.failures_met source.new))) }
+    ensures read_failures { MatchResult result (λ _. R.failures_met source.new ≡ R.failures_met source.old) (λ fault. (IsOfRead fault → ⊥) → R.failures_met source.new ≡ R.failures_met source.old) }
+    ensures write_failures { MatchResult result (λ _. W.write_failures sink.new ≡ W.write_failures sink.old) (λ fault. W.write_failures sink.new ≡ W.write_failures sink.old + failures_of fault) }
+{
+    let script = read_script(heap, source)?;
+    write_explained(heap, script.board(), names, sink, errors)
+}
+
+/// The same, or tells a fault.
+fn answer_explained<A: Allocator + Copy, R: Source, W: Sink, E: Sink>(
+    alloc: Global,
+    heap: A,
+    names: &[&str],
+    source: &mut R,
+    sink: &mut W,
+    errors: &mut E,
+) -> Status
+    requires reads { R.reads_made source.old < 2 ^ 62 }
+    requires read_failures { R.failures_met source.old < 2 ^ 62 }
+    requires sink { W.write_failures sink.old < 2 ^ 62 }
+    requires errors { E.write_failures errors.old < 2 ^ 62 }
+    ensures told { result ≡ Status.Done → IfSome (R.left source.old) (λ input. (readings : List Reading) → AreReadings (lines_of input) readings → IsWritten (pool_left readings) (map (λ name. name.now) names.now) (W.taken sink.old) (W.taken sink.new)) }
+    ensures status { (result ≡ Status.Done) ⊎ (result ≡ Status.NotSo) → IfSome (R.left source.old) (λ input. (readings : List Reading) → AreReadings (lines_of input) readings → result ≡ status_of_absent (absent_names (pool_left readings) (map (λ name. name.now) names.now))) }
+    ensures read { R.failures_met source.old < R.failures_met source.new → result ≡ Status.Failed }
+    ensures write { W.write_failures sink.old < W.write_failures sink.new → result ≡ Status.Failed }
+    ensures failed { result ≡ Status.Failed → DeviceFailed (R.reads_made source.old) (R.reads_made source.new) (R.failures_met source.old) (R.failures_met source.new) (W.write_failures sink.old) (W.write_failures sink.new) }
+    ensures refused { IsRefused result → (sink.new ≡ sink.old) }
+    ensures unread { result ≡ Status.Usage → source.new ≡ source.old }
+{
+    let shown = show_explained(heap, names, source, sink, errors);
+    end_with(alloc, shown, errors)
+}
+
+/// The same with no more than so many bytes of the heap out at a time, where a number of them is told.
+pub(crate) fn explain_within<A: Allocator + Copy, R: Source, W: Sink, E: Sink>(
+    alloc: Global,
+    heap: A,
+    memory: Option<usize>,
+    names: &[&str],
+    source: &mut R,
+    sink: &mut W,
+    errors: &mut E,
+) -> Status
+    requires reads { R.reads_made source.old < 2 ^ 62 }
+    requires read_failures { R.failures_met source.old < 2 ^ 62 }
+    requires sink { W.write_failures sink.old < 2 ^ 62 }
+    requires errors { E.write_failures errors.old < 2 ^ 62 }
+    ensures told { result ≡ Status.Done → IfSome (R.left source.old) (λ input. (readings : List Reading) → AreReadings (lines_of input) readings → IsWritten (pool_left readings) (map (λ name. name.now) names.now) (W.taken sink.old) (W.taken sink.new)) }
+    ensures status { (result ≡ Status.Done) ⊎ (result ≡ Status.NotSo) → IfSome (R.left source.old) (λ input. (readings : List Reading) → AreReadings (lines_of input) readings → result ≡ status_of_absent (absent_names (pool_left readings) (map (λ name. name.now) names.now))) }
+    ensures read { R.failures_met source.old < R.failures_met source.new → result ≡ Status.Failed }
+    ensures write { W.write_failures sink.old < W.write_failures sink.new → result ≡ Status.Failed }
+    ensures failed { result ≡ Status.Failed → DeviceFailed (R.reads_made source.old) (R.reads_made source.new) (R.failures_met source.old) (R.failures_met source.new) (W.write_failures sink.old) (W.write_failures sink.new) }
+    ensures refused { IsRefused result → (sink.new ≡ sink.old) }
+    ensures unread { result ≡ Status.Usage → source.new ≡ source.old }
+{
+    let Some(bytes) = memory else {
+        return answer_explained(alloc, heap, names, source, sink, errors);
+    };
+    let budget = Budget::new(heap, bytes);
+    answer_explained(alloc, &budget, names, source, sink, errors)
+}

@@ -1,0 +1,302 @@
+//! What is told of the board that a script leaves.
+
+ghost use Rattle.std.specs.Prelude.{◌≡◌, ◌<◌, ◌+◌, ◌^◌, ◌↔◌, ◌⊎◌, ℕ, List, string_bytes, IfOk, IfErr, IfSome, OnOk, MatchResult};
+ghost use Rattle.std.specs.Io.KnownBytes.{Appends};
+ghost use Rattle.cq_board.specs.Choice.{IsCoordinating};
+ghost use Rattle.cq_report.specs.Lines.{lines_of};
+ghost use Rattle.cq_report.specs.Reading.{Reading};
+ghost use Rattle.cq_report.specs.Output.{AreReadings, pool_left};
+ghost use Rattle.cq_report.specs.Run.{IfRead, IsOfOutput, IsOfRead, IsOfRun, failures_of};
+ghost use Rattle.cq_text.specs.Device.{FailedAtTurn};
+ghost use Rattle.cq_cli.specs.declared.status.Status.{Status};
+ghost use Rattle.cq_cli.specs.Status.{DeviceFailed, IsRefused, ended};
+ghost use Rattle.cq_cli.specs.Views.{viewed};
+
+use crate::choices::read_choices;
+use crate::status::Status;
+use crate::writing::{tell_fault, write_text};
+use cq_board::{Board, Choice};
+use cq_budget::Budget;
+use cq_report::{RunFault, read_script};
+use cq_show::{graph, json};
+use cq_text::{Sink, Source};
+use std::alloc::{AllocError, Allocator, Global};
+
+/// What is told of a board.
+#[derive(Clone, Copy, Debug, PartialEq, Eq)]
+pub(crate) enum View {
+    /// The graph of who can supply whom.
+    Graph,
+    /// What the report tells, in JSON.
+    Json,
+}
+
+/// What is told of a board, as one text.
+fn text_of<A: Allocator + Copy>(
+    heap: A,
+    board: &Board<A>,
+    view: View,
+) -> Result<String<A>, AllocError>
+    ensures { IfOk result (λ text. string_bytes text ≡ viewed view board.now) }
+{
+    match view {
+        View::Graph => graph(heap, board),
+        View::Json => json(heap, board),
+    }
+}
+
+/// Writes a text that was made, if it was.
+fn put<W: Sink, A: Allocator>(
+    sink: &mut W,
+    text: Result<String<A>, AllocError>,
+) -> Result<(), RunFault>
+    requires { W.write_failures sink.old < 2 ^ 62 }
+    ensures ok { (bytes : List ℕ) → IfOk text (λ text. string_bytes text ≡ bytes) → OnOk result (Appends (W.taken sink.old) (W.taken sink.new) bytes) }
+    ensures kind { IfErr result IsOfOutput }
+    ensures failures { MatchResult result (λ _. W.write_failures sink.new ≡ W.write_failures sink.old) (λ fault. W.write_failures sink.new ≡ W.write_failures sink.old + failures_of fault) }
+{
+    let text = text?;
+    write_lines(sink, &text)
+}
+
+/// Writes a text of whole lines.
+pub(crate) fn write_lines<W: Sink>(sink: &mut W, line: &str) -> Result<(), RunFault>
+    requires { W.write_failures sink.old < 2 ^ 62 }
+    ensures ok { OnOk result (Appends (W.taken sink.old) (W.taken sink.new) line.now) }
+    ensures kind { IfErr result IsOfOutput }
+    ensures failures { MatchResult result (λ _. W.write_failures sink.new ≡ W.write_failures sink.old) (λ fault. W.write_failures sink.new ≡ W.write_failures sink.old + failures_of fault) }
+{
+    match write_text(sink, line) {
+        Ok(()) => Ok(()),
+        Err(_) => Err(RunFault::Write),
+    }
+}
+
+/// Tells of the board what is asked of it.
+fn write_view<A: Allocator + Copy, W: Sink>(
+    heap: A,
+    board: &Board<A>,
+    view: View,
+    sink: &mut W,
+) -> Result<Status, RunFault>
+    requires { W.write_failures sink.old < 2 ^ 62 }
+    ensures ok { OnOk result (Appends (W.taken sink.old) (W.taken sink.new) (viewed view board.now)) }
+    ensures done { IfOk result (λ status. status ≡ Status.Done) }
+    ensures kind { IfErr result IsOfOutput }
+    ensures failures { MatchResult result (λ _. W.write_failures sink.new ≡ W.write_failures sink.old) (λ fault. W.write_failures sink.new ≡ W.write_failures sink.old + failures_of fault) }
+{
+    put(sink, text_of(heap, board, view))?;
+    Ok(Status::Done)
+}
+
+/// Says whether the choices coordinate.
+fn write_choice<W: Sink, A: Allocator + Copy>(
+    board: &Board<A>,
+    choices: &[Choice<A>],
+    sink: &mut W,
+) -> Result<Status, RunFault>
+    requires { W.write_failures sink.old < 2 ^ 62 }
+    ensures done { IfOk result (λ status. (status ≡ Status.Done) ↔ IsCoordinating board.now choices.now) }
+    ensures either { IfOk result (λ status. (status ≡ Status.Done) ⊎ (status ≡ Status.NotSo)) }
+    ensures kind { IfErr result IsOfOutput }
+    ensures failures { MatchResult result (λ _. W.write_failures sink.new ≡ W.write_failures sink.old) (λ fault. W.write_failures sink.new ≡ W.write_failures sink.old + failures_of fault) }
+{
+    if board.check_choice(choices) {
+        write_lines(sink, "coordinating\n")?;
+        return Ok(Status::Done);
+    }
+    write_lines(sink, "not coordinating\n")?;
+    Ok(Status::NotSo)
+}
+
+/// Tells a fault, where there is one, and how the program ends.
+pub(crate) fn end_with<E: Sink>(
+    alloc: Global,
+    told: Result<Status, RunFault>,
+    errors: &mut E,
+) -> Status
+    requires { IfErr told (λ _. E.write_failures errors.old < 2 ^ 62) }
+    ensures { result ≡ ended told }
+{
+    match told {
+        Ok(status) => status,
+        Err(fault) => {
+            tell_fault(alloc, &fault, errors);
+            Status::of_run(fault)
+        }
+    }
+}
+
+/// Reads the script that the source gives, and writes of the board that it leaves what is asked of it.
+fn show_view<A: Allocator + Copy, R: Source, W: Sink>(
+    heap: A,
+    view: View,
+    source: &mut R,
+    sink: &mut W,
+) -> Result<Status, RunFault>
+    requires reads { R.reads_made source.old < 2 ^ 62 }
+    requires read_failures { R.failures_met source.old < 2 ^ 62 }
+    requires sink { W.write_failures sink.old < 2 ^ 62 }
+    ensures told { OnOk result (IfSome (R.left source.old) (λ input. (readings : List Reading) → AreReadings (lines_of input) readings → Appends (W.taken sink.old) (W.taken sink.new) (viewed view (pool_left readings)))) }
+    ensures done { IfOk result (λ status. status ≡ Status.Done) }
+    ensures kind { IfErr result IsOfRun }
+    ensures turn { IfErr result (λ fault. IfRead fault (λ turn. FailedAtTurn turn (R.reads_made source.old) (R.reads_made source.new) (R.failures_met source.old) (R.failures_met source.new))) }
+    ensures read_failures { MatchResult result (λ _. R.failures_met source.new ≡ R.failures_met source.old) (λ fault. (IsOfRead fault → ⊥) → R.failures_met source.new ≡ R.failures_met source.old) }
+    ensures write_failures { MatchResult result (λ _. W.write_failures sink.new ≡ W.write_failures sink.old) (λ fault. W.write_failures sink.new ≡ W.write_failures sink.old + failures_of fault) }
+{
+    let script = read_script(heap, source)?;
+    write_view(heap, script.board(), view, sink)
+}
+
+/// Reads the script that the source gives, and says whether the choices coordinate on the board that it leaves.
+fn show_choice<A: Allocator + Copy, R: Source, W: Sink>(
+    heap: A,
+    choices: &[Choice<A>],
+    source: &mut R,
+    sink: &mut W,
+) -> Result<Status, RunFault>
+    requires reads { R.reads_made source.old < 2 ^ 62 }
+    requires read_failures { R.failures_met source.old < 2 ^ 62 }
+    requires sink { W.write_failures sink.old < 2 ^ 62 }
+    ensures so { IfOk result (λ status. IfSome (R.left source.old) (λ input. (readings : List Reading) → AreReadings (lines_of input) readings → (status ≡ Status.Done) ↔ IsCoordinating (pool_left readings) choices.now)) }
+    ensures either { IfOk result (λ status. (status ≡ Status.Done) ⊎ (status ≡ Status.NotSo)) }
+    ensures kind { IfErr result IsOfRun }
+    ensures turn { IfErr result (λ fault. IfRead fault (λ turn. FailedAtTurn turn (R.reads_made source.old) (R.reads_made source.new) (R.failures_met source.old) (R.failures_met source.new))) }
+    ensures read_failures { MatchResult result (λ _. R.failures_met source.new ≡ R.failures_met source.old) (λ fault. (IsOfRead fault → ⊥) → R.failures_met source.new ≡ R.failures_met source.old) }
+    ensures write_failures { MatchResult result (λ _. W.write_failures sink.new ≡ W.write_failures sink.old) (λ fault. W.write_failures sink.new ≡ W.write_failures sink.old + failures_of fault) }
+{
+    let script = read_script(heap, source)?;
+    write_choice(script.board(), choices, sink)
+}
+
+/// Reads the script that the source gives, and tells of the board that it leaves what is asked of it, or tells a fault.
+fn answer_view<A: Allocator + Copy, R: Source, W: Sink, E: Sink>(
+    alloc: Global,
+    heap: A,
+    view: View,
+    source: &mut R,
+    sink: &mut W,
+    errors: &mut E,
+) -> Status
+    requires reads { R.reads_made source.old < 2 ^ 62 }
+    requires read_failures { R.failures_met source.old < 2 ^ 62 }
+    requires sink { W.write_failures sink.old < 2 ^ 62 }
+    requires errors { E.write_failures errors.old < 2 ^ 62 }
+    ensures told { result ≡ Status.Done → IfSome (R.left source.old) (λ input. (readings : List Reading) → AreReadings (lines_of input) readings → Appends (W.taken sink.old) (W.taken sink.new) (viewed view (pool_left readings))) }
+    ensures read { R.failures_met source.old < R.failures_met source.new → result ≡ Status.Failed }
+    ensures write { W.write_failures sink.old < W.write_failures sink.new → result ≡ Status.Failed }
+    ensures failed { result ≡ Status.Failed → DeviceFailed (R.reads_made source.old) (R.reads_made source.new) (R.failures_met source.old) (R.failures_met source.new) (W.write_failures sink.old) (W.write_failures sink.new) }
+    ensures refused { IsRefused result → (sink.new ≡ sink.old) }
+    ensures unread { result ≡ Status.Usage → source.new ≡ source.old }
+{
+    let shown = show_view(heap, view, source, sink);
+    end_with(alloc, shown, errors)
+}
+
+/// The same with no more than so many bytes of the heap out at a time, where a number of them is told.
+pub(crate) fn view_within<A: Allocator + Copy, R: Source, W: Sink, E: Sink>(
+    alloc: Global,
+    heap: A,
+    memory: Option<usize>,
+    view: View,
+    source: &mut R,
+    sink: &mut W,
+    errors: &mut E,
+) -> Status
+    requires reads { R.reads_made source.old < 2 ^ 62 }
+    requires read_failures { R.failures_met source.old < 2 ^ 62 }
+    requires sink { W.write_failures sink.old < 2 ^ 62 }
+    requires errors { E.write_failures errors.old < 2 ^ 62 }
+    ensures told { result ≡ Status.Done → IfSome (R.left source.old) (λ input. (readings : List Reading) → AreReadings (lines_of input) readings → Appends (W.taken sink.old) (W.taken sink.new) (viewed view (pool_left readings))) }
+    ensures read { R.failures_met source.old < R.failures_met source.new → result ≡ Status.Failed }
+    ensures write { W.write_failures sink.old < W.write_failures sink.new → result ≡ Status.Failed }
+    ensures failed { result ≡ Status.Failed → DeviceFailed (R.reads_made source.old) (R.reads_made source.new) (R.failures_met source.old) (R.failures_met source.new) (W.write_failures sink.old) (W.write_failures sink.new) }
+    ensures refused { IsRefused result → (sink.new ≡ sink.old) }
+    ensures unread { result ≡ Status.Usage → source.new ≡ source.old }
+{
+    let Some(bytes) = memory else {
+        return answer_view(alloc, heap, view, source, sink, errors);
+    };
+    let budget = Budget::new(heap, bytes);
+    answer_view(alloc, &budget, view, source, sink, errors)
+}
+
+/// Reads the script that the source gives, and says whether the choices coordinate on the board that it leaves, or tells a fault.
+fn say_choice<A: Allocator + Copy, R: Source, W: Sink, E: Sink>(
+    alloc: Global,
+    heap: A,
+    choices: &[Choice<A>],
+    source: &mut R,
+    sink: &mut W,
+    errors: &mut E,
+) -> Status
+    requires reads { R.reads_made source.old < 2 ^ 62 }
+    requires read_failures { R.failures_met source.old < 2 ^ 62 }
+    requires sink { W.write_failures sink.old < 2 ^ 62 }
+    requires errors { E.write_failures errors.old < 2 ^ 62 }
+    ensures so { result ≡ Status.Done → IfSome (R.left source.old) (λ input. (readings : List Reading) → AreReadings (lines_of input) readings → IsCoordinating (pool_left readings) choices.now) }
+    ensures not_so { result ≡ Status.NotSo → IfSome (R.left source.old) (λ input. (readings : List Reading) → AreReadings (lines_of input) readings → IsCoordinating (pool_left readings) choices.now → ⊥) }
+    ensures read { R.failures_met source.old < R.failures_met source.new → result ≡ Status.Failed }
+    ensures write { W.write_failures sink.old < W.write_failures sink.new → result ≡ Status.Failed }
+    ensures failed { result ≡ Status.Failed → DeviceFailed (R.reads_made source.old) (R.reads_made source.new) (R.failures_met source.old) (R.failures_met source.new) (W.write_failures sink.old) (W.write_failures sink.new) }
+    ensures refused { IsRefused result → (sink.new ≡ sink.old) }
+    ensures unread { result ≡ Status.Usage → source.new ≡ source.old }
+{
+    let shown = show_choice(heap, choices, source, sink);
+    end_with(alloc, shown, errors)
+}
+
+/// Reads choices from words, and says of them the same, or what is wrong with the words.
+fn answer_choice<A: Allocator + Copy, R: Source, W: Sink, E: Sink>(
+    alloc: Global,
+    heap: A,
+    words: &[&str],
+    source: &mut R,
+    sink: &mut W,
+    errors: &mut E,
+) -> Status
+    requires reads { R.reads_made source.old < 2 ^ 62 }
+    requires read_failures { R.failures_met source.old < 2 ^ 62 }
+    requires sink { W.write_failures sink.old < 2 ^ 62 }
+    requires errors { E.write_failures errors.old < 2 ^ 62 }
+    ensures read { R.failures_met source.old < R.failures_met source.new → result ≡ Status.Failed }
+    ensures write { W.write_failures sink.old < W.write_failures sink.new → result ≡ Status.Failed }
+    ensures failed { result ≡ Status.Failed → DeviceFailed (R.reads_made source.old) (R.reads_made source.new) (R.failures_met source.old) (R.failures_met source.new) (W.write_failures sink.old) (W.write_failures sink.new) }
+    ensures refused { IsRefused result → (sink.new ≡ sink.old) }
+    ensures unread { result ≡ Status.Usage → source.new ≡ source.old }
+{
+    match read_choices(heap, words) {
+        Ok(choices) => say_choice(alloc, heap, &choices, source, sink, errors),
+        Err(fault) => {
+            tell_fault(alloc, &fault, errors);
+            Status::of_choices(fault)
+        }
+    }
+}
+
+/// The same with no more than so many bytes of the heap out at a time, where a number of them is told.
+pub(crate) fn choice_within<A: Allocator + Copy, R: Source, W: Sink, E: Sink>(
+    alloc: Global,
+    heap: A,
+    memory: Option<usize>,
+    words: &[&str],
+    source: &mut R,
+    sink: &mut W,
+    errors: &mut E,
+) -> Status
+    requires reads { R.reads_made source.old < 2 ^ 62 }
+    requires read_failures { R.failures_met source.old < 2 ^ 62 }
+    requires sink { W.write_failures sink.old < 2 ^ 62 }
+    requires errors { E.write_failures errors.old < 2 ^ 62 }
+    ensures read { R.failures_met source.old < R.failures_met source.new → result ≡ Status.Failed }
+    ensures write { W.write_failures sink.old < W.write_failures sink.new → result ≡ Status.Failed }
+    ensures failed { result ≡ Status.Failed → DeviceFailed (R.reads_made source.old) (R.reads_made source.new) (R.failures_met source.old) (R.failures_met source.new) (W.write_failures sink.old) (W.write_failures sink.new) }
+    ensures refused { IsRefused result → (sink.new ≡ sink.old) }
+    ensures unread { result ≡ Status.Usage → source.new ≡ source.old }
+{
+    let Some(bytes) = memory else {
+        return answer_choice(alloc, heap, words, source, sink, errors);
+    };
+    let budget = Budget::new(heap, bytes);
+    answer_choice(alloc, &budget, words, source, sink, errors)
+}
