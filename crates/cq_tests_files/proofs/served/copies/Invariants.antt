@@ -2,4 +2,4 @@ use Rattle.std.proofs.Common.{◌≡◌, length}
 use Rattle.cq_tests_files.proofs.served.copies.Given as goal
 
 abbrev pub invariant-loop-file : goal.invariant-loop-file
-invariant-loop-file l = length l.copies.items ≡ l.file-index
+invariant-loop-file g l = length l.copies.items ≡ l.file-index
