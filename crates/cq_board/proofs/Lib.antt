@@ -1,4 +1,7 @@
 pub mod CallerLemmas
+pub mod Pieces
+pub mod Left
+pub mod Looked
 pub mod Members
 pub mod Searches
 pub mod Examples

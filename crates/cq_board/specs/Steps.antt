@@ -7,3 +7,4 @@ pub mod Scratch
 pub mod Flags
 pub mod Waiting
 pub mod Near
+pub mod Left

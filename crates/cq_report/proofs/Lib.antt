@@ -1,6 +1,4 @@
 mod Examples
-pub mod Pieces
-pub mod Left
 pub mod Named
 pub mod Refused
 pub mod Answering

@@ -6,7 +6,7 @@ use Rattle.std.specs.List.{slice_get}
 use Rattle.cq_desk.specs.declared.journal.Entry.{Entry}
 use Rattle.cq_board.specs.Edits.{Edit}
 use Rattle.cq_report.specs.Script.{Sheet, entry_lines, entries_from, replies_from, sheets_from}
-use Rattle.cq_report.proofs.Pieces.{ahead_at}
+use Rattle.cq_board.proofs.Pieces.{ahead_at}
 
 -- pieces joined one way are joined the other
 pub joined : (a b c d : List ℕ) → a ++ (b ++ (c ++ d)) ≡ a ++ b ++ c ++ d

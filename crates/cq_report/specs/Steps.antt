@@ -2,7 +2,6 @@
 pub mod Written
 pub mod Put
 pub mod Count
-pub mod Left
 pub mod Writing
 pub mod Kept
 pub mod Serving

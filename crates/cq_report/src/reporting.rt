@@ -11,7 +11,7 @@ ghost use Rattle.cq_board.specs.Pool.{PendingQuery};
 ghost use Rattle.cq_board.specs.Edges.{edges_of};
 ghost use Rattle.cq_board.specs.Board.{name_at, name_or_none};
 ghost use Rattle.cq_report.specs.Report.{relation_line, state_word, name_line, text_line, provider_line, crowd_word, count_line, post_lines, groundings_line, values_line, query_lines, report};
-ghost use Rattle.cq_report.specs.Steps.Left.{query_at, edges_to_query, edges_at};
+ghost use Rattle.cq_board.specs.Steps.Left.{query_at, edges_to_query, edges_at};
 
 use crate::listing::Listing;
 use crate::page::put;

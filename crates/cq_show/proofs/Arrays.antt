@@ -6,7 +6,7 @@ use Rattle.json.specs.Json.{Json}
 use Rattle.json.specs.Token.{Token, begin_array, end_array}
 use Rattle.json.specs.Tree.{json_tokens, items_tokens}
 use Rattle.cq_show.specs.Json.{items}
-use Rattle.cq_show.proofs.Pieces.{ahead_at}
+use Rattle.cq_board.proofs.Pieces.{ahead_at}
 
 -- The tokens of these items, with the closing bracket.
 abbrev pub listed : {X : Type 0} → (X → Json) → List X → List Token

@@ -13,7 +13,7 @@ use Rattle.cq_board.specs.Board.{is_matched_at, place_of}
 use Rattle.cq_board.specs.Named.{matched_named}
 use Rattle.cq_board.specs.Waiting.{is_waiting, IsReason}
 use Rattle.cq_show.specs.Explain.{ArePieces, near_words, missing_words, IsStep, IsExplanation, IsToldBy}
-use Rattle.cq_show.proofs.Pieces.{by_bool}
+use Rattle.cq_board.proofs.Pieces.{by_bool}
 
 pieces_more : {X : Type 0} (tells : X → List ℕ → Type 0) (xs : List X) (x : X) (text piece : List ℕ) → ArePieces tells xs text → tells x piece → ArePieces tells (xs ++ x ∷ []) (text ++ piece)
 pieces_more tells [] x text piece h k = (piece, [], k, refl, ap (λ (z : List ℕ). z ++ piece) h ∙ sym (append-nil piece))

@@ -1,4 +1,3 @@
 pub mod Explain
 pub mod Graph
 pub mod Json
-pub mod Steps

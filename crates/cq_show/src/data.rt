@@ -15,7 +15,7 @@ ghost use Rattle.cq_board.specs.Edges.{edges_of};
 ghost use Rattle.cq_board.specs.Board.{name_at, name_or_none};
 ghost use Rattle.cq_show.specs.Graph.{state_word};
 ghost use Rattle.cq_show.specs.Json.{array_of, value_json, relation_json, provider_json, post_json, posts_json, grounding_json, query_json, json_of};
-ghost use Rattle.cq_show.specs.Steps.Left.{query_at, edges_to_query, edges_at};
+ghost use Rattle.cq_board.specs.Steps.Left.{query_at, edges_to_query, edges_at};
 
 use crate::limits::MOST_KEPT;
 use crate::listing::{Listing, is_matched, name_or_none, state_word};

@@ -8,7 +8,7 @@ ghost use Rattle.cq_board.specs.Board.{name_at};
 ghost use Rattle.cq_text.specs.Print.{escaped, printed_atom};
 ghost use Rattle.cq_match.specs.Graph.{edges_to};
 ghost use Rattle.cq_show.specs.Graph.{border, box, query_box, crowd_mark, arrow, gap_box, gap_arrow, supply, supplies, graph};
-ghost use Rattle.cq_show.specs.Steps.Left.{query_at, edges_to_query, edges_at};
+ghost use Rattle.cq_board.specs.Steps.Left.{query_at, edges_to_query, edges_at};
 
 use crate::listing::{Listing, is_matched, state_word};
 use crate::page::put;

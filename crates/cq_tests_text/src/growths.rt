@@ -4,7 +4,7 @@ use cq_atom::{Query, Row};
 use cq_tests_growths::{Outcome, Tried, refusals};
 use cq_text::{
     Counted, Form, TextFault, WholeFault, print_atom, print_query, print_row, print_values,
-    read_command, read_ground_atom, read_query, read_whole,
+    push_escaped, read_command, read_ground_atom, read_query, read_whole,
 };
 use std::alloc::{AllocError, Allocator};
 use std::io::{self, Read};
@@ -109,7 +109,7 @@ fn refused_growth_in_printing(rt: HostRuntime) {
     assert!(rt; matches!(refusals::<Printing>(rt.alloc()), Ok(1..)));
 }
 
-/// An atom, a row and its values printed.
+/// An atom, a row and its values printed, and a text as it stands between quotes.
 struct PrintingParts;
 
 fn prints_row<A: Allocator + Copy>(alloc: A, row: &Row<A>) -> Result<bool, AllocError> {
@@ -125,12 +125,18 @@ fn prints_head<A: Allocator + Copy>(alloc: A, query: &Query<A>) -> Result<bool, 
     }
 }
 
+fn prints_escaped<A: Allocator + Copy>(alloc: A) -> Result<bool, AllocError> {
+    let mut text = String::from_str(alloc, "a")?;
+    push_escaped(&mut text, r#"b"\c"#)?;
+    Ok(text.as_str() == r#"ab\"\\c"#)
+}
+
 fn prints<A: Allocator + Copy>(
     alloc: A,
     query: &Query<A>,
     row: &Row<A>,
 ) -> Result<bool, AllocError> {
-    Ok(prints_head(alloc, query)? && prints_row(alloc, row)?)
+    Ok(prints_head(alloc, query)? && prints_row(alloc, row)? && prints_escaped(alloc)?)
 }
 
 impl Tried for PrintingParts {

@@ -30,7 +30,12 @@ fn push_character<A: Allocator>(printed: &mut String<A>, character: char) -> Res
     Ok(())
 }
 
-fn push_escaped<A: Allocator>(printed: &mut String<A>, text: &str) -> Result<(), AllocError>
+/// Puts a text behind what is there, as it stands between quotes: with a backslash before each of its quotes and backslashes.
+/// In proportion to the text.
+///
+/// # Errors
+/// `AllocError` where a growth was refused. A front of the text may have been put then.
+pub fn push_escaped<A: Allocator>(printed: &mut String<A>, text: &str) -> Result<(), AllocError>
     ensures { OnOk result (string_bytes printed.new ≡ string_bytes printed.old ++ escaped text.now) }
 {
     for character in text.chars() {

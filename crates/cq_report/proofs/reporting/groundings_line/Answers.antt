@@ -2,7 +2,7 @@ use Rattle.std.proofs.Common.{◌≡◌, ◌++◌, List, ℕ, ap, ◌∙◌, app
 use Rattle.std.specs.Prelude.{codes, decimal, string_bytes, IfOk}
 use Rattle.std.specs.List.{join_by}
 use Rattle.cq_atom.specs.Query.{variables_of}
-use Rattle.cq_report.proofs.Pieces.{join_map}
+use Rattle.cq_board.proofs.Pieces.{join_map}
 use Rattle.cq_report.proofs.reporting.groundings_line.Goals as goal
 
 pub returns : goal.returns

@@ -5,8 +5,8 @@ use Rattle.std.proofs.lemmas.List.Sums.{prefix_len-le-length}
 use Rattle.cq_atom.specs.Atom.{AtomRecord}
 use Rattle.cq_match.specs.declared.edge.Edge.{Edge}
 use Rattle.cq_report.specs.Report.{count_line, provider_line, post_lines}
-use Rattle.cq_report.proofs.Pieces.{item_at, numbered_at, nothing_left}
-use Rattle.cq_report.proofs.Left.{post_front}
+use Rattle.cq_board.proofs.Pieces.{item_at, numbered_at, nothing_left}
+use Rattle.cq_board.proofs.Left.{post_front}
 use Rattle.cq_report.proofs.Pages.{put_on, put_end}
 use Rattle.cq_report.proofs.reporting.put_posts.Goals as goal
 

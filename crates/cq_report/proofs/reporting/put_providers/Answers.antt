@@ -3,7 +3,7 @@ use Rattle.std.specs.Prelude.{string_bytes}
 use Rattle.std.specs.List.{flat_map}
 use Rattle.cq_match.specs.declared.edge.Edge.{Edge}
 use Rattle.cq_report.specs.Report.{provider_line}
-use Rattle.cq_report.proofs.Pieces.{pieces_at, got_at, nothing_left}
+use Rattle.cq_board.proofs.Pieces.{pieces_at, got_at, nothing_left}
 use Rattle.cq_report.proofs.Pages.{put_on, put_end}
 use Rattle.cq_report.proofs.reporting.put_providers.Goals as goal
 

@@ -3,9 +3,10 @@ use Rattle.std.specs.Prelude.{string_bytes, unwrap_or, Option, OnOk}
 use Rattle.std.specs.List.{flat_map, enumerate_from}
 use Rattle.cq_atom.specs.Query.{variables_of}
 use Rattle.cq_report.specs.Report.{name_line, text_line, post_lines, groundings_line, values_line}
-use Rattle.cq_report.specs.Steps.Left.{edges_to_query}
-use Rattle.cq_report.proofs.Named.{query_never, groundings_never, query_shown, told_as}
-use Rattle.cq_report.proofs.Left.{posted_at}
+use Rattle.cq_board.specs.Steps.Left.{edges_to_query}
+use Rattle.cq_board.proofs.Looked.{query_never, groundings_never, query_shown}
+use Rattle.cq_report.proofs.Named.{told_as}
+use Rattle.cq_board.proofs.Left.{posted_at}
 use Rattle.cq_report.proofs.Pages.{put_both, put_then}
 use Rattle.cq_report.proofs.reporting.put_query.Goals as goal
 

@@ -3,7 +3,7 @@ use Rattle.std.specs.Prelude.{string_bytes}
 use Rattle.std.specs.List.{flat_map, slice_get}
 use Rattle.cq_rel.specs.Tables.{Declaration, declaration}
 use Rattle.cq_report.specs.Report.{relation_line}
-use Rattle.cq_report.proofs.Pieces.{pieces_at, nothing_left}
+use Rattle.cq_board.proofs.Pieces.{pieces_at, nothing_left}
 use Rattle.cq_report.proofs.Pages.{put_on, put_end}
 use Rattle.cq_report.proofs.reporting.put_relations.Goals as goal
 

@@ -3,7 +3,7 @@ use Rattle.std.specs.Prelude.{string_bytes, IfOk}
 use Rattle.std.specs.List.{flat_map}
 use Rattle.cq_atom.specs.Value.{ValueContent}
 use Rattle.cq_report.specs.Report.{values_line}
-use Rattle.cq_report.proofs.Pieces.{mapped_at, read_at}
+use Rattle.cq_board.proofs.Pieces.{mapped_at, read_at}
 use Rattle.cq_report.proofs.Pages.{put_on}
 use Rattle.cq_report.proofs.reporting.put_values.Goals as goal
 

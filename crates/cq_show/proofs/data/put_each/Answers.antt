@@ -4,9 +4,9 @@ use Rattle.std.proofs.lemmas.List.Sums.{prefix_len-le-length}
 use Rattle.json.specs.Tree.{json_tokens}
 use Rattle.cq_board.specs.Pool.{PendingQuery}
 use Rattle.cq_show.specs.Json.{query_json}
-use Rattle.cq_show.proofs.Pieces.{item_at, nothing_left}
-use Rattle.cq_show.proofs.Left.{waiter_front}
-use Rattle.cq_show.proofs.Named.{name_read, as_many}
+use Rattle.cq_board.proofs.Pieces.{item_at, nothing_left}
+use Rattle.cq_board.proofs.Left.{waiter_front}
+use Rattle.cq_board.proofs.Looked.{name_read, as_many}
 use Rattle.cq_show.proofs.Arrays.{listed, listed_numbered, put_array}
 use Rattle.cq_show.proofs.Pages.{put_on}
 use Rattle.cq_show.proofs.data.put_each.Goals as goal

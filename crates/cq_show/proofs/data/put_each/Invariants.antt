@@ -1,7 +1,7 @@
 use Rattle.std.proofs.Common.{◌≡◌, ◌++◌, drop}
 use Rattle.std.specs.List.{flat_map, enumerate_from}
 use Rattle.cq_show.specs.Json.{query_json}
-use Rattle.cq_show.specs.Steps.Left.{edges_at}
+use Rattle.cq_board.specs.Steps.Left.{edges_at}
 use Rattle.cq_show.proofs.Arrays.{listed}
 use Rattle.cq_show.proofs.data.put_each.Given as goal
 

@@ -2,7 +2,7 @@ use Rattle.std.proofs.Common.{◌≡◌, ◌+◌, ◌++◌, List, map, drop, sub
 use Rattle.json.specs.Tree.{json_tokens}
 use Rattle.cq_atom.specs.Value.{ValueContent}
 use Rattle.cq_show.specs.Json.{grounding_json}
-use Rattle.cq_show.proofs.Pieces.{read_at, nothing_left}
+use Rattle.cq_board.proofs.Pieces.{read_at, nothing_left}
 use Rattle.cq_show.proofs.Arrays.{listed, listed_of, put_array}
 use Rattle.cq_show.proofs.Pages.{put_on}
 use Rattle.cq_show.proofs.data.put_groundings.Goals as goal

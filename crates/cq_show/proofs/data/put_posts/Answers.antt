@@ -7,8 +7,8 @@ use Rattle.cq_match.specs.declared.edge.Edge.{Edge}
 use Rattle.cq_match.specs.Graph.{edges_to}
 use Rattle.cq_board.specs.Edges.{edges_of}
 use Rattle.cq_show.specs.Json.{post_json}
-use Rattle.cq_show.proofs.Pieces.{item_at, nothing_left}
-use Rattle.cq_show.proofs.Left.{post_front}
+use Rattle.cq_board.proofs.Pieces.{item_at, nothing_left}
+use Rattle.cq_board.proofs.Left.{post_front}
 use Rattle.cq_show.proofs.Arrays.{listed, listed_numbered, put_array}
 use Rattle.cq_show.proofs.Pages.{put_on}
 use Rattle.cq_show.proofs.data.put_posts.Goals as goal

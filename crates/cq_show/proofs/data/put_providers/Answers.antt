@@ -2,7 +2,7 @@ use Rattle.std.proofs.Common.{◌+◌, drop, ap, arith, get_or}
 use Rattle.json.specs.Tree.{json_tokens}
 use Rattle.cq_match.specs.declared.edge.Edge.{Edge}
 use Rattle.cq_show.specs.Json.{provider_json}
-use Rattle.cq_show.proofs.Pieces.{got_at, nothing_left}
+use Rattle.cq_board.proofs.Pieces.{got_at, nothing_left}
 use Rattle.cq_show.proofs.Arrays.{listed, listed_at, put_array}
 use Rattle.cq_show.proofs.Pages.{put_on}
 use Rattle.cq_show.proofs.data.put_providers.Goals as goal

@@ -7,9 +7,9 @@ use Rattle.cq_atom.specs.Query.{variables_of}
 use Rattle.cq_text.specs.Print.{printed_query}
 use Rattle.cq_show.specs.Graph.{state_word}
 use Rattle.cq_show.specs.Json.{array_of, posts_json, grounding_json}
-use Rattle.cq_show.specs.Steps.Left.{edges_to_query}
-use Rattle.cq_show.proofs.Named.{query_never, query_shown, groundings_never, groundings_shown, named_there}
-use Rattle.cq_show.proofs.Left.{posted_at, same_query}
+use Rattle.cq_board.specs.Steps.Left.{edges_to_query}
+use Rattle.cq_board.proofs.Looked.{query_never, query_shown, groundings_never, groundings_shown, named_there}
+use Rattle.cq_board.proofs.Left.{posted_at, same_query}
 use Rattle.cq_show.proofs.Told.{told_as}
 use Rattle.cq_show.proofs.Pages.{put_both, put_then}
 use Rattle.cq_show.proofs.data.put_query.Goals as goal

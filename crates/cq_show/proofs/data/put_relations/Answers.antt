@@ -3,7 +3,7 @@ use Rattle.std.specs.List.{slice_get}
 use Rattle.cq_rel.specs.Tables.{Declaration, declaration}
 use Rattle.json.specs.Tree.{json_tokens}
 use Rattle.cq_show.specs.Json.{relation_json}
-use Rattle.cq_show.proofs.Pieces.{nothing_left}
+use Rattle.cq_board.proofs.Pieces.{nothing_left}
 use Rattle.cq_show.proofs.Arrays.{listed, listed_at, put_array}
 use Rattle.cq_show.proofs.Pages.{put_on}
 use Rattle.cq_show.proofs.data.put_relations.Goals as goal

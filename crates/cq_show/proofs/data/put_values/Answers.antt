@@ -1,7 +1,7 @@
 use Rattle.std.proofs.Common.{◌+◌, drop, ap, arith}
 use Rattle.json.specs.Tree.{json_tokens}
 use Rattle.cq_show.specs.Json.{value_json}
-use Rattle.cq_show.proofs.Pieces.{read_at, nothing_left}
+use Rattle.cq_board.proofs.Pieces.{read_at, nothing_left}
 use Rattle.cq_show.proofs.Arrays.{listed, listed_at, put_array}
 use Rattle.cq_show.proofs.Pages.{put_on}
 use Rattle.cq_show.proofs.data.put_values.Goals as goal

@@ -3,7 +3,7 @@ use Rattle.std.specs.Prelude.{string_bytes}
 use Rattle.json.specs.Json.{string}
 use Rattle.json.specs.Token as token
 use Rattle.json.specs.Tree.{json_tokens}
-use Rattle.cq_show.proofs.Pieces.{read_at, nothing_left}
+use Rattle.cq_board.proofs.Pieces.{read_at, nothing_left}
 use Rattle.cq_show.proofs.Arrays.{listed, listed_of, put_array}
 use Rattle.cq_show.proofs.Pages.{put_on}
 use Rattle.cq_show.proofs.data.put_variables.Goals as goal

@@ -3,7 +3,7 @@ use Rattle.std.specs.Prelude.{codes, string_bytes, length, ◌==◌, IfOk}
 use Rattle.std.specs.List.{join_by}
 use Rattle.cq_board.specs.Near.{miss_read}
 use Rattle.cq_show.specs.Explain.{near_words}
-use Rattle.cq_show.proofs.Pieces.{join_map}
+use Rattle.cq_board.proofs.Pieces.{join_map}
 use Rattle.cq_show.proofs.Explained.{missing_some}
 use Rattle.cq_show.proofs.explaining.missing_words.Goals as goal
 

@@ -3,7 +3,7 @@ use Rattle.std.specs.Prelude.{codes, string_bytes, IfOk}
 use Rattle.std.specs.List.{join_by}
 use Rattle.std.proofs.lemmas.List.{length-map}
 use Rattle.cq_show.specs.Explain.{wait_word}
-use Rattle.cq_show.proofs.Pieces.{join_map}
+use Rattle.cq_board.proofs.Pieces.{join_map}
 use Rattle.cq_show.proofs.explaining.only_words.Goals as goal
 
 abbrev line : List ℕ → List ℕ → List ℕ

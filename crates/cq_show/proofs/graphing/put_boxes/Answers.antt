@@ -3,8 +3,8 @@ use Rattle.std.specs.Prelude.{string_bytes, IfOk}
 use Rattle.std.specs.List.{flat_map, enumerate_from}
 use Rattle.cq_board.specs.Pool.{PendingQuery}
 use Rattle.cq_show.specs.Graph.{box, query_box}
-use Rattle.cq_show.proofs.Pieces.{item_at, numbered_at, nothing_left}
-use Rattle.cq_show.proofs.Named.{name_read, as_many, named_there}
+use Rattle.cq_board.proofs.Pieces.{item_at, numbered_at, nothing_left}
+use Rattle.cq_board.proofs.Looked.{name_read, as_many, named_there}
 use Rattle.cq_show.proofs.Pages.{put_on, put_end}
 use Rattle.cq_show.proofs.graphing.put_boxes.Goals as goal
 

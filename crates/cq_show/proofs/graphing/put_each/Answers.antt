@@ -4,9 +4,9 @@ use Rattle.std.specs.List.{flat_map, enumerate_from}
 use Rattle.std.proofs.lemmas.List.Sums.{prefix_len-le-length}
 use Rattle.cq_board.specs.Pool.{PendingQuery}
 use Rattle.cq_show.specs.Graph.{supplies}
-use Rattle.cq_show.proofs.Pieces.{item_at, numbered_at, nothing_left}
-use Rattle.cq_show.proofs.Left.{waiter_front}
-use Rattle.cq_show.proofs.Named.{name_read, as_many}
+use Rattle.cq_board.proofs.Pieces.{item_at, numbered_at, nothing_left}
+use Rattle.cq_board.proofs.Left.{waiter_front}
+use Rattle.cq_board.proofs.Looked.{name_read, as_many}
 use Rattle.cq_show.proofs.Pages.{put_on, put_end}
 use Rattle.cq_show.proofs.graphing.put_each.Goals as goal
 

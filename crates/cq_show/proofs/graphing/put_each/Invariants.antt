@@ -2,7 +2,7 @@ use Rattle.std.proofs.Common.{◌≡◌, ◌++◌, drop}
 use Rattle.std.specs.Prelude.{string_bytes}
 use Rattle.std.specs.List.{flat_map, enumerate_from}
 use Rattle.cq_show.specs.Graph.{supplies}
-use Rattle.cq_show.specs.Steps.Left.{edges_at}
+use Rattle.cq_board.specs.Steps.Left.{edges_at}
 use Rattle.cq_show.proofs.graphing.put_each.Given as goal
 
 abbrev pub invariant-loop-waiter : goal.invariant-loop-waiter

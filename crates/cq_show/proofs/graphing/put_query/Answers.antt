@@ -5,9 +5,9 @@ use Rattle.cq_atom.specs.Query.{QueryRecord}
 use Rattle.cq_board.specs.Edges.{edges_of}
 use Rattle.cq_match.specs.Graph.{edges_to}
 use Rattle.cq_show.specs.Graph.{supply}
-use Rattle.cq_show.specs.Steps.Left.{edges_to_query}
-use Rattle.cq_show.proofs.Named.{query_never, query_shown}
-use Rattle.cq_show.proofs.Left.{posted_at, same_query}
+use Rattle.cq_board.specs.Steps.Left.{edges_to_query}
+use Rattle.cq_board.proofs.Looked.{query_never, query_shown}
+use Rattle.cq_board.proofs.Left.{posted_at, same_query}
 use Rattle.cq_show.proofs.graphing.put_query.Goals as goal
 
 pub unreachable-requires : goal.unreachable-requires

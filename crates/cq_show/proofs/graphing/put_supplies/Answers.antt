@@ -7,8 +7,8 @@ use Rattle.cq_match.specs.declared.edge.Edge.{Edge}
 use Rattle.cq_match.specs.Graph.{edges_to}
 use Rattle.cq_board.specs.Edges.{edges_of}
 use Rattle.cq_show.specs.Graph.{supply}
-use Rattle.cq_show.proofs.Pieces.{read_at, numbered_at, nothing_left}
-use Rattle.cq_show.proofs.Left.{post_front}
+use Rattle.cq_board.proofs.Pieces.{read_at, numbered_at, nothing_left}
+use Rattle.cq_board.proofs.Left.{post_front}
 use Rattle.cq_show.proofs.Pages.{put_on, put_end}
 use Rattle.cq_show.proofs.graphing.put_supplies.Goals as goal
 

@@ -1,6 +1,6 @@
 use Rattle.std.proofs.Common.{◌∙◌, ap, false}
 use Rattle.std.specs.Prelude.{unwrap_or}
-use Rattle.cq_show.proofs.Named.{matched_shown}
+use Rattle.cq_board.proofs.Looked.{matched_shown}
 use Rattle.cq_show.proofs.listing.is_matched.Goals as goal
 
 pub returns : goal.returns

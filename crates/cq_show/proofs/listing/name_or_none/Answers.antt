@@ -1,6 +1,6 @@
 use Rattle.std.proofs.Common.{◌∙◌, sym, ap}
 use Rattle.cq_board.specs.Board.{name_or_none}
-use Rattle.cq_show.proofs.Named.{name_read, name_past}
+use Rattle.cq_board.proofs.Looked.{name_read, name_past}
 use Rattle.cq_show.proofs.listing.name_or_none.Goals as goal
 
 pub returns-in-Some : goal.returns-in-Some

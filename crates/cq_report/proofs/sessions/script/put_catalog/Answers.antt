@@ -3,7 +3,7 @@ use Rattle.std.specs.Prelude.{string_bytes}
 use Rattle.std.specs.List.{flat_map}
 use Rattle.cq_rel.specs.Tables.{declaration}
 use Rattle.cq_report.specs.Script.{declaration_line}
-use Rattle.cq_report.proofs.Pieces.{pieces_at}
+use Rattle.cq_board.proofs.Pieces.{pieces_at}
 use Rattle.cq_report.proofs.Pages.{put_on}
 use Rattle.cq_report.proofs.sessions.script.put_catalog.Goals as goal
 

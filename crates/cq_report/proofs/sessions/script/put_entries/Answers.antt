@@ -1,7 +1,7 @@
 use Rattle.std.proofs.Common.{◌+◌, drop}
 use Rattle.std.specs.Prelude.{string_bytes}
 use Rattle.cq_report.specs.Script.{entry_lines, entries_from}
-use Rattle.cq_report.proofs.Pieces.{read_at}
+use Rattle.cq_board.proofs.Pieces.{read_at}
 use Rattle.cq_report.proofs.Pages.{put_on, entries_step}
 use Rattle.cq_report.proofs.sessions.script.put_entries.Goals as goal
 

@@ -2,7 +2,7 @@ use Rattle.std.proofs.Common.{◌≡◌, ◌+◌, [], ◌∷◌, List, Some, Opt
 use Rattle.std.specs.Prelude.{string_bytes, option_map}
 use Rattle.std.specs.List.{slice_get}
 use Rattle.cq_report.specs.Script.{Sheet, replies_from}
-use Rattle.cq_report.proofs.Pieces.{read_at, got_of_map}
+use Rattle.cq_board.proofs.Pieces.{read_at, got_of_map}
 use Rattle.cq_report.proofs.Pages.{put_on, replies_step}
 use Rattle.cq_report.proofs.sessions.script.put_replies.Goals as goal
 

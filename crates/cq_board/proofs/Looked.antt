@@ -11,7 +11,7 @@ use Rattle.cq_board.specs.Pool.{PendingQuery, PoolRecord, name_of, IsPool}
 use Rattle.cq_board.specs.Board.{is_matched_at, name_at}
 use Rattle.cq_board.specs.Named.{query_named, matched_named, groundings_named}
 use Rattle.cq_board.proofs.CallerLemmas as by_name
-use Rattle.cq_show.specs.Steps.Left.{query_at}
+use Rattle.cq_board.specs.Steps.Left.{query_at}
 
 -- ---- the list of the names
 
@@ -43,6 +43,7 @@ named_there pending i name posted h here = same_Some posted.name name (sym (ap (
 pub record Known (pool : PoolRecord) (i : ℕ) (name : List ℕ) : Type 0 where
   pub posted : PendingQuery
   pub there : slice_get pool.pending i ≡ Some posted
+  pub name_is : posted.name ≡ name
   pub query_is : query_named name pool.pending ≡ Some posted.query
   pub matched_is : matched_named name pool ≡ Some (is_matched_at pool i)
   pub groundings_are : groundings_named name pool ≡ Some (groundings_of posted.query.body pool.tables.rows)
@@ -53,6 +54,7 @@ known_at pool good i name h =
     subst (Known pool i) found.2 (record {
       posted = found.0;
       there = found.1;
+      name_is = refl;
       query_is = by_name.query_at pool good i found.0 found.1;
       matched_is = by_name.matched_at pool good i found.0 found.1;
       groundings_are = by_name.groundings_at pool good i found.0 found.1;

@@ -1,4 +1,5 @@
 -- The edges of pending queries, taken from the front of their list.
+use Rattle.std.specs.Prelude.{option_map}
 use Rattle.std.proofs.Common.{◌≡◌, ℕ, zero, suc, [], ◌∷◌, subst, ◌+◌, ◌<◌, ◌==◌, Bool, true, false, ◌&&◌, List, refl, sym, ◌∙◌, Some, zero-add, length, take, drop, ap}
 use Rattle.std.specs.List.{flat_map, enumerate_from, slice_get, list_all, prefix_len}
 use Rattle.std.proofs.lemmas.Bool.{eq-eqb}
@@ -10,8 +11,8 @@ use Rattle.cq_match.specs.Graph.{leads_to, edges_to}
 use Rattle.cq_board.specs.Supply.{unifies}
 use Rattle.cq_board.specs.Pool.{PendingQuery}
 use Rattle.cq_board.specs.Edges.{edge_if, edges_into, edges_of}
-use Rattle.cq_report.specs.Steps.Left.{query_at, edges_at}
-use Rattle.cq_report.proofs.Pieces.{by_bool, all_weaker, all_pieces, filter_all, one_place, Cut, cut_piece, numbered_at, item_at}
+use Rattle.cq_board.specs.Steps.Left.{query_at, edges_at}
+use Rattle.cq_board.proofs.Pieces.{by_bool, all_weaker, all_pieces, filter_all, one_place, Cut, cut_piece, numbered_at, item_at}
 
 and_first : (a b : Bool) → (a && b) ≡ true → a ≡ true
 and_first true b h = refl
@@ -92,3 +93,7 @@ module _ (pending : List PendingQuery) where
   waiter_front i n waiter left front back here is count taken dropped =
       let cut = cut_waiter i waiter left here is in
       (taken ∙ ap (λ m. take m left) count ∙ cut.front_is, dropped ∙ ap (λ m. drop m left) count ∙ cut.rest_is)
+
+-- the query at a place is that of who is pending there
+pub same_query : (pending : List PendingQuery) (i : ℕ) (query : QueryRecord) (posted : PendingQuery) → query_at pending i ≡ Some query → slice_get pending i ≡ Some posted → query ≡ posted.query
+same_query pending i query posted h here = same_Some query posted.query (sym h ∙ ap (option_map (λ (p : PendingQuery). p.query)) here)

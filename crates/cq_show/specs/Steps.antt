@@ -1,2 +1,0 @@
--- Definitions that only private steps are stated with.
-pub mod Left
