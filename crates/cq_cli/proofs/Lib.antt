@@ -1,2 +1,3 @@
 mod Absent
+pub mod Chosen
 pub mod Telling

@@ -11,6 +11,7 @@ use Rattle.cq_report.specs.Reading.{Reading}
 use Rattle.cq_report.specs.Output.{AreReadings, pool_left}
 use Rattle.cq_cli.specs.declared.status.Status.{Status}
 use Rattle.cq_cli.specs.declared.status.Status.TheVariants.{Done}
+use Rattle.cq_cli.specs.Choices.{StandForChoices}
 
 -- what is said of choices on the board is said of them on the pool that the lines leave
 pub said_of_left : (r : Result Status RunFault) (left : Option (List ℕ)) (board : PoolRecord) (choices : List ChoiceRecord) → IfSome left (λ input. (readings : List Reading) → AreReadings (lines_of input) readings → board ≡ pool_left readings)
@@ -23,3 +24,9 @@ said_of_left r left board choices is said =
 pub where_failed : (r : Result Status RunFault) {P : Type 0} → P → IfErr r (λ fault. P)
 where_failed (Ok status) p = tt
 where_failed (Err fault) p = p
+
+-- what is said of choices is said of words that stand for them
+pub said_of_words : (left : Option (List ℕ)) (words : List (List ℕ)) (choices : List ChoiceRecord) (Says : PoolRecord → List ChoiceRecord → Type 0) → StandForChoices words choices
+    → IfSome left (λ input. (readings : List Reading) → AreReadings (lines_of input) readings → Says (pool_left readings) choices)
+    → IfSome left (λ input. (readings : List Reading) → AreReadings (lines_of input) readings → (chosen : List ChoiceRecord) × StandForChoices words chosen × Says (pool_left readings) chosen)
+said_of_words left words choices Says stand said = IfSome_then left said (λ input says readings are. (choices, stand, says readings are))

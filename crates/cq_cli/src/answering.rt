@@ -78,11 +78,11 @@ fn answer_replay<A: Allocator + Copy, R: Source, W: Sink, E: Sink>(
     Status::of_run(fault)
 }
 
-/// Replays the script that the source gives with no more than so many bytes of the heap out at a time, and tells a fault of it.
+/// The same with no more than so many bytes of the heap out at a time, where a number of them is told.
 fn replay_within<A: Allocator + Copy, R: Source, W: Sink, E: Sink>(
     alloc: Global,
     heap: A,
-    bytes: usize,
+    memory: Option<usize>,
     numbering: Numbering,
     source: &mut R,
     sink: &mut W,
@@ -98,6 +98,9 @@ fn replay_within<A: Allocator + Copy, R: Source, W: Sink, E: Sink>(
     ensures refused { IsRefused result → (sink.new ≡ sink.old) }
     ensures unread { result ≡ Status.Usage → source.new ≡ source.old }
 {
+    let Some(bytes) = memory else {
+        return answer_replay(alloc, heap, numbering, source, sink, errors);
+    };
     let budget = Budget::new(heap, bytes);
     answer_replay(alloc, &budget, numbering, source, sink, errors)
 }
@@ -129,11 +132,11 @@ fn answer_rows<A: Allocator + Copy, R: Source, W: Sink, E: Sink>(
     Status::of_rows(fault)
 }
 
-/// Writes the insert lines of the CSV that the source gives with no more than so many bytes of the heap out at a time, and tells a fault of it.
+/// The same with no more than so many bytes of the heap out at a time, where a number of them is told.
 fn rows_within<A: Allocator + Copy, R: Source, W: Sink, E: Sink>(
     alloc: Global,
     heap: A,
-    bytes: usize,
+    memory: Option<usize>,
     relation: &str,
     arity: &str,
     source: &mut R,
@@ -150,6 +153,9 @@ fn rows_within<A: Allocator + Copy, R: Source, W: Sink, E: Sink>(
     ensures refused { IsRefused result → (sink.new ≡ sink.old) }
     ensures unread { result ≡ Status.Usage → source.new ≡ source.old }
 {
+    let Some(bytes) = memory else {
+        return answer_rows(alloc, heap, relation, arity, source, sink, errors);
+    };
     let budget = Budget::new(heap, bytes);
     answer_rows(alloc, &budget, relation, arity, source, sink, errors)
 }
@@ -182,7 +188,7 @@ fn answer_sessions<
     Status::of_sessions(fault)
 }
 
-/// Serves the files with no more than so many bytes of the heap out at a time, in all threads together, and tells a fault of it.
+/// The same with no more than so many bytes of the heap out at a time, in all threads together, where a number of them is told.
 fn sessions_within<
     H: Files + Threads + Wait + Sync,
     A: Allocator + Copy + Send + Sync,
@@ -192,7 +198,7 @@ fn sessions_within<
     host: &H,
     alloc: Global,
     heap: A,
-    bytes: usize,
+    memory: Option<usize>,
     setup: &str,
     files: &[&str],
     sink: &mut W,
@@ -204,6 +210,9 @@ fn sessions_within<
     ensures failed { result ≡ Status.Failed → W.write_failures sink.old < W.write_failures sink.new }
     ensures refused { IsRefused result → (sink.new ≡ sink.old) }
 {
+    let Some(bytes) = memory else {
+        return answer_sessions(host, alloc, heap, setup, files, sink, errors);
+    };
     let budget = Budget::new(heap, bytes);
     answer_sessions(host, alloc, &budget, setup, files, sink, errors)
 }
@@ -235,34 +244,19 @@ fn answer_wanted<
     ensures unread { result ≡ Status.Usage → source.new ≡ source.old }
 {
     match wanted {
-        Wanted::Replay {
-            numbering,
-            memory: None,
-        } => answer_replay(alloc, heap, *numbering, source, sink, errors),
-        Wanted::Replay {
-            numbering,
-            memory: Some(bytes),
-        } => replay_within(alloc, heap, *bytes, *numbering, source, sink, errors),
+        Wanted::Replay { numbering, memory } => {
+            replay_within(alloc, heap, *memory, *numbering, source, sink, errors)
+        }
         Wanted::Rows {
             relation,
             arity,
-            memory: None,
-        } => answer_rows(alloc, heap, relation, arity, source, sink, errors),
-        Wanted::Rows {
-            relation,
-            arity,
-            memory: Some(bytes),
-        } => rows_within(alloc, heap, *bytes, relation, arity, source, sink, errors),
+            memory,
+        } => rows_within(alloc, heap, *memory, relation, arity, source, sink, errors),
         Wanted::Sessions {
             setup,
             files,
-            memory: None,
-        } => answer_sessions(host, alloc, heap, setup, files, sink, errors),
-        Wanted::Sessions {
-            setup,
-            files,
-            memory: Some(bytes),
-        } => sessions_within(host, alloc, heap, *bytes, setup, files, sink, errors),
+            memory,
+        } => sessions_within(host, alloc, heap, *memory, setup, files, sink, errors),
         Wanted::View { view, memory } => {
             view_within(alloc, heap, *memory, *view, source, sink, errors)
         }

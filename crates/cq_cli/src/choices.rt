@@ -1,5 +1,10 @@
 //! Choices from words: `NAME(V, ..)`.
 
+ghost use Rattle.std.specs.Prelude.{◌≡◌, ◌++◌, ◌∷◌, true, List, ℕ, [], map, codes, IfOk, IfSome, OnOk};
+ghost use Rattle.cq_atom.specs.Value.{ValueContent};
+ghost use Rattle.cq_board.specs.Choice.{ChoiceRecord};
+ghost use Rattle.cq_cli.specs.Choices.{StandsForValue, ListsValues, StandsForChoice, StandForChoices};
+
 use cq_atom::{Bad, Name, Value};
 use cq_board::Choice;
 use cq_text::{Form, TextFault, read_ground_atom};
@@ -40,7 +45,9 @@ impl Quotes {
 }
 
 /// The bytes of a ground atom with that value alone.
-fn atom_around<A: Allocator>(alloc: A, text: &[u8]) -> Result<Vec<u8, A>, AllocError> {
+fn atom_around<A: Allocator>(alloc: A, text: &[u8]) -> Result<Vec<u8, A>, AllocError>
+    ensures { IfOk result (λ atom. atom.items ≡ codes "V(" ++ text.now ++ codes ")") }
+{
     let mut atom = Vec::from_slice(alloc, b"V(")?;
     atom.extend_from_slice(text)?;
     atom.push(b')')?;
@@ -48,7 +55,9 @@ fn atom_around<A: Allocator>(alloc: A, text: &[u8]) -> Result<Vec<u8, A>, AllocE
 }
 
 /// The value that a text stands for, or nothing where it stands for none.
-fn value_of<A: Allocator + Copy>(alloc: A, text: &[u8]) -> Result<Option<Value<A>>, AllocError> {
+fn value_of<A: Allocator + Copy>(alloc: A, text: &[u8]) -> Result<Option<Value<A>>, AllocError>
+    ensures { IfOk result (λ found. IfSome found (λ value. StandsForValue text.now value)) }
+{
     let atom = atom_around(alloc, text)?;
     match read_ground_atom(alloc, &atom, Form::Two) {
         Ok(row) => match row.values() {
@@ -65,7 +74,9 @@ fn add_value<A: Allocator + Copy>(
     alloc: A,
     values: &mut Vec<Value<A>, A>,
     text: &[u8],
-) -> Result<bool, AllocError> {
+) -> Result<bool, AllocError>
+    ensures { IfOk result (λ added. added ≡ true → (value : ValueContent) × StandsForValue text.now value × (values.new.items ≡ values.old.items ++ value ∷ [])) }
+{
     let Some(value) = value_of(alloc, text)? else {
         return Ok(false);
     };
@@ -73,13 +84,16 @@ fn add_value<A: Allocator + Copy>(
     Ok(true)
 }
 
-/// Adds the values that a text lists, which commas part that stand in no quotes, and says whether each is one.
+/// Adds the values that a text lists, which commas part that stand in no quotes, to none, and says whether each is one. The
+/// piece is empty.
 fn add_values<A: Allocator + Copy>(
     alloc: A,
     values: &mut Vec<Value<A>, A>,
     piece: &mut Vec<u8, A>,
     text: &[u8],
-) -> Result<bool, AllocError> {
+) -> Result<bool, AllocError>
+    ensures { values.old.items ≡ [] → piece.old.items ≡ [] → IfOk result (λ added. added ≡ true → ListsValues text.now values.new.items) }
+{
     let mut quotes = Quotes {
         inside: false,
         escaped: false,
@@ -102,29 +116,33 @@ fn add_values<A: Allocator + Copy>(
 fn values_of<A: Allocator + Copy>(
     alloc: A,
     text: &[u8],
-) -> Result<Option<Vec<Value<A>, A>>, AllocError> {
+) -> Result<Option<Vec<Value<A>, A>>, AllocError>
+    ensures { IfOk result (λ found. IfSome found (λ values. ListsValues text.now values.items)) }
+{
     let mut values = Vec::new(alloc);
-    let mut piece = Vec::new(alloc);
-    if text.is_empty() || add_values(alloc, &mut values, &mut piece, text)? {
-        Ok(Some(values))
-    } else {
-        Ok(None)
+    if text.is_empty() {
+        return Ok(Some(values));
     }
+    let mut piece = Vec::new(alloc);
+    if !add_values(alloc, &mut values, &mut piece, text)? {
+        return Ok(None);
+    }
+    Ok(Some(values))
 }
 
 /// The name in front of the brackets, and what stands in them.
-fn parts_of(word: &str) -> Option<(&str, &[u8])> {
+fn parts_of(word: &str) -> Option<(&str, &str)>
+    ensures { IfSome result (λ parts. word.now ≡ parts.0.now ++ codes "(" ++ parts.1.now ++ codes ")") }
+{
     let (name, behind) = word.split_once('(')?;
-    let (last, inner) = behind.as_bytes().split_last()?;
-    if *last == b')' {
-        Some((name, inner))
-    } else {
-        None
-    }
+    let inner = behind.strip_suffix(')')?;
+    Some((name, inner))
 }
 
 /// The choice that a word stands for: a query's name, and values in brackets, with commas between them.
-fn choice_of<A: Allocator + Copy>(alloc: A, word: &str) -> Result<Option<Choice<A>>, AllocError> {
+fn choice_of<A: Allocator + Copy>(alloc: A, word: &str) -> Result<Option<Choice<A>>, AllocError>
+    ensures { IfOk result (λ found. IfSome found (StandsForChoice word.now)) }
+{
     let Some((name, inner)) = parts_of(word) else {
         return Ok(None);
     };
@@ -133,24 +151,38 @@ fn choice_of<A: Allocator + Copy>(alloc: A, word: &str) -> Result<Option<Choice<
         Err(Bad::NoMemory) => return Err(AllocError),
         Err(_) => return Ok(None),
     };
-    match values_of(alloc, inner)? {
+    match values_of(alloc, inner.as_bytes())? {
         Some(values) => Ok(Some(Choice { name, values })),
         None => Ok(None),
     }
+}
+
+/// Adds the choice that a word stands for, and says whether it stands for one.
+fn add_choice<A: Allocator + Copy>(
+    alloc: A,
+    choices: &mut Vec<Choice<A>, A>,
+    word: &str,
+) -> Result<bool, AllocError>
+    ensures { IfOk result (λ added. added ≡ true → (choice : ChoiceRecord) × StandsForChoice word.now choice × (choices.new.items ≡ choices.old.items ++ choice ∷ [])) }
+{
+    let Some(choice) = choice_of(alloc, word)? else {
+        return Ok(false);
+    };
+    choices.push(choice)?;
+    Ok(true)
 }
 
 /// The choices that the words stand for, in their order.
 pub(crate) fn read_choices<'a, A: Allocator + Copy>(
     alloc: A,
     words: &[&'a str],
-) -> Result<Vec<Choice<A>, A>, ChoiceFault<'a>> {
+) -> Result<Vec<Choice<A>, A>, ChoiceFault<'a>>
+    ensures { IfOk result (λ choices. StandForChoices (map (λ word. word.now) words.now) choices.items) }
+{
     let mut choices = Vec::new(alloc);
     for word in words {
-        let Some(choice) = choice_of(alloc, *word)? else {
+        if !add_choice(alloc, &mut choices, word)? {
             return Err(ChoiceFault::Bad { word: *word });
-        };
-        if choices.push(choice).is_err() {
-            return Err(ChoiceFault::NoMemory);
         }
     }
     Ok(choices)

@@ -1,6 +1,6 @@
 //! What is told of the board that a script leaves.
 
-ghost use Rattle.std.specs.Prelude.{◌≡◌, ◌<◌, ◌+◌, ◌^◌, ◌↔◌, ◌⊎◌, ℕ, List, string_bytes, IfOk, IfErr, IfSome, OnOk, MatchResult};
+ghost use Rattle.std.specs.Prelude.{◌≡◌, ◌<◌, ◌+◌, ◌^◌, ◌↔◌, ◌⊎◌, ℕ, List, map, string_bytes, IfOk, IfErr, IfSome, OnOk, MatchResult};
 ghost use Rattle.std.specs.Io.KnownBytes.{Appends};
 ghost use Rattle.cq_board.specs.Choice.{IsCoordinating};
 ghost use Rattle.cq_report.specs.Lines.{lines_of};
@@ -11,6 +11,7 @@ ghost use Rattle.cq_text.specs.Device.{FailedAtTurn};
 ghost use Rattle.cq_cli.specs.declared.status.Status.{Status};
 ghost use Rattle.cq_cli.specs.Status.{DeviceFailed, IsRefused, ended};
 ghost use Rattle.cq_cli.specs.Views.{viewed};
+ghost use Rattle.cq_cli.specs.Choices.{AreCoordinating, AreNotCoordinating};
 
 use crate::choices::read_choices;
 use crate::status::Status;
@@ -259,6 +260,8 @@ fn answer_choice<A: Allocator + Copy, R: Source, W: Sink, E: Sink>(
     requires read_failures { R.failures_met source.old < 2 ^ 62 }
     requires sink { W.write_failures sink.old < 2 ^ 62 }
     requires errors { E.write_failures errors.old < 2 ^ 62 }
+    ensures so { result ≡ Status.Done → IfSome (R.left source.old) (λ input. (readings : List Reading) → AreReadings (lines_of input) readings → AreCoordinating (pool_left readings) (map (λ word. word.now) words.now)) }
+    ensures not_so { result ≡ Status.NotSo → IfSome (R.left source.old) (λ input. (readings : List Reading) → AreReadings (lines_of input) readings → AreNotCoordinating (pool_left readings) (map (λ word. word.now) words.now)) }
     ensures read { R.failures_met source.old < R.failures_met source.new → result ≡ Status.Failed }
     ensures write { W.write_failures sink.old < W.write_failures sink.new → result ≡ Status.Failed }
     ensures failed { result ≡ Status.Failed → DeviceFailed (R.reads_made source.old) (R.reads_made source.new) (R.failures_met source.old) (R.failures_met source.new) (W.write_failures sink.old) (W.write_failures sink.new) }
@@ -288,6 +291,8 @@ pub(crate) fn choice_within<A: Allocator + Copy, R: Source, W: Sink, E: Sink>(
     requires read_failures { R.failures_met source.old < 2 ^ 62 }
     requires sink { W.write_failures sink.old < 2 ^ 62 }
     requires errors { E.write_failures errors.old < 2 ^ 62 }
+    ensures so { result ≡ Status.Done → IfSome (R.left source.old) (λ input. (readings : List Reading) → AreReadings (lines_of input) readings → AreCoordinating (pool_left readings) (map (λ word. word.now) words.now)) }
+    ensures not_so { result ≡ Status.NotSo → IfSome (R.left source.old) (λ input. (readings : List Reading) → AreReadings (lines_of input) readings → AreNotCoordinating (pool_left readings) (map (λ word. word.now) words.now)) }
     ensures read { R.failures_met source.old < R.failures_met source.new → result ≡ Status.Failed }
     ensures write { W.write_failures sink.old < W.write_failures sink.new → result ≡ Status.Failed }
     ensures failed { result ≡ Status.Failed → DeviceFailed (R.reads_made source.old) (R.reads_made source.new) (R.failures_met source.old) (R.failures_met source.new) (W.write_failures sink.old) (W.write_failures sink.new) }
