@@ -22,10 +22,17 @@ fn comes_and_goes<A: Allocator + Copy>(
     Ok(stood && !index.has(place))
 }
 
+fn copy_answers_as_worked<A: Allocator + Copy>(
+    alloc: A,
+    index: &AtomIndex<A>,
+) -> Result<bool, Bad> {
+    let copy = index.copy()?;
+    answers_as_worked(alloc, &copy)
+}
+
 fn index_candidates_hold<A: Allocator + Copy>(alloc: A) -> Result<bool, Bad> {
     let index = worked(alloc)?;
-    let copy = index.copy()?;
-    Ok(answers_as_worked(alloc, &index)? && answers_as_worked(alloc, &copy)?)
+    Ok(answers_as_worked(alloc, &index)? && copy_answers_as_worked(alloc, &index)?)
 }
 
 #[test]
@@ -34,15 +41,50 @@ fn index_candidates(rt: HostRuntime) -> Result<(), Fail> {
     Ok(())
 }
 
+/// An atom that comes and goes at a place, if the place is free for it.
+struct Comer {
+    place: usize,
+    words: &'static [&'static str],
+    free: bool,
+}
+
+const COMERS: [Comer; 4] = [
+    Comer {
+        place: 4,
+        words: &["1"],
+        free: true,
+    },
+    Comer {
+        place: 5,
+        words: &["z"],
+        free: true,
+    },
+    Comer {
+        place: 6,
+        words: &["3", "x"],
+        free: true,
+    },
+    Comer {
+        place: 3,
+        words: &["3"],
+        free: false,
+    },
+];
+
+/// Whether these atoms come and go where the place is free, and nowhere else.
+fn all_come_and_go<A: Allocator + Copy>(alloc: A, index: &mut AtomIndex<A>) -> Result<bool, Bad> {
+    for comer in COMERS.iter() {
+        let atom = atom(alloc, comer.words)?;
+        if comes_and_goes(index, comer.place, &atom)? != comer.free {
+            return Ok(false);
+        }
+    }
+    Ok(true)
+}
+
 fn removals_hold<A: Allocator + Copy>(alloc: A) -> Result<bool, Bad> {
     let mut index = worked(alloc)?;
-    Ok(
-        comes_and_goes(&mut index, 4, &atom(alloc, &["1"])?)?
-            && comes_and_goes(&mut index, 5, &atom(alloc, &["z"])?)?
-            && comes_and_goes(&mut index, 6, &atom(alloc, &["3", "x"])?)?
-            && !comes_and_goes(&mut index, 3, &atom(alloc, &["3"])?)?
-            && answers_as_worked(alloc, &index)?,
-    )
+    Ok(all_come_and_go(alloc, &mut index)? && answers_as_worked(alloc, &index)?)
 }
 
 #[test]
