@@ -1,6 +1,6 @@
 //! What is told of the board that a script leaves.
 
-ghost use Rattle.std.specs.Prelude.{◌≡◌, ◌<◌, ◌+◌, ◌^◌, ◌↔◌, ◌⊎◌, ℕ, List, map, string_bytes, IfOk, IfErr, IfSome, OnOk, MatchResult};
+ghost use Rattle.std.specs.Prelude.{◌≡◌, ◌<◌, ◌+◌, ◌^◌, ◌↔◌, ◌⊎◌, ℕ, List, map, codes, string_bytes, IfOk, IfErr, IfSome, OnOk, MatchResult};
 ghost use Rattle.std.specs.Io.KnownBytes.{Appends};
 ghost use Rattle.cq_board.specs.Choice.{IsCoordinating};
 ghost use Rattle.cq_report.specs.Lines.{lines_of};
@@ -98,6 +98,8 @@ fn write_choice<W: Sink, A: Allocator + Copy>(
 ) -> Result<Status, RunFault>
     requires { W.write_failures sink.old < 2 ^ 62 }
     ensures done { IfOk result (λ status. (status ≡ Status.Done) ↔ IsCoordinating board.now choices.now) }
+    ensures said { IfOk result (λ status. status ≡ Status.Done → Appends (W.taken sink.old) (W.taken sink.new) (codes "coordinating\n")) }
+    ensures denied { IfOk result (λ status. status ≡ Status.NotSo → Appends (W.taken sink.old) (W.taken sink.new) (codes "not coordinating\n")) }
     ensures either { IfOk result (λ status. (status ≡ Status.Done) ⊎ (status ≡ Status.NotSo)) }
     ensures kind { IfErr result IsOfOutput }
     ensures failures { MatchResult result (λ _. W.write_failures sink.new ≡ W.write_failures sink.old) (λ fault. W.write_failures sink.new ≡ W.write_failures sink.old + failures_of fault) }
@@ -160,6 +162,8 @@ fn show_choice<A: Allocator + Copy, R: Source, W: Sink>(
     requires read_failures { R.failures_met source.old < 2 ^ 62 }
     requires sink { W.write_failures sink.old < 2 ^ 62 }
     ensures so { IfOk result (λ status. IfSome (R.left source.old) (λ input. (readings : List Reading) → AreReadings (lines_of input) readings → (status ≡ Status.Done) ↔ IsCoordinating (pool_left readings) choices.now)) }
+    ensures said { IfOk result (λ status. status ≡ Status.Done → Appends (W.taken sink.old) (W.taken sink.new) (codes "coordinating\n")) }
+    ensures denied { IfOk result (λ status. status ≡ Status.NotSo → Appends (W.taken sink.old) (W.taken sink.new) (codes "not coordinating\n")) }
     ensures either { IfOk result (λ status. (status ≡ Status.Done) ⊎ (status ≡ Status.NotSo)) }
     ensures kind { IfErr result IsOfRun }
     ensures turn { IfErr result (λ fault. IfRead fault (λ turn. FailedAtTurn turn (R.reads_made source.old) (R.reads_made source.new) (R.failures_met source.old) (R.failures_met source.new))) }
@@ -237,6 +241,8 @@ fn say_choice<A: Allocator + Copy, R: Source, W: Sink, E: Sink>(
     requires errors { E.write_failures errors.old < 2 ^ 62 }
     ensures so { result ≡ Status.Done → IfSome (R.left source.old) (λ input. (readings : List Reading) → AreReadings (lines_of input) readings → IsCoordinating (pool_left readings) choices.now) }
     ensures not_so { result ≡ Status.NotSo → IfSome (R.left source.old) (λ input. (readings : List Reading) → AreReadings (lines_of input) readings → IsCoordinating (pool_left readings) choices.now → ⊥) }
+    ensures said { result ≡ Status.Done → Appends (W.taken sink.old) (W.taken sink.new) (codes "coordinating\n") }
+    ensures denied { result ≡ Status.NotSo → Appends (W.taken sink.old) (W.taken sink.new) (codes "not coordinating\n") }
     ensures read { R.failures_met source.old < R.failures_met source.new → result ≡ Status.Failed }
     ensures write { W.write_failures sink.old < W.write_failures sink.new → result ≡ Status.Failed }
     ensures failed { result ≡ Status.Failed → DeviceFailed (R.reads_made source.old) (R.reads_made source.new) (R.failures_met source.old) (R.failures_met source.new) (W.write_failures sink.old) (W.write_failures sink.new) }
@@ -262,6 +268,8 @@ fn answer_choice<A: Allocator + Copy, R: Source, W: Sink, E: Sink>(
     requires errors { E.write_failures errors.old < 2 ^ 62 }
     ensures so { result ≡ Status.Done → IfSome (R.left source.old) (λ input. (readings : List Reading) → AreReadings (lines_of input) readings → AreCoordinating (pool_left readings) (map (λ word. word.now) words.now)) }
     ensures not_so { result ≡ Status.NotSo → IfSome (R.left source.old) (λ input. (readings : List Reading) → AreReadings (lines_of input) readings → AreNotCoordinating (pool_left readings) (map (λ word. word.now) words.now)) }
+    ensures said { result ≡ Status.Done → Appends (W.taken sink.old) (W.taken sink.new) (codes "coordinating\n") }
+    ensures denied { result ≡ Status.NotSo → Appends (W.taken sink.old) (W.taken sink.new) (codes "not coordinating\n") }
     ensures read { R.failures_met source.old < R.failures_met source.new → result ≡ Status.Failed }
     ensures write { W.write_failures sink.old < W.write_failures sink.new → result ≡ Status.Failed }
     ensures failed { result ≡ Status.Failed → DeviceFailed (R.reads_made source.old) (R.reads_made source.new) (R.failures_met source.old) (R.failures_met source.new) (W.write_failures sink.old) (W.write_failures sink.new) }
@@ -293,6 +301,8 @@ pub(crate) fn choice_within<A: Allocator + Copy, R: Source, W: Sink, E: Sink>(
     requires errors { E.write_failures errors.old < 2 ^ 62 }
     ensures so { result ≡ Status.Done → IfSome (R.left source.old) (λ input. (readings : List Reading) → AreReadings (lines_of input) readings → AreCoordinating (pool_left readings) (map (λ word. word.now) words.now)) }
     ensures not_so { result ≡ Status.NotSo → IfSome (R.left source.old) (λ input. (readings : List Reading) → AreReadings (lines_of input) readings → AreNotCoordinating (pool_left readings) (map (λ word. word.now) words.now)) }
+    ensures said { result ≡ Status.Done → Appends (W.taken sink.old) (W.taken sink.new) (codes "coordinating\n") }
+    ensures denied { result ≡ Status.NotSo → Appends (W.taken sink.old) (W.taken sink.new) (codes "not coordinating\n") }
     ensures read { R.failures_met source.old < R.failures_met source.new → result ≡ Status.Failed }
     ensures write { W.write_failures sink.old < W.write_failures sink.new → result ≡ Status.Failed }
     ensures failed { result ≡ Status.Failed → DeviceFailed (R.reads_made source.old) (R.reads_made source.new) (R.failures_met source.old) (R.failures_met source.new) (W.write_failures sink.old) (W.write_failures sink.new) }
