@@ -1,21 +1,22 @@
 -- Why pending queries wait: a text made of whole lines. (this project's profile)
-use Rattle.std.specs.Prelude.{◌≡◌, ℕ, Bool, true, false, ◌==◌, ◌&&◌, List, [], ◌∷◌, ◌++◌, length, map, filter, codes, decimal, if◌then◌else◌, Option, Some, None}
-use Rattle.std.specs.List.{slice_get, list_any, join_by}
+use Rattle.std.specs.Prelude.{◌≡◌, ◌↔◌, ℕ, Bool, true, false, ◌==◌, List, [], ◌∷◌, ◌++◌, length, map, filter, codes, decimal, if◌then◌else◌, Option, Some, None}
+use Rattle.std.specs.List.{Contains, slice_get, join_by}
+use Rattle.std.specs.List.Sorted.{IsStrictlyIncreasing}
 use Rattle.std.specs.Option.{option_and_then}
-use Rattle.std.specs.Str.{bytes_eq}
 use Rattle.cq_atom.specs.Text.{is_name}
 use Rattle.cq_atom.specs.Atom.{AtomRecord}
 use Rattle.cq_text.specs.Print.{printed_atom}
+use Rattle.cq_match.specs.Graph.{edges_to}
+use Rattle.cq_match.specs.declared.falls.Fall.{Fall}
 use Rattle.cq_match.specs.declared.falls.Reason.{Reason}
 use Rattle.cq_match.specs.declared.falls.Reason.TheVariants.{NotAble, Unmet}
-use Rattle.cq_board.specs.declared.link.Link.{Link}
 use Rattle.cq_board.specs.declared.near.NearMiss.{NearMiss}
-use Rattle.cq_board.specs.declared.waiting.Wait.{Wait}
 use Rattle.cq_board.specs.Pool.{PendingQuery, PoolRecord, name_of}
-use Rattle.cq_board.specs.Board.{links_of, place_of}
+use Rattle.cq_board.specs.Edges.{edges_of}
+use Rattle.cq_board.specs.Board.{name_at, name_or_none, place_of}
 use Rattle.cq_board.specs.Named.{query_named, matched_named}
 use Rattle.cq_board.specs.Near.{post_named, misses_named, miss_named, AreNearest}
-use Rattle.cq_board.specs.Waiting.{is_waiting, IsReason}
+use Rattle.cq_board.specs.Waiting.{is_waiting, IsReasonPart}
 
 -- A text is made of pieces, one for each element of a list, in its order, which tells that element.
 abbrev pub ArePieces : {X : Type 0} → (X → List ℕ → Type 0) → List X → List ℕ → Type 0
@@ -40,15 +41,14 @@ abbrev pub missing_words : List PendingQuery → List (NearMiss (List ℕ)) → 
 missing_words pending [] = codes "no provider"
 missing_words pending (near ∷ more) = codes "no provider; near: " ++ join_by (near_words pending) (codes ", ") (near ∷ more)
 
--- The edge leads to the postcondition of the query of that name.
-abbrev pub leads_to : List ℕ → ℕ → Link (List ℕ) → Bool
-leads_to name post link = bytes_eq name link.waiter && (link.post == post)
+-- The numbers of the queries from which an edge to the postcondition comes, each once, in posting order.
+pub record AreProviders (pending : List PendingQuery) (waiter post : ℕ) (numbers : List ℕ) : Type 0 where
+  pub rising : IsStrictlyIncreasing numbers
+  pub exact : (n : ℕ) → Contains numbers n ↔ Contains (map (λ edge. edge.provider) (edges_to waiter post (edges_of pending))) n
 
--- The names of the queries from which an edge to the postcondition comes, in posting order, each once.
-abbrev pub providers_of : List PendingQuery → List ℕ → ℕ → List (List ℕ)
-providers_of pending name post =
-    let senders = map (λ link. link.provider) (filter (leads_to name post) (links_of pending)) in
-    filter (λ provider. list_any (bytes_eq provider) senders) (map name_of pending)
+-- The name of the query of that number in posting order.
+abbrev pub name_of_number : List PendingQuery → ℕ → List ℕ
+name_of_number pending number = name_or_none (name_at pending number)
 
 -- One waits, and more of them wait.
 abbrev pub wait_word : ℕ → List ℕ
@@ -64,26 +64,27 @@ IsUnmetTold pending name post [] words =
     (nearest : List (ℕ × ℕ × ℕ)) × AreNearest (misses_named name post pending) nearest × (words ≡ missing_words pending (map (miss_named pending) nearest))
 IsUnmetTold pending name post (provider ∷ providers) words = words ≡ only_words (provider ∷ providers)
 
--- A reason why the query of that name waits, once those wait that are told before it.
-abbrev pub IsReasonTold : List PendingQuery → List ℕ → Reason → List ℕ → Type 0
-IsReasonTold pending name NotAble words = words ≡ codes "no row for its body"
-IsReasonTold pending name (Unmet post) words =
-    (unmet : List ℕ) × IsUnmetTold pending name post (providers_of pending name post) unmet
+-- A reason why the query of that name and number waits, once those wait that are told before it.
+abbrev pub IsReasonTold : List PendingQuery → List ℕ → ℕ → Reason → List ℕ → Type 0
+IsReasonTold pending name waiter NotAble words = words ≡ codes "no row for its body"
+IsReasonTold pending name waiter (Unmet post) words =
+    (providers : List ℕ) × AreProviders pending waiter post providers × (unmet : List ℕ) × IsUnmetTold pending name post (map (name_of_number pending) providers) unmet
     × (words ≡ codes "post " ++ decimal post ++ codes " " ++ atom_or_none (post_named name post pending) ++ codes ": " ++ unmet)
 
 -- A step: a query, and why it waits.
-abbrev pub IsStep : List PendingQuery → Wait (List ℕ) → List ℕ → Type 0
-IsStep pending wait line =
-    (words : List ℕ) × IsReasonTold pending wait.name wait.reason words × (line ≡ codes "  " ++ wait.name ++ codes ": " ++ words ++ codes "\n")
+abbrev pub IsStep : List PendingQuery → Fall → List ℕ → Type 0
+IsStep pending fall line =
+    let name = name_of_number pending fall.node in
+    (words : List ℕ) × IsReasonTold pending name fall.node fall.reason words × (line ≡ codes "  " ++ name ++ codes ": " ++ words ++ codes "\n")
 
 -- What is told of a query that waits: its name, and a step for each query on which it rests, itself last.
 pub record IsExplanation (pool : PoolRecord) (name : List ℕ) (text : List ℕ) : Type 0 where
   pub place : ℕ
   pub there : place_of name pool.pending ≡ Some place
-  pub waits : List (Wait (List ℕ))
-  pub reason : IsReason pool place waits
+  pub part : List Fall
+  pub reason : IsReasonPart pool place part
   pub steps : List ℕ
-  pub told : ArePieces (IsStep pool.pending) waits steps
+  pub told : ArePieces (IsStep pool.pending) part steps
   pub is : text ≡ name ++ codes " waits\n" ++ steps
 
 -- Whether the query that a word names is matched; nothing where it names no pending one.

@@ -1,3 +1,4 @@
 pub mod Explain
 pub mod Graph
 pub mod Json
+pub mod Steps

@@ -1,31 +1,36 @@
 //! Why the queries of a board wait, put on a page line by line.
 
-ghost use Rattle.std.specs.Prelude.{◌≡◌, ◌++◌, ℕ, List, map, filter, string_bytes, codes, Bool, false, [], Option, IfOk, OnOk};
-ghost use Rattle.std.specs.List.{list_any};
+ghost use Rattle.std.specs.Prelude.{◌≡◌, ◌<◌, ◌==◌, length, map, filter, string_bytes, true, false, [], Some, IfOk, OnOk};
+ghost use Rattle.std.specs.List.{All, position};
+ghost use Rattle.std.specs.List.Sorted.{IsNonDecreasingBy};
 ghost use Rattle.std.specs.Option.{option_copied};
 ghost use Rattle.std.specs.Str.{bytes_eq};
-ghost use Rattle.cq_atom.specs.Atom.{AtomRecord};
+ghost use Rattle.cq_match.specs.Falling.{IsUnmatched};
 ghost use Rattle.cq_board.specs.Pool.{name_of};
-ghost use Rattle.cq_board.specs.Board.{links_of};
-ghost use Rattle.cq_board.specs.Named.{link_read, matched_named};
+ghost use Rattle.cq_board.specs.Edges.{edges_of};
+ghost use Rattle.cq_board.specs.Board.{nodes_of, place_of};
+ghost use Rattle.cq_board.specs.Named.{matched_named};
 ghost use Rattle.cq_board.specs.Near.{miss_read, post_named};
-ghost use Rattle.cq_board.specs.Waiting.{wait_read, is_waiting};
-ghost use Rattle.cq_show.specs.Explain.{ArePieces, atom_or_none, head_named, near_words, missing_words, leads_to, providers_of, wait_word, only_words, IsUnmetTold, IsReasonTold, IsStep, IsToldBy, IsTold, waiting_names};
+ghost use Rattle.cq_board.specs.Waiting.{is_waiting, IsReasonPart};
+ghost use Rattle.cq_show.specs.Steps.Falls.{AreFalls};
+ghost use Rattle.cq_show.specs.Explain.{ArePieces, AreProviders, IsExplanation, atom_or_none, head_named, name_of_number, near_words, missing_words, wait_word, only_words, IsUnmetTold, IsReasonTold, IsStep, IsToldBy, IsTold, waiting_names};
 
+use crate::listing::{Listing, name_or_none};
 use cq_atom::{Atom, Bad, Name};
-use cq_board::{Board, Link, NearMiss, Wait};
-use cq_match::Reason;
+use cq_board::{Board, NearMiss};
+use cq_match::{Edge, Fall, Reason, part_for};
 use cq_text::print_atom;
 use std::alloc::{AllocError, Allocator};
 
-/// A board, the names of its pending queries in posting order, and all edges.
+/// A board, the names of its pending queries in posting order, all edges, and the falls of the queries that wait.
 #[derive(Drop)]
-struct Linked<'a, A: Allocator> {
+struct Fallen<'a, A: Allocator> {
     board: &'a Board<A>,
     names: &'a [&'a Name<A>],
-    links: &'a [Link<&'a Name<A>>],
+    edges: &'a [Edge],
+    falls: &'a [Fall],
     ghost named: { map (λ name. name.now) names.now ≡ map name_of board.now.pending },
-    ghost linked: { map (link_read (λ name. name.now)) links.now ≡ links_of board.now.pending },
+    ghost listed: { edges.now ≡ edges_of board.now.pending },
 }
 
 /// The atom in its printed form; nothing where there is none.
@@ -123,58 +128,59 @@ fn missing<A: Allocator + Copy>(
     missing_words(alloc, board, &near)
 }
 
-/// The names of the queries from which the edges to a postcondition come.
-fn senders<'a, A: Allocator>(
-    alloc: A,
-    links: &[Link<&'a Name<A>>],
-    name: &Name<A>,
-    post: u8,
-) -> Result<Vec<&'a Name<A>, A>, AllocError>
-    ensures { IfOk result (λ senders. map (λ name. name.now) senders.items ≡ map (λ link. link.provider) (filter (leads_to name.now post) (map (link_read (λ name. name.now)) links.now))) }
+/// The edges to the query of that number, which stand side by side.
+fn edges_into(edges: &[Edge], waiter: usize) -> &[Edge]
+    requires { IsNonDecreasingBy (λ edge. edge.waiter) edges.now }
+    ensures { result.now ≡ filter (λ edge. edge.waiter == waiter) edges.now }
+{
+    let below = edges.partition_point(|edge| edge.waiter < waiter);
+    let (_, rest) = edges.split_at(below);
+    let count = rest.partition_point(|edge| edge.waiter <= waiter);
+    let (at, _) = rest.split_at(count);
+    at
+}
+
+/// The numbers of the queries from which those of the edges come that lead to a postcondition at that place.
+fn senders<A: Allocator>(alloc: A, edges: &[Edge], post: u8) -> Result<Vec<usize, A>, AllocError>
+    ensures { IfOk result (λ senders. senders.items ≡ map (λ edge. edge.provider) (filter (λ edge. edge.post == post) edges.now)) }
 {
     let mut senders = Vec::new(alloc);
-    for link in links {
-        if name.as_str() == link.waiter.as_str() && link.post == post {
-            senders.push(link.provider)?;
+    for edge in edges {
+        if edge.post == post {
+            senders.push(edge.provider)?;
         }
     }
     Ok(senders)
 }
 
-fn is_among<A: Allocator>(names: &[&Name<A>], name: &Name<A>) -> bool
-    ensures { result ≡ list_any (λ other. bytes_eq name.now other.now) names.now }
-{
-    names.iter().any(|other| name.as_str() == other.as_str())
-}
-
-/// Those of the names that are among the others.
-fn common<'a, A: Allocator>(
+/// The numbers of the providers of a postcondition, each once.
+fn providers_of<A: Allocator + Copy>(
     alloc: A,
-    names: &[&'a Name<A>],
-    others: &[&Name<A>],
-) -> Result<Vec<&'a str, A>, AllocError>
-    ensures { IfOk result (λ common. map (λ name. name.now) common.items ≡ filter (λ name. list_any (λ other. bytes_eq name other.now) others.now) (map (λ name. name.now) names.now)) }
-{
-    let mut common = Vec::new(alloc);
-    for name in names {
-        if is_among(others, name) {
-            common.push(name.as_str())?;
-        }
-    }
-    Ok(common)
-}
-
-/// The names of the providers of a postcondition, in posting order.
-fn providers_of<'a, A: Allocator + Copy>(
-    alloc: A,
-    linked: &Linked<'a, A>,
-    name: &Name<A>,
+    fallen: &Fallen<'_, A>,
+    waiter: usize,
     post: u8,
-) -> Result<Vec<&'a str, A>, AllocError>
-    ensures { IfOk result (λ providers. map (λ name. name.now) providers.items ≡ providers_of linked.now.board.now.pending name.now post) }
+) -> Result<Vec<usize, A>, AllocError>
+    ensures { IfOk result (λ numbers. AreProviders fallen.now.board.now.pending waiter post numbers.items) }
 {
-    let senders = senders(alloc, linked.links, name, post)?;
-    common(alloc, linked.names, &senders)
+    let mut providers = senders(alloc, edges_into(fallen.edges, waiter), post)?;
+    providers.sort_unstable();
+    providers.dedup();
+    Ok(providers)
+}
+
+/// The names of the queries of these numbers.
+fn names_of<'a, A: Allocator>(
+    alloc: A,
+    listing: &Listing<'a, A>,
+    numbers: &[usize],
+) -> Result<Vec<&'a str, A>, AllocError>
+    ensures { IfOk result (λ names. map (λ name. name.now) names.items ≡ map (name_of_number listing.now.board.now.pending) numbers.now) }
+{
+    let mut names = Vec::new(alloc);
+    for number in numbers {
+        names.push(name_or_none(listing, *number))?;
+    }
+    Ok(names)
 }
 
 fn wait_word(count: usize) -> &'static str
@@ -209,29 +215,36 @@ fn unmet<A: Allocator + Copy>(
     }
 }
 
-/// What is told of an unmet postcondition.
+/// What is told of an unmet postcondition, whose providers have these numbers.
 fn unmet_words<A: Allocator + Copy>(
     alloc: A,
-    linked: &Linked<'_, A>,
+    fallen: &Fallen<'_, A>,
     name: &Name<A>,
     post: u8,
+    providers: &[usize],
 ) -> Result<String<A>, AllocError>
-    ensures { IfOk result (λ text. IsUnmetTold linked.now.board.now.pending name.now post (providers_of linked.now.board.now.pending name.now post) (string_bytes text)) }
+    ensures { IfOk result (λ text. IsUnmetTold fallen.now.board.now.pending name.now post (map (name_of_number fallen.now.board.now.pending) providers.now) (string_bytes text)) }
 {
-    let providers = providers_of(alloc, linked, name, post)?;
-    unmet(alloc, linked.board, name, post, &providers)
+    let listing = Listing {
+        board: fallen.board,
+        names: fallen.names,
+    };
+    let names = names_of(alloc, &listing, providers)?;
+    unmet(alloc, fallen.board, name, post, &names)
 }
 
 fn post_reason<A: Allocator + Copy>(
     alloc: A,
-    linked: &Linked<'_, A>,
+    fallen: &Fallen<'_, A>,
     name: &Name<A>,
+    waiter: usize,
     post: u8,
 ) -> Result<String<A>, AllocError>
-    ensures { IfOk result (λ text. IsReasonTold linked.now.board.now.pending name.now (Reason.Unmet post) (string_bytes text)) }
+    ensures { IfOk result (λ text. IsReasonTold fallen.now.board.now.pending name.now waiter (Reason.Unmet post) (string_bytes text)) }
 {
-    let atom = atom_words(alloc, post_of(linked.board, name, post))?;
-    let unmet = unmet_words(alloc, linked, name, post)?;
+    let providers = providers_of(alloc, fallen, waiter, post)?;
+    let atom = atom_words(alloc, post_of(fallen.board, name, post))?;
+    let unmet = unmet_words(alloc, fallen, name, post, &providers)?;
     let atom = atom.as_str();
     let unmet = unmet.as_str();
     format!(in alloc; "post {post} {atom}: {unmet}")
@@ -239,60 +252,90 @@ fn post_reason<A: Allocator + Copy>(
 
 fn reason_words<A: Allocator + Copy>(
     alloc: A,
-    linked: &Linked<'_, A>,
-    wait: &Wait<&Name<A>>,
+    fallen: &Fallen<'_, A>,
+    name: &Name<A>,
+    fall: &Fall,
 ) -> Result<String<A>, AllocError>
-    ensures { IfOk result (λ text. IsReasonTold linked.now.board.now.pending wait.now.name.now wait.now.reason (string_bytes text)) }
+    ensures { IfOk result (λ text. IsReasonTold fallen.now.board.now.pending name.now fall.now.node fall.now.reason (string_bytes text)) }
 {
-    match wait.reason {
+    match fall.reason {
         Reason::NotAble => String::from_str(alloc, "no row for its body"),
-        Reason::Unmet(post) => post_reason(alloc, linked, wait.name, post),
+        Reason::Unmet(post) => post_reason(alloc, fallen, name, fall.node, post),
     }
 }
 
 fn step_line<A: Allocator + Copy>(
     alloc: A,
-    linked: &Linked<'_, A>,
-    wait: &Wait<&Name<A>>,
+    fallen: &Fallen<'_, A>,
+    fall: &Fall,
 ) -> Result<String<A>, AllocError>
-    ensures { IfOk result (λ text. IsStep linked.now.board.now.pending (wait_read (λ name. name.now) wait.now) (string_bytes text)) }
+    requires { fall.now.node < length fallen.now.names.now }
+    ensures { IfOk result (λ text. IsStep fallen.now.board.now.pending fall.now (string_bytes text)) }
 {
-    let reason = reason_words(alloc, linked, wait)?;
-    let name = wait.name.as_str();
+    let name = fallen.names[fall.node];
+    let reason = reason_words(alloc, fallen, name, fall)?;
+    let name = name.as_str();
     let reason = reason.as_str();
     format!(in alloc; "  {name}: {reason}\n")
 }
 
-/// Puts a step for each of the queries on an empty page.
+/// Puts a step for each of the falls on an empty page.
 fn put_steps<A: Allocator + Copy>(
     alloc: A,
-    linked: &Linked<'_, A>,
-    waits: &[Wait<&Name<A>>],
+    fallen: &Fallen<'_, A>,
+    part: &[Fall],
     page: &mut String<A>,
 ) -> Result<(), AllocError>
-    ensures { string_bytes page.old ≡ [] → OnOk result (ArePieces (IsStep linked.now.board.now.pending) (map (wait_read (λ name. name.now)) waits.now) (string_bytes page.new)) }
+    requires { All (λ fall. fall.node < length fallen.now.names.now) part.now }
+    ensures { string_bytes page.old ≡ [] → OnOk result (ArePieces (IsStep fallen.now.board.now.pending) part.now (string_bytes page.new)) }
 {
-    for wait in waits {
-        let line = step_line(alloc, linked, wait)?;
+    for fall in part {
+        let line = step_line(alloc, fallen, fall)?;
         page.push_str(line.as_str())?;
     }
     Ok(())
 }
 
-/// What is told of a query that waits for these.
+/// The part of the falls that tells why the query of that number waits.
+fn part_of<A: Allocator + Copy>(
+    alloc: A,
+    fallen: &Fallen<'_, A>,
+    number: usize,
+) -> Result<Vec<Fall, A>, AllocError>
+    requires fell { AreFalls fallen.now.board.now fallen.now.falls.now }
+    ensures low { IfOk result (λ part. All (λ fall. fall.node < length fallen.now.names.now) part.items) }
+    ensures part { IfOk result (λ part. IsUnmatched (nodes_of fallen.now.board.now) (edges_of fallen.now.board.now.pending) number → IsReasonPart fallen.now.board.now number part.items) }
+{
+    part_for(alloc, fallen.edges, fallen.falls, number)
+}
+
+/// Why the query of that name and number waits.
 fn waiting_words<A: Allocator + Copy>(
     alloc: A,
-    linked: &Linked<'_, A>,
+    fallen: &Fallen<'_, A>,
     name: &Name<A>,
-    waits: &[Wait<&Name<A>>],
+    number: usize,
 ) -> Result<String<A>, AllocError>
-    ensures { IfOk result (λ text. (steps : List ℕ) × ArePieces (IsStep linked.now.board.now.pending) (map (wait_read (λ name. name.now)) waits.now) steps × (string_bytes text ≡ name.now ++ codes " waits\n" ++ steps)) }
+    requires fell { AreFalls fallen.now.board.now fallen.now.falls.now }
+    requires there { place_of name.now fallen.now.board.now.pending ≡ Some number }
+    requires waits { is_waiting name.now fallen.now.board.now ≡ true }
+    ensures { IfOk result (λ text. IsExplanation fallen.now.board.now name.now (string_bytes text)) }
 {
+    let part = part_of(alloc, fallen, number)?;
     let mut steps = String::new(alloc);
-    put_steps(alloc, linked, waits, &mut steps)?;
+    put_steps(alloc, fallen, &part, &mut steps)?;
     let name = name.as_str();
     let steps = steps.as_str();
     format!(in alloc; "{name} waits\n{steps}")
+}
+
+fn is_waiting<A: Allocator + Copy>(board: &Board<A>, name: &Name<A>) -> bool
+    ensures { result ≡ is_waiting name.now board.now }
+{
+    match board.is_matched(name) {
+        Some(matched) => !matched,
+        None => false,
+    }
 }
 
 /// What is told of a name under which no query waits.
@@ -310,28 +353,42 @@ fn settled_words<A: Allocator + Copy>(
     format!(in alloc; "{name} is matched\n")
 }
 
+/// The number of the first of these names that is that one.
+fn number_of<A: Allocator>(names: &[&Name<A>], wanted: &Name<A>) -> Option<usize>
+    ensures { result ≡ position (λ name. bytes_eq wanted.now name.now) names.now }
+{
+    names
+        .iter()
+        .position(|name| wanted.as_str() == name.as_str())
+}
+
 fn told_of_name<A: Allocator + Copy>(
     alloc: A,
-    linked: &Linked<'_, A>,
+    fallen: &Fallen<'_, A>,
     name: &Name<A>,
 ) -> Result<String<A>, AllocError>
-    ensures { IfOk result (λ text. IsToldBy (matched_named name.now linked.now.board.now) linked.now.board.now name.now (string_bytes text)) }
+    requires fell { AreFalls fallen.now.board.now fallen.now.falls.now }
+    ensures { IfOk result (λ text. IsToldBy (matched_named name.now fallen.now.board.now) fallen.now.board.now name.now (string_bytes text)) }
 {
-    match linked.board.why_waiting(name)? {
-        Some(waits) => waiting_words(alloc, linked, name, &waits),
-        None => settled_words(alloc, linked.board, name),
+    if !is_waiting(fallen.board, name) {
+        return settled_words(alloc, fallen.board, name);
+    }
+    match number_of(fallen.names, name) {
+        Some(number) => waiting_words(alloc, fallen, name, number),
+        None => unreachable!(),
     }
 }
 
 fn told<A: Allocator + Copy>(
     alloc: A,
-    linked: &Linked<'_, A>,
+    fallen: &Fallen<'_, A>,
     word: &str,
 ) -> Result<String<A>, AllocError>
-    ensures { IfOk result (λ text. IsTold linked.now.board.now word.now (string_bytes text)) }
+    requires fell { AreFalls fallen.now.board.now fallen.now.falls.now }
+    ensures { IfOk result (λ text. IsTold fallen.now.board.now word.now (string_bytes text)) }
 {
     match Name::new(alloc, word) {
-        Ok(name) => told_of_name(alloc, linked, &name),
+        Ok(name) => told_of_name(alloc, fallen, &name),
         Err(Bad::NoMemory) => Err(AllocError),
         Err(_) => Ok(String::new(alloc)),
     }
@@ -340,20 +397,21 @@ fn told<A: Allocator + Copy>(
 /// Puts what is told of each of the words on an empty page.
 fn put_told<A: Allocator + Copy>(
     alloc: A,
-    linked: &Linked<'_, A>,
+    fallen: &Fallen<'_, A>,
     words: &[&str],
     page: &mut String<A>,
 ) -> Result<(), AllocError>
-    ensures { string_bytes page.old ≡ [] → OnOk result (ArePieces (IsTold linked.now.board.now) (map (λ word. word.now) words.now) (string_bytes page.new)) }
+    requires fell { AreFalls fallen.now.board.now fallen.now.falls.now }
+    ensures { string_bytes page.old ≡ [] → OnOk result (ArePieces (IsTold fallen.now.board.now) (map (λ word. word.now) words.now) (string_bytes page.new)) }
 {
     for word in words {
-        let text = told(alloc, linked, word)?;
+        let text = told(alloc, fallen, word)?;
         page.push_str(text.as_str())?;
     }
     Ok(())
 }
 
-/// Puts the same where names and edges are not at hand.
+/// Puts what is told of each of the words on an empty page.
 fn put_words<A: Allocator + Copy>(
     alloc: A,
     board: &Board<A>,
@@ -363,22 +421,15 @@ fn put_words<A: Allocator + Copy>(
     ensures { string_bytes page.old ≡ [] → OnOk result (ArePieces (IsTold board.now) (map (λ word. word.now) words.now) (string_bytes page.new)) }
 {
     let names = board.names()?;
-    let links = board.edges()?;
-    let linked = Linked {
+    let edges = board.edges_by_place()?;
+    let falls = board.falls()?;
+    let fallen = Fallen {
         board,
         names: &names,
-        links: &links,
+        edges: &edges,
+        falls: &falls,
     };
-    put_told(alloc, &linked, words, page)
-}
-
-fn is_waiting<A: Allocator + Copy>(board: &Board<A>, name: &Name<A>) -> bool
-    ensures { result ≡ is_waiting name.now board.now }
-{
-    match board.is_matched(name) {
-        Some(matched) => !matched,
-        None => false,
-    }
+    put_told(alloc, &fallen, words, page)
 }
 
 /// Those of the names under which queries wait.
@@ -400,8 +451,8 @@ fn waiting<'a, A: Allocator + Copy>(
 
 /// Why queries of a board wait, told of each of the words in their order. Of a name under which a query waits it is a line
 /// `NAME waits`, and below it a line for each query on which that one rests, itself last, with its reason; of a name under which
-/// a query is matched a line that says so; nothing of any other word. For each word it has the time of
-/// [`Board::why_waiting`], and for each line that of going through names and edges.
+/// a query is matched a line that says so; nothing of any other word. All queries fall once, in the time of [`Board::falls`]; then
+/// each word has the time of a walk through names and falls, and each line that of its providers.
 ///
 /// # Errors
 /// `AllocError` where a growth was refused.

@@ -1,21 +1,38 @@
-use Rattle.std.proofs.Common.{◌≡◌, ◌∙◌, List, ℕ, map, filter, ap}
-use Rattle.std.specs.List.{list_any}
-use Rattle.std.specs.Str.{bytes_eq}
-use Rattle.std.proofs.lemmas.Result.{IfOk-weaker}
-use Rattle.cq_board.specs.declared.link.Link.{Link}
-use Rattle.cq_board.specs.Board.{links_of}
-use Rattle.cq_show.specs.Explain.{leads_to}
-use Rattle.cq_show.proofs.Explained.{common_as}
+use Rattle.std.proofs.Common.{◌≡◌, ◌∙◌, ◌==◌, ℕ, List, map, filter, ap, sym, subst}
+use Rattle.std.specs.List.{Contains}
+use Rattle.std.proofs.lemmas.List.Filters.{dedup_is}
+use Rattle.std.proofs.lemmas.List.Kept.{Contains-dedup_nat, Contains-from_dedup}
+use Rattle.std.proofs.lemmas.List.Sorted.{Contains-permutation, IsPermutation-sym}
+use Rattle.std.proofs.lemmas.Map.Keys.{IsStrictlyIncreasing-dedup}
+use Rattle.cq_match.specs.declared.edge.Edge.{Edge}
+use Rattle.cq_match.specs.Graph.{edges_to}
+use Rattle.cq_board.specs.Edges.{edges_of}
+use Rattle.cq_board.proofs.CallerLemmas.{edges-grouped}
+use Rattle.cq_show.proofs.Explained.{filter_both}
 use Rattle.cq_show.proofs.explaining.providers_of.Goals as goal
+
+pub edges_into-requires : goal.edges_into-requires
+edges_into-requires g c =
+    let fallen = c.args.fallen.now in
+    rw fallen.listed (edges-grouped fallen.board.now.pending)
 
 pub returns : goal.returns
 returns g c =
-    let linked = c.args.linked.now in
-    let names = map (λ name. name.now) linked.names.now in
-    let sent : List (Link (List ℕ)) → List (List ℕ) = λ links. map (λ link. link.provider) (filter (leads_to c.args.name.now c.args.post) links) in
-    let among : List (List ℕ) → List (List ℕ) → List (List ℕ) = λ senders names. filter (λ provider. list_any (bytes_eq provider) senders) names in
-    let senders : map (λ name. name.now) c.deref.result.now ≡ sent (links_of linked.board.now.pending) = ap (map (λ name. name.now)) c.deref.ensures.value ∙ c.in_ok-senders.ensures ∙ ap sent linked.linked in
-    IfOk-weaker c.common.result _ _
-    (λ providers shown.
-    shown ∙ common_as (λ name. name.now) c.deref.result.now names ∙ ap (λ (s : List (List ℕ)). among s names) senders ∙ ap (among (sent (links_of linked.board.now.pending))) linked.named)
-    c.common.ensures
+    let fallen = c.args.fallen.now in
+    let edges = edges_of fallen.board.now.pending in
+    let waiter = c.args.waiter in
+    let post = c.args.post in
+    let sent : List ℕ = map (λ edge. edge.provider) (edges_to waiter post edges) in
+    let senders : c.in_ok-providers.providers.items ≡ sent =
+    c.in_ok-providers.ensures
+    ∙ ap (λ (es : List Edge). map (λ edge. edge.provider) (filter (λ edge. edge.post == post) es)) (c.edges_into.ensures ∙ ap (filter (λ (edge : Edge). edge.waiter == waiter)) fallen.listed)
+    ∙ ap (map (λ (edge : Edge). edge.provider)) (filter_both (λ (edge : Edge). edge.waiter == waiter) (λ edge. edge.post == post) edges) in
+    let is = dedup_is _ _ _ c.dedup.ensures.filtered in
+    let moved = c.sort_unstable.ensures.permutation in
+    record {
+      rising = rw is (IsStrictlyIncreasing-dedup _ c.sort_unstable.ensures.sorted);
+      exact = λ n. (
+        λ h. subst (λ (ns : List ℕ). Contains ns n) senders (Contains-permutation _ _ n (IsPermutation-sym _ _ moved) (Contains-from_dedup _ _ n (rw is at h))),
+        λ h. rw is (Contains-dedup_nat _ n (Contains-permutation _ _ n moved (subst (λ (ns : List ℕ). Contains ns n) (sym senders) h))),
+      );
+    }

@@ -1,7 +1,9 @@
-use Rattle.std.proofs.Common.{◌≡◌, ◌++◌, List, ℕ, subst, sym, append_assoc}
+use Rattle.std.proofs.Common.{◌≡◌, ◌++◌, ◌∙◌, List, ℕ, subst, sym, ap, append_assoc}
 use Rattle.std.specs.Prelude.{codes, string_bytes, IfOk}
 use Rattle.std.proofs.lemmas.Result.{IfOk-weaker}
-use Rattle.cq_show.specs.Explain.{IsReasonTold}
+use Rattle.cq_board.specs.Board.{name_or_none}
+use Rattle.cq_board.proofs.Looked.{name_read}
+use Rattle.cq_show.specs.Explain.{IsReasonTold, name_of_number}
 use Rattle.cq_show.proofs.explaining.step_line.Goals as goal
 
 -- the line, of its name and its reason
@@ -13,11 +15,16 @@ whole name words = simp append_assoc
 
 pub returns : goal.returns
 returns g c =
-    let pending = c.args.linked.now.board.now.pending in
-    let wait = c.args.wait.now in
-    let reason : IsReasonTold pending wait.name.now wait.reason c.as_str-reason.result.now = subst (IsReasonTold pending wait.name.now wait.reason) (sym c.as_str-reason.ensures.value) c.in_ok-reason.ensures in
+    let fallen = c.args.fallen.now in
+    let pending = fallen.board.now.pending in
+    let fall = c.args.fall.now in
+    let is = c.index-fallen-fall.is in
+    let named = ap (λ n. n.now) (sym is) ∙ sym (ap name_or_none (name_read (λ name. name.now) fallen.names.now pending fallen.named fall.node c.index-fallen-fall.result c.requires is)) in
+    let reason : IsReasonTold pending (name_of_number pending fall.node) fall.node fall.reason c.as_str-reason.result.now =
+    subst (IsReasonTold pending (name_of_number pending fall.node) fall.node fall.reason) (sym c.as_str-reason.ensures.value)
+    (subst (λ (n : List ℕ). IsReasonTold pending n fall.node fall.reason (string_bytes c.in_ok-reason.reason)) named c.in_ok-reason.ensures) in
     let written : IfOk c.format.result (λ text. string_bytes text ≡ codes "  " ++ (c.as_str-name.result.now ++ (codes ": " ++ (c.as_str-reason.result.now ++ codes "\n")))) = c.format.ensures.ok in
     let told = subst (λ (bytes : List ℕ). IfOk c.format.result (λ text. string_bytes text ≡ bytes)) (whole c.as_str-name.result.now c.as_str-reason.result.now) written in
     IfOk-weaker c.format.result _ _
     (λ text is. (c.as_str-reason.result.now, reason, is))
-    (subst (λ (name : List ℕ). IfOk c.format.result (λ text. string_bytes text ≡ line name c.as_str-reason.result.now)) c.as_str-name.ensures.bytes told)
+    (subst (λ (name : List ℕ). IfOk c.format.result (λ text. string_bytes text ≡ line name c.as_str-reason.result.now)) (c.as_str-name.ensures.bytes ∙ named) told)
