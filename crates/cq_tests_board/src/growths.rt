@@ -1,54 +1,212 @@
 //! Each growth of a call refused in turn, and calls that ask for none.
 
-use crate::same::are_same;
-use crate::samples::{
-    JERRY, KRAMER, LIMITS, TRAVEL, admit_all, catalog, edit, kramer_and_jerry, made,
-};
-use cq_board::{Board, Edit};
+use crate::able::{P, Q};
+use crate::page::Page;
+use crate::samples::{JERRY, KRAMER, LIMITS, Setup, TRAVEL, WORKED, catalog, edit, made, shows};
+use crate::scratch::{Lists, is_worked, lists_of};
+use crate::shown::{Look, Looks, is_answer, other_look, page_of};
+use crate::views::{BY_SLIP, CROWD, CROWD_SHOWN, JERRY_WAITS, PAIR, SLIPS};
+use cq_board::{Board, Edit, ScratchFault};
+use cq_rel::Catalog;
 use cq_tests_growths::{Outcome, Refusing, Tried, refusals};
 use std::alloc::{AllocError, Allocator, Global};
-use std::test::Fail;
 
-/// The rows and the queries of a board, and an edit of it, all by lines.
+/// A call that is tried on a board, or by which one is made.
 #[derive(Clone, Copy)]
-pub struct Call {
-    pub rows: &'static [&'static str],
-    pub queries: &'static [&'static str],
-    pub edit: &'static str,
+pub enum Call {
+    /// A board begun.
+    Begin,
+    /// A board from scratch.
+    Scratch,
+    /// A board copied.
+    Copy,
+    /// The edit of a line, behind which the board shows what that of the other lines does.
+    Edit(&'static str, Setup),
+    /// What the board shows, by one call after another.
+    Show(Looks),
 }
 
-/// The board before the edit.
-fn board_before<A: Allocator + Copy>(alloc: A, call: Call) -> Result<Board<A>, AllocError> {
-    let mut board = made(alloc, call.rows)?;
-    admit_all(alloc, &mut board, call.queries)?;
-    Ok(board)
+/// What stands before the call, and the call.
+pub type Trial = (Setup, Call);
+
+/// An edit by which a query is posted, which coordinates with the one that waits.
+const JERRY_COMES: Trial = (
+    Setup {
+        rows: &TRAVEL,
+        others: &[KRAMER],
+    },
+    Call::Edit(JERRY, WORKED),
+);
+
+/// An edit by which a row is inserted, and two queries gain a grounding.
+const ROW_COMES: Trial = (
+    TWO,
+    Call::Edit(
+        "insert F(2)",
+        Setup {
+            rows: &["insert F(1)"],
+            others: &[POST_A, POST_B, "insert F(2)"],
+        },
+    ),
+);
+
+const POST_A: &str = "post a {A(x)} B(x) <- F(x)";
+
+const POST_B: &str = "post b {B(x)} A(x) <- F(x)";
+
+/// Two queries over one row.
+const TWO: Setup = Setup {
+    rows: &["insert F(1)"],
+    others: &[POST_A, POST_B],
+};
+
+/// An edit by which a row is inserted, and a query becomes able.
+const ROW_ENABLES: Trial = (
+    Setup {
+        rows: &[],
+        others: &[P, Q],
+    },
+    Call::Edit(
+        "insert F(7)",
+        Setup {
+            rows: &[],
+            others: &[P, Q, "insert F(7)"],
+        },
+    ),
+);
+
+const TRIALS: [Trial; 9] = [
+    (WORKED, Call::Begin),
+    (WORKED, Call::Scratch),
+    (TWO, Call::Copy),
+    JERRY_COMES,
+    ROW_COMES,
+    ROW_ENABLES,
+    (CROWD, Call::Show(CROWD_SHOWN)),
+    (PAIR, Call::Show(JERRY_WAITS)),
+    (SLIPS, Call::Show(BY_SLIP)),
+];
+
+/// The trial at that place.
+struct Nth<const N: usize>;
+
+impl<const N: usize> Tried for Nth<N> {
+    fn tried<A: Allocator + Copy>(alloc: A) -> Outcome {
+        match TRIALS.get(N) {
+            Some(trial) => tried(alloc, *trial),
+            None => Outcome::Wrong,
+        }
+    }
 }
 
-/// Whether the board shows what it did before the edit.
-fn is_before<A: Allocator + Copy>(
-    alloc: A,
-    board: &Board<A>,
-    call: Call,
-) -> Result<bool, AllocError> {
-    let other = board_before(alloc, call)?;
-    let same = are_same(alloc, board, &other);
-    drop(other);
-    same
+/// Whether each growth of the trial is refused in turn, and so many are at least.
+fn is_refused<T: Tried>(alloc: Global, least: u64) -> bool {
+    match refusals::<T>(alloc) {
+        Ok(count) => count >= least,
+        Err(_) => false,
+    }
 }
 
-/// Whether the board shows what an edit with ample memory makes of it.
-fn is_edited<A: Allocator + Copy>(
-    alloc: A,
-    board: &Board<A>,
-    call: Call,
-) -> Result<bool, AllocError> {
-    let mut other = board_before(alloc, call)?;
-    let same = match admit_all(alloc, &mut other, [call.edit].as_slice()) {
-        Ok(()) => are_same(alloc, board, &other),
-        Err(refused) => Err(refused),
+fn tried<A: Allocator + Copy>(alloc: A, trial: Trial) -> Outcome {
+    let (setup, call) = trial;
+    match call {
+        Call::Begin => begun(alloc),
+        Call::Scratch => scratched(alloc, setup),
+        _ => match made(alloc, setup) {
+            Ok(mut board) => {
+                let outcome = on_board(alloc, &mut board, call);
+                drop(board);
+                outcome
+            }
+            Err(_) => Outcome::Unready,
+        },
+    }
+}
+
+fn on_board<A: Allocator + Copy>(alloc: A, board: &mut Board<A>, call: Call) -> Outcome {
+    match call {
+        Call::Copy => copied(alloc, board),
+        Call::Edit(line, behind) => edited(alloc, board, line, behind),
+        Call::Show(looks) => shown(alloc, board, looks),
+        _ => Outcome::Wrong,
+    }
+}
+
+/// Whether a board that is begun over the catalog has the limits, and neither query nor row.
+fn begins<A: Allocator + Copy>(alloc: A, catalog: Catalog<A>) -> Result<bool, AllocError> {
+    let board = Board::begin(alloc, catalog, LIMITS)?;
+    let empty = is_answer(alloc, &board, Look::Counts, "0 3 9 0 0");
+    drop(board);
+    empty
+}
+
+fn begins_again<A: Allocator + Copy>(alloc: A) -> bool {
+    match catalog(alloc) {
+        Ok(catalog) => begins(alloc, catalog) == Ok(true),
+        Err(_) => false,
+    }
+}
+
+fn begun<A: Allocator + Copy>(alloc: A) -> Outcome {
+    let Ok(catalog) = catalog(alloc) else {
+        return Outcome::Unready;
     };
-    drop(other);
-    same
+    match begins(alloc, catalog) {
+        Ok(empty) => Outcome::done_if(empty),
+        Err(_) => Outcome::refused_if(begins_again(alloc)),
+    }
+}
+
+fn is_worked_again<A: Allocator + Copy>(alloc: A, lists: &Lists<A>) -> bool {
+    match catalog(alloc) {
+        Ok(catalog) => is_worked(alloc, catalog, lists) == Ok(true),
+        Err(_) => false,
+    }
+}
+
+fn from_lists<A: Allocator + Copy>(alloc: A, lists: &Lists<A>) -> Outcome {
+    let Ok(catalog) = catalog(alloc) else {
+        return Outcome::Unready;
+    };
+    match is_worked(alloc, catalog, lists) {
+        Ok(right) => Outcome::done_if(right),
+        Err(fault) => Outcome::refused_if(
+            fault == ScratchFault::NoMemory && is_worked_again(alloc, lists),
+        ),
+    }
+}
+
+fn scratched<A: Allocator + Copy>(alloc: A, setup: Setup) -> Outcome {
+    match lists_of(alloc, setup) {
+        Ok(lists) => {
+            let outcome = from_lists(alloc, &lists);
+            drop(lists);
+            outcome
+        }
+        Err(_) => Outcome::Unready,
+    }
+}
+
+/// What a copy of the board shows; nothing where the look was refused a growth.
+fn copy_of<A: Allocator + Copy>(alloc: A, board: &Board<A>) -> Result<Option<Page>, AllocError> {
+    let copy = board.copy()?;
+    let page = page_of(alloc, &copy);
+    drop(copy);
+    Ok(page.ok())
+}
+
+fn copied<A: Allocator + Copy>(alloc: A, board: &Board<A>) -> Outcome {
+    let Ok(page) = page_of(alloc, board) else {
+        return Outcome::Unready;
+    };
+    match copy_of(alloc, board) {
+        Ok(Some(copy)) => Outcome::done_if(copy.is_same(&page)),
+        Ok(None) => Outcome::Unready,
+        Err(_) => Outcome::refused_if(match copy_of(alloc, board) {
+            Ok(Some(copy)) => copy.is_same(&page),
+            _ => false,
+        }),
+    }
 }
 
 /// Done, where that is what is shown; there is no telling where the look was refused a growth.
@@ -64,129 +222,100 @@ fn admits_again<A: Allocator + Copy>(
     alloc: A,
     board: &mut Board<A>,
     edit: &Edit<A>,
-    call: Call,
-) -> bool {
-    is_before(alloc, board, call) == Ok(true)
-        && board.admit(edit) == Ok(None)
-        && is_edited(alloc, board, call) == Ok(true)
+    before: &Page,
+    behind: Setup,
+) -> Result<bool, AllocError> {
+    Ok(
+        page_of(alloc, board)?.is_same(before)
+            && board.admit(edit) == Ok(None)
+            && shows(alloc, board, behind)?,
+    )
 }
 
 fn admitted<A: Allocator + Copy>(
     alloc: A,
     board: &mut Board<A>,
     edit: &Edit<A>,
-    call: Call,
+    behind: Setup,
 ) -> Outcome {
+    let Ok(before) = page_of(alloc, board) else {
+        return Outcome::Unready;
+    };
     match board.admit(edit) {
-        Ok(None) => done(is_edited(alloc, board, call)),
+        Ok(None) => done(shows(alloc, board, behind)),
         Ok(Some(_)) => Outcome::Wrong,
-        Err(_) => Outcome::refused_if(admits_again(alloc, board, edit, call)),
-    }
-}
-
-pub fn tried<A: Allocator + Copy>(alloc: A, call: Call) -> Outcome {
-    match (board_before(alloc, call), edit(alloc, call.edit)) {
-        (Ok(mut board), Ok(edit)) => admitted(alloc, &mut board, &edit, call),
-        _ => Outcome::Unready,
-    }
-}
-
-/// A board begun.
-struct Beginning;
-
-fn is_begun<A: Allocator + Copy>(board: &Board<A>) -> bool {
-    board.len() == 0 && board.limits() == LIMITS && board.tables().count("Flights") == Some(0)
-}
-
-fn begins<A: Allocator + Copy>(alloc: A) -> bool {
-    match made(alloc, [].as_slice()) {
-        Ok(board) => is_begun(&board),
-        Err(_) => false,
-    }
-}
-
-impl Tried for Beginning {
-    fn tried<A: Allocator + Copy>(alloc: A) -> Outcome {
-        let Ok(catalog) = catalog(alloc) else {
-            return Outcome::Unready;
-        };
-        match Board::begin(alloc, catalog, LIMITS) {
-            Ok(board) => Outcome::done_if(is_begun(&board)),
-            Err(_) => Outcome::refused_if(begins(alloc)),
+        Err(_) => {
+            Outcome::refused_if(admits_again(alloc, board, edit, &before, behind) == Ok(true))
         }
+    }
+}
+
+fn edited<A: Allocator + Copy>(
+    alloc: A,
+    board: &mut Board<A>,
+    line: &str,
+    behind: Setup,
+) -> Outcome {
+    match edit(alloc, line.as_bytes()) {
+        Ok(edit) => {
+            let outcome = admitted(alloc, board, &edit, behind);
+            drop(edit);
+            outcome
+        }
+        Err(_) => Outcome::Unready,
+    }
+}
+
+fn shown<A: Allocator + Copy>(alloc: A, board: &Board<A>, looks: Looks) -> Outcome {
+    match other_look(alloc, board, looks) {
+        Ok(other) => Outcome::done_if(other.is_none()),
+        Err(_) => Outcome::refused_if(other_look(alloc, board, looks) == Ok(None)),
     }
 }
 
 #[test]
 fn refused_growth_in_begin(rt: HostRuntime) {
-    assert!(rt; matches!(refusals::<Beginning>(rt.alloc()), Ok(1..)));
-}
-
-/// A query posted, which coordinates with the one that waits.
-struct Posting;
-
-const JERRY_COMES: Call = Call {
-    rows: &TRAVEL,
-    queries: &[KRAMER],
-    edit: JERRY,
-};
-
-impl Tried for Posting {
-    fn tried<A: Allocator + Copy>(alloc: A) -> Outcome {
-        tried(alloc, JERRY_COMES)
-    }
+    assert!(rt; is_refused::<Nth<0>>(rt.alloc(), 1));
 }
 
 #[test]
-fn refused_growth_in_admit(rt: HostRuntime) {
-    assert!(rt; matches!(refusals::<Posting>(rt.alloc()), Ok(20..)));
-}
-
-/// A row inserted, by which two queries gain a grounding.
-struct Inserting;
-
-const ROW_COMES: Call = Call {
-    rows: &["insert F(1)"],
-    queries: &["post a {A(x)} B(x) <- F(x)", "post b {B(x)} A(x) <- F(x)"],
-    edit: "insert F(2)",
-};
-
-impl Tried for Inserting {
-    fn tried<A: Allocator + Copy>(alloc: A) -> Outcome {
-        tried(alloc, ROW_COMES)
-    }
-}
-
-#[test]
-fn refused_growth_in_an_insertion(rt: HostRuntime) {
-    assert!(rt; matches!(refusals::<Inserting>(rt.alloc()), Ok(10..)));
-}
-
-/// A board copied.
-struct Copying;
-
-fn copied<A: Allocator + Copy>(alloc: A, board: &Board<A>) -> Outcome {
-    match board.copy() {
-        Ok(copy) => done(is_before(alloc, &copy, ROW_COMES)),
-        Err(_) => Outcome::refused_if(match board.copy() {
-            Ok(copy) => is_before(alloc, &copy, ROW_COMES) == Ok(true),
-            Err(_) => false,
-        }),
-    }
-}
-
-impl Tried for Copying {
-    fn tried<A: Allocator + Copy>(alloc: A) -> Outcome {
-        match board_before(alloc, ROW_COMES) {
-            Ok(board) => copied(alloc, &board),
-            Err(_) => Outcome::Unready,
-        }
-    }
+fn refused_growth_in_scratch(rt: HostRuntime) {
+    assert!(rt; is_refused::<Nth<1>>(rt.alloc(), 20));
 }
 
 #[test]
 fn refused_growth_in_copy(rt: HostRuntime) {
-    assert!(rt; matches!(refusals::<Copying>(rt.alloc()), Ok(20..)));
+    assert!(rt; is_refused::<Nth<2>>(rt.alloc(), 20));
+}
+
+#[test]
+fn refused_growth_in_admit(rt: HostRuntime) {
+    assert!(rt; is_refused::<Nth<3>>(rt.alloc(), 20));
+}
+
+#[test]
+fn refused_growth_in_an_insertion(rt: HostRuntime) {
+    assert!(rt; is_refused::<Nth<4>>(rt.alloc(), 10));
+}
+
+#[test]
+fn refused_growth_in_an_insertion_that_enables(rt: HostRuntime) {
+    assert!(rt; is_refused::<Nth<5>>(rt.alloc(), 4));
+}
+
+#[test]
+fn refused_growth_in_views(rt: HostRuntime) {
+    assert!(rt; is_refused::<Nth<6>>(rt.alloc(), 5));
+}
+
+#[test]
+fn refused_growth_in_why_waiting(rt: HostRuntime) {
+    assert!(rt; is_refused::<Nth<7>>(rt.alloc(), 2));
+}
+
+#[test]
+fn refused_growth_in_near_misses(rt: HostRuntime) {
+    assert!(rt; is_refused::<Nth<8>>(rt.alloc(), 2));
 }
 
 /// How many growths the edit of the line asks the heap for; `None` where it is refused.
@@ -195,33 +324,39 @@ fn asked_of<'a>(
     board: &mut Board<&'a Refusing<Global>>,
     line: &str,
 ) -> Result<Option<u64>, AllocError> {
-    let edit = edit(heap, line)?;
+    let edit = edit(heap, line.as_bytes())?;
     let before = heap.grown();
-    let told = board.admit(&edit)?;
+    let told = board.admit(&edit);
     let growths = heap.grown().saturating_sub(before);
-    Ok(if told.is_none() { Some(growths) } else { None })
+    drop(edit);
+    Ok(if told?.is_none() { Some(growths) } else { None })
 }
 
 /// The same at the worked board.
 fn asked(alloc: Global, line: &str) -> Result<Option<u64>, AllocError> {
     let heap = Refusing::new(alloc, u64::MAX);
-    let mut board = kramer_and_jerry(&heap)?;
+    let mut board = made(&heap, WORKED)?;
     let asked = asked_of(&heap, &mut board, line);
     drop(board);
     asked
 }
 
+/// Lines of edits, and whether each asks for growths.
+const ASKING: [(&str, bool); 5] = [
+    ("withdraw kramer", false),
+    ("withdraw jerry", false),
+    ("delete Flights(122, Paris)", false),
+    ("post newman {} N(1) <-", true),
+    ("insert Flights(140, Paris)", true),
+];
+
 #[test]
-fn what_goes_takes_no_memory(rt: HostRuntime) -> Result<(), Fail> {
-    for line in [
-        "withdraw kramer",
-        "withdraw jerry",
-        "delete Flights(122, Paris)",
-    ] {
-        assert!(rt; asked(rt.alloc(), line)? == Some(0), "{line}");
+fn what_goes_takes_no_memory(rt: HostRuntime) {
+    for (line, asks) in ASKING {
+        let asked = asked(rt.alloc(), line);
+        assert!(rt;
+            matches!(asked, Ok(Some(growths)) if (growths > 0) == asks),
+            "{line}"
+        );
     }
-    for line in ["post newman {} N(1) <-", "insert Flights(140, Paris)"] {
-        assert!(rt; matches!(asked(rt.alloc(), line)?, Some(1..)), "{line}");
-    }
-    Ok(())
 }

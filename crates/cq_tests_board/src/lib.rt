@@ -1,6 +1,7 @@
 //! Tests of `cq_board`: the worked rows with their work, lists of edits beside boards from scratch, each public call once
-//! with ample memory, and each growth of an edit refused in turn. Edits are read from lines. What is printed of the worked
-//! rows stands in the cases, as whole scripts. Nothing but tests is here, and no crate stands on this one.
+//! with ample memory, and each growth of an edit refused in turn. Tests are tables, which a few drivers run. Edits are
+//! read from lines, and what a board shows is compared as words on a page. What is printed of the worked rows stands in
+//! the cases, as whole scripts. Nothing but tests is here, and no crate stands on this one.
 #![tactic(auto)]
 
 #[cfg(test)]
@@ -14,14 +15,14 @@ mod growths;
 #[cfg(test)]
 mod lists;
 #[cfg(test)]
-mod near;
+mod page;
 #[cfg(test)]
 mod rows;
-#[cfg(test)]
-mod same;
 #[cfg(test)]
 mod samples;
 #[cfg(test)]
 mod scratch;
+#[cfg(test)]
+mod shown;
 #[cfg(test)]
 mod views;

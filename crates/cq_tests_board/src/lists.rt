@@ -1,13 +1,13 @@
 //! Lists of edits from a generator: after each fifth edit the board shows what one from scratch shows, over plain lists
 //! of the queries and rows that are left.
 
-use crate::same::are_same;
-use crate::samples::{begun, catalog, edit};
-use cq_atom::{Name, Query, Row};
-use cq_board::{Board, Edit, EditKind, Limits, ScratchFault};
+use crate::page::Page;
+use crate::samples::{begun, edit};
+use crate::scratch::{Lists, page_from};
+use crate::shown::page_of;
+use cq_board::{Board, Edit, Limits, ScratchFault};
 use std::alloc::{AllocError, Global};
 use std::mem::{drop, replace};
-use std::test::Fail;
 
 const LIMITS: Limits = Limits {
     pool: 5,
@@ -75,49 +75,64 @@ const ROWS: [&str; 12] = [
     "F(3)", "T(1)", "G(1)",
 ];
 
-/// One or two of the atoms.
-fn drawn_atoms(
-    alloc: Global,
-    draws: &mut Draws,
-    atoms: &[&'static str],
-) -> Result<String, AllocError> {
+/// One of the atoms, and in one of three cases a second one.
+fn drawn_atoms(draws: &mut Draws, atoms: &[&'static str]) -> (&'static str, &'static str) {
     let first = draws.one_of(atoms);
     if draws.below(3) != 0 {
-        return format!(in alloc; "{first}");
+        return (first, "");
     }
-    let second = draws.one_of(atoms);
-    format!(in alloc; "{first}, {second}")
+    (first, draws.one_of(atoms))
+}
+
+fn put_atoms(atoms: (&str, &str), page: &mut Page) {
+    let (first, second) = atoms;
+    page.put(first);
+    page.put(if second.is_empty() { "" } else { ", " });
+    page.put(second);
 }
 
 /// A posting of these atoms and that body; one in four awaits nothing.
-fn drawn_posting(
-    alloc: Global,
-    draws: &mut Draws,
-    atoms: &[&'static str],
-    body: &str,
-) -> Result<String, AllocError> {
-    let name = draws.one_of(NAMES.as_slice());
-    let heads = drawn_atoms(alloc, draws, atoms)?;
-    if draws.below(4) == 0 {
-        return format!(in alloc; "post {name} {{}} {heads} <- {body}");
-    }
-    let posts = drawn_atoms(alloc, draws, atoms)?;
-    format!(in alloc; "post {name} {{{posts}}} {heads} <- {body}")
+fn put_posting(draws: &mut Draws, atoms: &[&'static str], body: &str, page: &mut Page) {
+    page.put("post ");
+    page.put(draws.one_of(NAMES.as_slice()));
+    let heads = drawn_atoms(draws, atoms);
+    let posts = if draws.below(4) == 0 {
+        ("", "")
+    } else {
+        drawn_atoms(draws, atoms)
+    };
+    page.put(" {");
+    put_atoms(posts, page);
+    page.put("} ");
+    put_atoms(heads, page);
+    page.put(" <- ");
+    page.put(body);
 }
 
 /// The line of an edit.
-fn drawn_line(alloc: Global, draws: &mut Draws) -> Result<String, AllocError> {
+fn put_line(draws: &mut Draws, page: &mut Page) {
     let name = draws.one_of(NAMES.as_slice());
     let row = draws.one_of(ROWS.as_slice());
-    match draws.below(12) {
+    let (verb, what) = match draws.below(12) {
         0..=2 => {
             let body = draws.one_of(BODIES.as_slice());
-            drawn_posting(alloc, draws, OPEN.as_slice(), body)
+            return put_posting(draws, OPEN.as_slice(), body, page);
         }
-        3 => drawn_posting(alloc, draws, CLOSED.as_slice(), ""),
-        4..=6 => format!(in alloc; "withdraw {name}"),
-        7..=9 => format!(in alloc; "insert {row}"),
-        _ => format!(in alloc; "delete {row}"),
+        3 => return put_posting(draws, CLOSED.as_slice(), "", page),
+        4..=6 => ("withdraw ", name),
+        7..=9 => ("insert ", row),
+        _ => ("delete ", row),
+    };
+    page.put(verb);
+    page.put(what);
+}
+
+fn drawn_edit(alloc: Global, draws: &mut Draws) -> Result<Edit, AllocError> {
+    let mut page = Page::new();
+    put_line(draws, &mut page);
+    match page.text() {
+        Some(line) => edit(alloc, line),
+        None => Err(AllocError),
     }
 }
 
@@ -133,16 +148,23 @@ struct Seen {
     crowded: u64,
 }
 
+/// How many a call tells.
+fn count_of<T: Drop>(told: Result<Vec<T>, AllocError>) -> Result<usize, AllocError> {
+    let items = told?;
+    Ok(items.len())
+}
+
 impl Seen {
     fn look(&mut self, board: &Board) -> Result<(), AllocError> {
-        let matched = board.matched()?.len();
+        let matched = count_of(board.matched())?;
+        let crowds = count_of(board.crowded())?;
         if matched > 0 {
             self.matched = self.matched.saturating_add(1);
         }
         if matched < board.len() {
             self.waiting = self.waiting.saturating_add(1);
         }
-        if board.crowded()?.len() > 0 {
+        if crowds > 0 {
             self.crowded = self.crowded.saturating_add(1);
         }
         Ok(())
@@ -153,60 +175,33 @@ impl Seen {
 #[derive(Drop)]
 struct Twin {
     board: Board,
-    queries: Vec<(Name, Query)>,
-    rows: Vec<Row>,
+    lists: Lists,
 }
 
-fn is_row(row: &Row, other: &Row) -> bool {
-    row.relation() == other.relation() && row.values() == other.values()
+/// Goes on with a copy in place of the board.
+fn go_on_with_copy(board: &mut Board) -> Result<(), AllocError> {
+    let copy = board.copy()?;
+    drop(replace(board, copy));
+    Ok(())
 }
 
-impl Twin {
-    fn begin(alloc: Global) -> Result<Twin, AllocError> {
-        Ok(Twin {
-            board: begun(alloc, LIMITS.pool)?,
-            queries: Vec::new(alloc),
-            rows: Vec::new(alloc),
-        })
+/// Puts an edit to the board, and to the lists where it is not refused.
+fn admit(twin: &mut Twin, edit: Edit, seen: &mut Seen) -> Result<(), AllocError> {
+    let told = twin.board.admit(&edit);
+    if told == Ok(None) {
+        return twin.lists.take(edit);
     }
+    drop(edit);
+    let _ = told?;
+    seen.refused = seen.refused.saturating_add(1);
+    Ok(())
+}
 
-    /// Does to the lists what the edit does to a pool.
-    fn list(&mut self, edit: Edit) -> Result<(), AllocError> {
-        match edit {
-            EditKind::Post { name, query } => self.queries.push((name, query))?,
-            EditKind::Withdraw { name } => self
-                .queries
-                .retain(|other| other.0.as_str() != name.as_str()),
-            EditKind::Insert { row } => self.rows.push(row)?,
-            EditKind::Delete { row } => self.rows.retain(|other| !is_row(other, &row)),
-        }
-        Ok(())
-    }
-
-    /// Puts an edit to the board.
-    fn admit(&mut self, edit: Edit, seen: &mut Seen) -> Result<(), AllocError> {
-        if self.board.admit(&edit)?.is_none() {
-            return self.list(edit);
-        }
-        seen.refused = seen.refused.saturating_add(1);
-        Ok(())
-    }
-
-    /// Goes on with a copy in place of the board.
-    fn go_on_with_copy(&mut self) -> Result<(), AllocError> {
-        let copy = self.board.copy()?;
-        drop(replace(&mut self.board, copy));
-        Ok(())
-    }
-
-    /// Whether the board shows what one from scratch shows.
-    fn is_kept(&self, alloc: Global) -> Result<bool, ScratchFault> {
-        let catalog = catalog(alloc)?;
-        let board = Board::scratch(alloc, catalog, LIMITS, &self.queries, &self.rows)?;
-        let same = are_same(alloc, &self.board, &board);
-        drop(board);
-        Ok(same?)
-    }
+/// Whether the board shows what one from scratch shows.
+fn is_kept(alloc: Global, twin: &Twin) -> Result<bool, ScratchFault> {
+    let page = page_of(alloc, &twin.board)?;
+    let wanted = page_from(alloc, &twin.lists, LIMITS)?;
+    Ok(page.is_same(&wanted))
 }
 
 /// Makes an edit, or goes on with a copy.
@@ -217,10 +212,9 @@ fn change(
     seen: &mut Seen,
 ) -> Result<(), AllocError> {
     if draws.below(16) == 0 {
-        return twin.go_on_with_copy();
+        return go_on_with_copy(&mut twin.board);
     }
-    let line = drawn_line(alloc, draws)?;
-    twin.admit(edit(alloc, line.as_str())?, seen)
+    admit(twin, drawn_edit(alloc, draws)?, seen)
 }
 
 /// Makes five edits, and looks at what they left.
@@ -245,7 +239,7 @@ fn keep(
 ) -> Result<bool, ScratchFault> {
     for _ in 0..10 {
         change_five(alloc, draws, twin, seen)?;
-        if !twin.is_kept(alloc)? {
+        if !is_kept(alloc, twin)? {
             return Ok(false);
         }
     }
@@ -254,7 +248,10 @@ fn keep(
 
 /// The same of a board that begins.
 fn keep_list(alloc: Global, draws: &mut Draws, seen: &mut Seen) -> Result<bool, ScratchFault> {
-    let mut twin = Twin::begin(alloc)?;
+    let mut twin = Twin {
+        board: begun(alloc, LIMITS.pool)?,
+        lists: Lists::new(alloc),
+    };
     let kept = keep(alloc, draws, &mut twin, seen);
     drop(twin);
     kept
@@ -272,18 +269,17 @@ fn other_list(alloc: Global, seen: &mut Seen) -> Result<Option<usize>, ScratchFa
 }
 
 #[test]
-fn two_hundred_lists_of_edits(rt: HostRuntime) -> Result<(), Fail> {
+fn two_hundred_lists_of_edits(rt: HostRuntime) {
     let mut seen = Seen {
         refused: 0,
         matched: 0,
         waiting: 0,
         crowded: 0,
     };
-    let other = other_list(rt.alloc(), &mut seen)?;
+    let other = other_list(rt.alloc(), &mut seen);
     let many = seen.refused >= 2_000
         && seen.matched >= 300
         && seen.waiting >= 300
         && seen.crowded >= 300;
-    assert!(rt; other.is_none() && many, "{other:?} {seen:?}");
-    Ok(())
+    assert!(rt; other == Ok(None) && many, "{other:?} {seen:?}");
 }

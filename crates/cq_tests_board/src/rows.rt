@@ -1,7 +1,7 @@
 //! The worked rows: after each edit its answer, the matched queries, and the work.
 
 use crate::samples::{JERRY, KRAMER, TRAVEL, admit_all, begun, edit};
-use crate::views::are_matched;
+use crate::shown::{Look, is_answer};
 use cq_atom::Part;
 use cq_board::{Board, Why, Work};
 use std::alloc::{AllocError, Global};
@@ -24,106 +24,102 @@ pub enum Comes {
 use Comes::{Deleted, Inserted, Posted, Refused, Withdrawn};
 
 /// The line of an edit, what comes of it, and the names that are matched after it.
-pub type Step = (&'static str, Comes, &'static [&'static str]);
+pub type Step = (&'static str, Comes, &'static str);
 
-const KRAMER_WAITS: [Step; 1] = [(KRAMER, Posted(0), &[])];
+const KRAMER_WAITS: [Step; 1] = [(KRAMER, Posted(0), "")];
 
-const KRAMER_AND_JERRY: [Step; 1] = [(JERRY, Posted(2), &["kramer", "jerry"])];
+const KRAMER_AND_JERRY: [Step; 1] = [(JERRY, Posted(2), "kramer jerry")];
 
-const KRAMER_WITHDRAWN: [Step; 1] = [("withdraw kramer", Withdrawn(2), &[])];
+const KRAMER_WITHDRAWN: [Step; 1] = [("withdraw kramer", Withdrawn(2), "")];
 
-const KRAMER_POSTED_AGAIN: [Step; 1] = [(KRAMER, Posted(2), &["jerry", "kramer"])];
+const KRAMER_POSTED_AGAIN: [Step; 1] = [(KRAMER, Posted(2), "jerry kramer")];
 
 const RING_OF_THREE: [Step; 5] = [
-    ("post a {S(2)} S(1) <-", Posted(0), &[]),
-    ("post b {S(3)} S(2) <-", Posted(1), &[]),
-    ("post c {S(1)} S(3) <-", Posted(2), &["a", "b", "c"]),
-    ("withdraw b", Withdrawn(3), &[]),
-    ("post b {S(3)} S(2) <-", Posted(2), &["a", "c", "b"]),
+    ("post a {S(2)} S(1) <-", Posted(0), ""),
+    ("post b {S(3)} S(2) <-", Posted(1), ""),
+    ("post c {S(1)} S(3) <-", Posted(2), "a b c"),
+    ("withdraw b", Withdrawn(3), ""),
+    ("post b {S(3)} S(2) <-", Posted(2), "a c b"),
 ];
 
 const REVIVED_BY_A_THIRD: [Step; 3] = [
-    ("post u {P(2), P(3)} P(1) <-", Posted(0), &[]),
-    ("post v {P(1), P(3)} P(2) <-", Posted(2), &[]),
-    ("post z {} P(3) <-", Posted(2), &["u", "v", "z"]),
+    ("post u {P(2), P(3)} P(1) <-", Posted(0), ""),
+    ("post v {P(1), P(3)} P(2) <-", Posted(2), ""),
+    ("post z {} P(3) <-", Posted(2), "u v z"),
 ];
 
 const THIRD_WITHDRAWN: [Step; 2] = [
-    ("withdraw z", Withdrawn(4), &[]),
-    ("post z {} P(3) <-", Posted(2), &["u", "v", "z"]),
+    ("withdraw z", Withdrawn(4), ""),
+    ("post z {} P(3) <-", Posted(2), "u v z"),
 ];
 
 const CROWDED_SUPPLIER: [Step; 4] = [
-    ("post w {R(1)} Q(1) <-", Posted(0), &[]),
-    ("post h1 {} R(1) <-", Posted(1), &["w", "h1"]),
-    ("post h2 {Z(1)} R(1) <-", Posted(1), &["w", "h1"]),
-    ("withdraw h2", Withdrawn(0), &["w", "h1"]),
+    ("post w {R(1)} Q(1) <-", Posted(0), ""),
+    ("post h1 {} R(1) <-", Posted(1), "w h1"),
+    ("post h2 {Z(1)} R(1) <-", Posted(1), "w h1"),
+    ("withdraw h2", Withdrawn(0), "w h1"),
 ];
 
 const SUPPLIES_ITSELF: [Step; 1] = [(
     "post s {R(A, x)} R(A, x) <- Flights(x, Rome)",
     Posted(1),
-    &["s"],
+    "s",
 )];
 
 const BOTH_WAYS: [Step; 5] = [
-    ("post t {} R(x, y) <- T(x, y), T(y, x)", Posted(0), &[]),
-    ("insert T(1, 2)", Inserted(1), &[]),
-    ("insert T(2, 1)", Inserted(1), &["t"]),
-    ("insert T(1, 1)", Inserted(1), &["t"]),
-    ("delete T(1, 2)", Deleted(1, 0), &["t"]),
+    ("post t {} R(x, y) <- T(x, y), T(y, x)", Posted(0), ""),
+    ("insert T(1, 2)", Inserted(1), ""),
+    ("insert T(2, 1)", Inserted(1), "t"),
+    ("insert T(1, 1)", Inserted(1), "t"),
+    ("delete T(1, 2)", Deleted(1, 0), "t"),
 ];
 
-const EMPTY_BODY: [Step; 1] = [("post one {} R(1) <-", Posted(0), &["one"])];
+const EMPTY_BODY: [Step; 1] = [("post one {} R(1) <-", Posted(0), "one")];
 
 const NUMBER_IS_NO_TEXT: [Step; 3] = [
-    ("post n {R(122)} Q(1) <-", Posted(0), &[]),
-    ("post t {} R(\"122\") <-", Posted(0), &["t"]),
-    (
-        "post l {} R(-9223372036854775808) <-",
-        Posted(0),
-        &["t", "l"],
-    ),
+    ("post n {R(122)} Q(1) <-", Posted(0), ""),
+    ("post t {} R(\"122\") <-", Posted(0), "t"),
+    ("post l {} R(-9223372036854775808) <-", Posted(0), "t l"),
 ];
 
 const EVERY_REFUSAL: [Step; 10] = [
-    ("insert Flights(122, Paris)", Inserted(0), &[]),
-    ("insert Flights(122, Paris)", Refused(Why::RowPresent), &[]),
-    ("delete Flights(122, Rome)", Refused(Why::RowAbsent), &[]),
-    ("post a {} R(1) <-", Posted(0), &["a"]),
-    ("post a {} R(2) <-", Refused(Why::NameTaken), &["a"]),
-    ("withdraw a", Withdrawn(0), &[]),
-    ("withdraw a", Refused(Why::NoSuchName), &[]),
+    ("insert Flights(122, Paris)", Inserted(0), ""),
+    ("insert Flights(122, Paris)", Refused(Why::RowPresent), ""),
+    ("delete Flights(122, Rome)", Refused(Why::RowAbsent), ""),
+    ("post a {} R(1) <-", Posted(0), "a"),
+    ("post a {} R(2) <-", Refused(Why::NameTaken), "a"),
+    ("withdraw a", Withdrawn(0), ""),
+    ("withdraw a", Refused(Why::NoSuchName), ""),
     (
         "post c {} Flights(1, 2) <-",
         Refused(Why::NotAnswer {
             part: Part::Heads,
             place: 0,
         }),
-        &[],
+        "",
     ),
     (
         "post d {} R(x) <- Flights(x)",
         Refused(Why::Arity { place: 0 }),
-        &[],
+        "",
     ),
     (
         "post e {} R(x) <- Trains(x)",
         Refused(Why::UnknownRelation { place: 0 }),
-        &[],
+        "",
     ),
 ];
 
 const PUBLISHED_GROUNDINGS: [Step; 4] = [
-    ("insert Flights(122, Paris)", Inserted(0), &[]),
-    ("post k {} R(x) <- Flights(x, Paris)", Posted(0), &["k"]),
-    ("delete Flights(122, Paris)", Deleted(1, 0), &[]),
-    ("insert Flights(122, Rome)", Inserted(1), &[]),
+    ("insert Flights(122, Paris)", Inserted(0), ""),
+    ("post k {} R(x) <- Flights(x, Paris)", Posted(0), "k"),
+    ("delete Flights(122, Paris)", Deleted(1, 0), ""),
+    ("insert Flights(122, Rome)", Inserted(1), ""),
 ];
 
 const LIMITS: [Step; 2] = [
-    ("post a {} R(1) <-", Posted(0), &["a"]),
-    ("post a {} R(1) <-", Refused(Why::PoolFull), &["a"]),
+    ("post a {} R(1) <-", Posted(0), "a"),
+    ("post a {} R(1) <-", Refused(Why::PoolFull), "a"),
 ];
 
 /// What is put into a board, how many queries may be pending on it, and rows that follow one another there, each by its
@@ -182,13 +178,18 @@ fn is_done(comes: Comes, work: &Work) -> bool {
     work.tests.count() == tests && work.visits.count() == visits && work.changes.count() <= most
 }
 
-/// Whether the step goes as told.
-fn goes(alloc: Global, board: &mut Board, step: Step) -> Result<bool, AllocError> {
-    let (line, comes, matched) = step;
-    let edit = edit(alloc, line)?;
+/// Whether the edit of the line comes out so.
+fn is_admitted(
+    alloc: Global,
+    board: &mut Board,
+    line: &str,
+    wanted: Comes,
+) -> Result<bool, AllocError> {
+    let edit = edit(alloc, line.as_bytes())?;
     let mut work = Work::new();
-    let told = board.admit_counted(&edit, &mut work)?;
-    Ok(is_told(comes, told) && is_done(comes, &work) && are_matched(board, matched)?)
+    let told = board.admit_counted(&edit, &mut work);
+    drop(edit);
+    Ok(is_told(wanted, told?) && is_done(wanted, &work))
 }
 
 /// The line of the first step that does not go as told.
@@ -197,9 +198,11 @@ fn other_step(
     board: &mut Board,
     steps: &[Step],
 ) -> Result<Option<&'static str>, AllocError> {
-    for step in steps {
-        if !goes(alloc, board, *step)? {
-            return Ok(Some(step.0));
+    for (line, wanted, matched) in steps {
+        if !is_admitted(alloc, board, line, *wanted)?
+            || !is_answer(alloc, board, Look::Matched, matched)?
+        {
+            return Ok(Some(*line));
         }
     }
     Ok(None)

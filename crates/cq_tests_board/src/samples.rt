@@ -1,5 +1,7 @@
 //! Boards that several tests use.
 
+use crate::page::Page;
+use crate::shown::{Looks, other_look, page_of};
 use cq_board::{Board, Edit, EditKind, Limits, Why};
 use cq_rel::Catalog;
 use cq_text::{CommandKind, Form, read_command};
@@ -27,9 +29,22 @@ pub const TRAVEL: [&str; 8] = [
     "insert Airlines(136, Alitalia)",
 ];
 
+/// The lines of edits that a board is made by: the rows, and then what else is put in.
+#[derive(Clone, Copy)]
+pub struct Setup {
+    pub rows: &'static [&'static str],
+    pub others: &'static [&'static str],
+}
+
+/// The travel setup with the two worked queries.
+pub const WORKED: Setup = Setup {
+    rows: &TRAVEL,
+    others: &[KRAMER, JERRY],
+};
+
 /// The edit that a line of a script asks for; a line of no edit is want of memory.
-pub fn edit<A: Allocator + Copy>(alloc: A, line: &str) -> Result<Edit<A>, AllocError> {
-    match read_command(alloc, line.as_bytes(), Form::One) {
+pub fn edit<A: Allocator + Copy>(alloc: A, line: &[u8]) -> Result<Edit<A>, AllocError> {
+    match read_command(alloc, line, Form::One) {
         Ok(CommandKind::Post { name, query }) => Ok(EditKind::Post { name, query }),
         Ok(CommandKind::Withdraw { name }) => Ok(EditKind::Withdraw { name }),
         Ok(CommandKind::Insert { row }) => Ok(EditKind::Insert { row }),
@@ -44,10 +59,10 @@ pub fn admit<A: Allocator + Copy>(
     board: &mut Board<A>,
     line: &str,
 ) -> Result<Option<Why>, AllocError> {
-    match edit(alloc, line) {
-        Ok(edit) => board.admit(&edit),
-        Err(none) => Err(none),
-    }
+    let edit = edit(alloc, line.as_bytes())?;
+    let told = board.admit(&edit);
+    drop(edit);
+    told
 }
 
 /// Admits the edit of each line; a refused one is want of memory.
@@ -84,74 +99,41 @@ pub fn begun<A: Allocator + Copy>(alloc: A, pool: usize) -> Result<Board<A>, All
     Board::begin(alloc, catalog, Limits { pool, journal: 9 })
 }
 
-/// A board of what these lines put in.
-pub fn made<A: Allocator + Copy>(alloc: A, lines: &[&str]) -> Result<Board<A>, AllocError> {
+/// The board of the setup.
+pub fn made<A: Allocator + Copy>(alloc: A, setup: Setup) -> Result<Board<A>, AllocError> {
     let mut board = begun(alloc, LIMITS.pool)?;
-    admit_all(alloc, &mut board, lines)?;
+    admit_all(alloc, &mut board, setup.rows)?;
+    admit_all(alloc, &mut board, setup.others)?;
     Ok(board)
 }
 
-/// The travel setup with its rows, and what these lines put in.
-pub fn travel<A: Allocator + Copy>(alloc: A, lines: &[&str]) -> Result<Board<A>, AllocError> {
-    let mut board = made(alloc, TRAVEL.as_slice())?;
-    admit_all(alloc, &mut board, lines)?;
-    Ok(board)
+/// What the board of the setup shows.
+fn page_made<A: Allocator + Copy>(alloc: A, setup: Setup) -> Result<Page, AllocError> {
+    let board = made(alloc, setup)?;
+    let page = page_of(alloc, &board);
+    drop(board);
+    page
 }
 
-/// The travel setup with the two worked queries.
-pub fn kramer_and_jerry<A: Allocator + Copy>(alloc: A) -> Result<Board<A>, AllocError> {
-    travel(alloc, [KRAMER, JERRY].as_slice())
+/// Whether the board shows what the board of the setup does.
+pub fn shows<A: Allocator + Copy>(
+    alloc: A,
+    board: &Board<A>,
+    setup: Setup,
+) -> Result<bool, AllocError> {
+    let page = page_of(alloc, board)?;
+    let wanted = page_made(alloc, setup)?;
+    Ok(page.is_same(&wanted))
 }
 
-/// Counts of what a board shows.
-#[derive(Clone, Copy, Debug, PartialEq, Eq)]
-pub struct Shape {
-    pub pending: usize,
-    pub edges: usize,
-    pub matched: usize,
-    /// The rows of `Flights`.
-    pub rows: usize,
-    /// The groundings of the first query.
-    pub groundings: usize,
+/// The words of the first look that the board of the setup does not answer so.
+pub fn other_made<A: Allocator + Copy>(
+    alloc: A,
+    setup: Setup,
+    looks: Looks,
+) -> Result<Option<&'static str>, AllocError> {
+    let board = made(alloc, setup)?;
+    let other = other_look(alloc, &board, looks);
+    drop(board);
+    other
 }
-
-/// How many groundings the first query has; none where there is no query.
-fn first_grounded<A: Allocator + Copy>(board: &Board<A>) -> usize {
-    let Some(name) = board.name_at(0) else {
-        return 0;
-    };
-    match board.groundings(name) {
-        Some(found) => found.count(),
-        None => 0,
-    }
-}
-
-fn edge_count<A: Allocator + Copy>(board: &Board<A>) -> Result<usize, AllocError> {
-    let edges = board.edges_by_place()?;
-    Ok(edges.len())
-}
-
-fn matched_count<A: Allocator + Copy>(board: &Board<A>) -> Result<usize, AllocError> {
-    let names = board.matched()?;
-    Ok(names.len())
-}
-
-/// The counts of what the board shows.
-pub fn shape_of<A: Allocator + Copy>(board: &Board<A>) -> Result<Shape, AllocError> {
-    Ok(Shape {
-        pending: board.len(),
-        edges: edge_count(board)?,
-        matched: matched_count(board)?,
-        rows: board.tables().count("Flights").unwrap_or(0),
-        groundings: first_grounded(board),
-    })
-}
-
-/// The shape of the worked travel board.
-pub const WORKED: Shape = Shape {
-    pending: 2,
-    edges: 2,
-    matched: 2,
-    rows: 4,
-    groundings: 3,
-};

@@ -1,123 +1,118 @@
 //! Boards from scratch.
 
-use crate::samples::{JERRY, KRAMER, LIMITS, TRAVEL, WORKED, catalog, shape_of};
+use crate::page::Page;
+use crate::samples::{JERRY, KRAMER, LIMITS, Setup, WORKED, catalog, edit};
+use crate::shown::{other_look, page_of};
+use crate::views::WORKED_SHOWN;
 use cq_atom::{Name, Query, Row};
-use cq_board::{Board, ScratchFault, Why};
+use cq_board::{Board, Edit, EditKind, Limits, ScratchFault, Why};
 use cq_rel::Catalog;
-use cq_tests_growths::{Outcome, Tried, refusals};
-use cq_text::{CommandKind, Form, read_command};
-use std::alloc::{AllocError, Allocator};
-use std::test::Fail;
+use std::alloc::{AllocError, Allocator, Global};
 
-/// The row that a line inserts.
-fn row<A: Allocator + Copy>(alloc: A, line: &str) -> Result<Row<A>, AllocError> {
-    match read_command(alloc, line.as_bytes(), Form::One) {
-        Ok(CommandKind::Insert { row }) => Ok(row),
-        _ => Err(AllocError),
-    }
+/// Plain lists of queries and rows.
+#[derive(Drop)]
+pub struct Lists<A: Allocator = Global> {
+    queries: Vec<(Name<A>, Query<A>), A>,
+    rows: Vec<Row<A>, A>,
 }
 
-fn rows<A: Allocator + Copy>(alloc: A, lines: &[&str]) -> Result<Vec<Row<A>, A>, AllocError> {
-    let mut made = Vec::new(alloc);
-    for line in lines {
-        made.push(row(alloc, line)?)?;
-    }
-    Ok(made)
+fn is_row<A: Allocator>(row: &Row<A>, other: &Row<A>) -> bool {
+    row.relation() == other.relation() && row.values() == other.values()
 }
 
-/// The name and the query that a line posts.
-fn posting<A: Allocator + Copy>(alloc: A, line: &str) -> Result<(Name<A>, Query<A>), AllocError> {
-    match read_command(alloc, line.as_bytes(), Form::One) {
-        Ok(CommandKind::Post { name, query }) => Ok((name, query)),
-        _ => Err(AllocError),
-    }
-}
-
-fn postings<A: Allocator + Copy>(
-    alloc: A,
-    lines: &[&str],
-) -> Result<Vec<(Name<A>, Query<A>), A>, AllocError> {
-    let mut made = Vec::new(alloc);
-    for line in lines {
-        made.push(posting(alloc, line)?)?;
-    }
-    Ok(made)
-}
-
-/// The two worked queries.
-fn worked_queries<A: Allocator + Copy>(
-    alloc: A,
-) -> Result<Vec<(Name<A>, Query<A>), A>, AllocError> {
-    postings(alloc, [KRAMER, JERRY].as_slice())
-}
-
-/// Whether the queries make the worked board over the rows.
-fn is_worked<A: Allocator + Copy>(
-    alloc: A,
-    catalog: Catalog<A>,
-    queries: &[(Name<A>, Query<A>)],
-    rows: &[Row<A>],
-) -> Result<bool, ScratchFault> {
-    let board = Board::scratch(alloc, catalog, LIMITS, queries, rows)?;
-    Ok(shape_of(&board)? == WORKED)
-}
-
-#[test]
-fn from_scratch(rt: HostRuntime) -> Result<(), Fail> {
-    let rows = rows(rt.alloc(), TRAVEL.as_slice())?;
-    let queries = worked_queries(rt.alloc())?;
-    let catalog = catalog(rt.alloc())?;
-    assert!(rt; is_worked(rt.alloc(), catalog, &queries, &rows) == Ok(true));
-    Ok(())
-}
-
-#[test]
-fn refused_from_scratch(rt: HostRuntime) -> Result<(), Fail> {
-    let rows = rows(
-        rt.alloc(),
-        ["insert Flights(1, 2)", "insert Flights(1)"].as_slice(),
-    )?;
-    let queries = worked_queries(rt.alloc())?;
-    let catalog = catalog(rt.alloc())?;
-    let refused = ScratchFault::Refused(Why::Arity { place: 0 });
-    assert!(rt; is_worked(rt.alloc(), catalog, &queries, &rows) == Err(refused));
-    Ok(())
-}
-
-/// The worked board made from scratch.
-struct Making;
-
-/// Whether the board is made of the queries, the rows and another catalog.
-fn is_made_again<A: Allocator + Copy>(
-    alloc: A,
-    queries: &[(Name<A>, Query<A>)],
-    rows: &[Row<A>],
-) -> bool {
-    match catalog(alloc) {
-        Ok(catalog) => is_worked(alloc, catalog, queries, rows) == Ok(true),
-        Err(_) => false,
-    }
-}
-
-impl Tried for Making {
-    fn tried<A: Allocator + Copy>(alloc: A) -> Outcome {
-        let (Ok(rows), Ok(queries), Ok(catalog)) = (
-            rows(alloc, TRAVEL.as_slice()),
-            worked_queries(alloc),
-            catalog(alloc),
-        ) else {
-            return Outcome::Unready;
-        };
-        match is_worked(alloc, catalog, &queries, &rows) {
-            Ok(right) => Outcome::done_if(right),
-            Err(fault) => Outcome::refused_if(
-                fault == ScratchFault::NoMemory && is_made_again(alloc, &queries, &rows),
-            ),
+impl<A: Allocator + Copy> Lists<A> {
+    pub fn new(alloc: A) -> Lists<A> {
+        Lists {
+            queries: Vec::new(alloc),
+            rows: Vec::new(alloc),
         }
     }
+
+    /// Does to the lists what the edit does to a pool.
+    pub fn take(&mut self, edit: Edit<A>) -> Result<(), AllocError> {
+        match edit {
+            EditKind::Post { name, query } => self.queries.push((name, query))?,
+            EditKind::Withdraw { name } => self
+                .queries
+                .retain(|other| other.0.as_str() != name.as_str()),
+            EditKind::Insert { row } => self.rows.push(row)?,
+            EditKind::Delete { row } => self.rows.retain(|other| !is_row(other, &row)),
+        }
+        Ok(())
+    }
+
+    fn take_all(&mut self, alloc: A, lines: &[&str]) -> Result<(), AllocError> {
+        for line in lines {
+            self.take(edit(alloc, line.as_bytes())?)?;
+        }
+        Ok(())
+    }
+
+    /// The board of these queries and rows.
+    fn board(
+        &self,
+        alloc: A,
+        catalog: Catalog<A>,
+        limits: Limits,
+    ) -> Result<Board<A>, ScratchFault> {
+        Board::scratch(alloc, catalog, limits, &self.queries, &self.rows)
+    }
+}
+
+/// The queries and the rows of the setup.
+pub fn lists_of<A: Allocator + Copy>(alloc: A, setup: Setup) -> Result<Lists<A>, AllocError> {
+    let mut lists = Lists::new(alloc);
+    lists.take_all(alloc, setup.rows)?;
+    lists.take_all(alloc, setup.others)?;
+    Ok(lists)
+}
+
+/// What the board of the lists shows.
+pub fn page_from<A: Allocator + Copy>(
+    alloc: A,
+    lists: &Lists<A>,
+    limits: Limits,
+) -> Result<Page, ScratchFault> {
+    let board = lists.board(alloc, catalog(alloc)?, limits)?;
+    let page = page_of(alloc, &board);
+    drop(board);
+    Ok(page?)
+}
+
+/// Whether the lists make the worked board.
+pub fn is_worked<A: Allocator + Copy>(
+    alloc: A,
+    catalog: Catalog<A>,
+    lists: &Lists<A>,
+) -> Result<bool, ScratchFault> {
+    let board = lists.board(alloc, catalog, LIMITS)?;
+    let other = other_look(alloc, &board, WORKED_SHOWN);
+    drop(board);
+    Ok(other?.is_none())
+}
+
+/// The same of the setup's.
+fn is_worked_of(alloc: Global, setup: Setup) -> Result<bool, ScratchFault> {
+    let catalog = catalog(alloc)?;
+    let lists = lists_of(alloc, setup)?;
+    let worked = is_worked(alloc, catalog, &lists);
+    drop(lists);
+    worked
 }
 
 #[test]
-fn refused_growth_in_scratch(rt: HostRuntime) {
-    assert!(rt; matches!(refusals::<Making>(rt.alloc()), Ok(20..)));
+fn from_scratch(rt: HostRuntime) {
+    assert!(rt; is_worked_of(rt.alloc(), WORKED) == Ok(true));
+}
+
+/// The second row does not fit the catalog.
+const UNFIT: Setup = Setup {
+    rows: &["insert Flights(1, 2)", "insert Flights(1)"],
+    others: &[KRAMER, JERRY],
+};
+
+#[test]
+fn refused_from_scratch(rt: HostRuntime) {
+    let refused = ScratchFault::Refused(Why::Arity { place: 0 });
+    assert!(rt; is_worked_of(rt.alloc(), UNFIT) == Err(refused));
 }

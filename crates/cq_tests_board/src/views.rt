@@ -1,232 +1,159 @@
-//! What a board shows, by names and in posting order.
+//! What boards show, by names and in posting order; who waits, why, and which heads nearly supply a postcondition. What is
+//! expected was worked out by hand.
 
-use crate::near::have_fallen;
-use crate::samples::{LIMITS, WORKED, kramer_and_jerry, made, shape_of};
-use cq_atom::Name;
-use cq_board::{Board, Crowd, Link};
-use cq_match::{Edge, Fall, Reason};
-use cq_tests_growths::{Outcome, Tried, refusals};
-use std::alloc::{AllocError, Allocator, Global};
-use std::test::Fail;
+use crate::able::{P, Q};
+use crate::samples::{Setup, WORKED, other_made};
+use crate::shown::About::{Itself, Near, Waits};
+use crate::shown::Look::{Counts, Crowded, Edges, Falls, Matched, NameAt, Names, Numbered, Of};
+use crate::shown::Looks;
 
-/// Whether the query of that name is matched, how many groundings it has, and of how many atoms its body is.
-fn by_name(board: &Board, name: &Name) -> (Option<bool>, usize, usize) {
-    let groundings = match board.groundings(name) {
-        Some(found) => found.count(),
-        None => 0,
-    };
-    let atoms = match board.query(name) {
-        Some(query) => query.body().len(),
-        None => 0,
-    };
-    (board.is_matched(name), groundings, atoms)
-}
-
-/// The same by the name's text; a text of no name has nothing.
-fn of_name(alloc: Global, board: &Board, text: &str) -> (Option<bool>, usize, usize) {
-    match Name::new(alloc, text) {
-        Ok(name) => by_name(board, &name),
-        Err(_) => (None, 0, 0),
-    }
-}
-
-#[test]
-fn queries_by_name(rt: HostRuntime) -> Result<(), Fail> {
-    let board = kramer_and_jerry(rt.alloc())?;
-    for (name, wanted) in [
-        ("kramer", (Some(true), 3, 1)),
-        ("jerry", (Some(true), 2, 2)),
-        ("newman", (None, 0, 0)),
-    ] {
-        assert!(rt; of_name(rt.alloc(), &board, name) == wanted, "{name}");
-    }
-    Ok(())
-}
-
-/// The name of the query at that place, or nothing where there is none.
-fn name_at(board: &Board, place: usize) -> &str {
-    match board.name_at(place) {
-        Some(name) => name.as_str(),
-        None => "",
-    }
-}
-
-const fn edge(provider: usize, waiter: usize) -> Edge {
-    Edge {
-        provider,
-        head: 0,
-        waiter,
-        post: 0,
-    }
-}
-
-/// Whether these are the names, in this order.
-fn are_called<A: Allocator>(names: &[&Name<A>], wanted: &[&str]) -> bool {
-    for (name, wanted) in names.iter().zip(wanted) {
-        if name.as_str() != *wanted {
-            return false;
-        }
-    }
-    names.len() == wanted.len()
-}
-
-/// Whether these are the names of the pending queries, in this order.
-fn are_names<A: Allocator + Copy>(board: &Board<A>, wanted: &[&str]) -> Result<bool, AllocError> {
-    let names = board.names()?;
-    Ok(are_called(&names, wanted))
-}
-
-/// Whether these are the edges by the numbers of the queries, in this order.
-fn are_numbered<A: Allocator + Copy>(
-    board: &Board<A>,
-    wanted: &[Edge],
-) -> Result<bool, AllocError> {
-    let edges = board.edges_by_place()?;
-    Ok(edges.as_slice() == wanted)
-}
-
-#[test]
-fn queries_in_posting_order(rt: HostRuntime) -> Result<(), Fail> {
-    let board = kramer_and_jerry(rt.alloc())?;
-    let edges = [edge(1, 0), edge(0, 1)];
-    assert!(rt; are_names(&board, ["kramer", "jerry"].as_slice()) == Ok(true));
-    assert!(rt; name_at(&board, 0) == "kramer" && name_at(&board, 1) == "jerry");
-    assert!(rt; name_at(&board, 2) == "");
-    assert!(rt; are_numbered(&board, edges.as_slice()) == Ok(true));
-    Ok(())
-}
-
-#[test]
-fn counts(rt: HostRuntime) -> Result<(), Fail> {
-    let board = kramer_and_jerry(rt.alloc())?;
-    assert!(rt; board.len() == 2 && board.limits() == LIMITS && shape_of(&board) == Ok(WORKED));
-    assert!(rt; board.tables().count("Airlines") == Some(4));
-    Ok(())
-}
-
-fn is_link<A: Allocator>(link: &Link<&Name<A>>, wanted: (&str, u8, &str, u8)) -> bool {
-    (
-        link.provider.as_str(),
-        link.head,
-        link.waiter.as_str(),
-        link.post,
-    ) == wanted
-}
-
-/// Whether these are the edges by names, in this order.
-fn are_edges<A: Allocator + Copy>(
-    board: &Board<A>,
-    wanted: &[(&str, u8, &str, u8)],
-) -> Result<bool, AllocError> {
-    let links = board.edges()?;
-    for (link, wanted) in links.iter().zip(wanted) {
-        if !is_link(link, *wanted) {
-            return Ok(false);
-        }
-    }
-    Ok(links.len() == wanted.len())
-}
-
-fn is_crowd<A: Allocator>(crowd: &Crowd<&Name<A>>, wanted: (&str, u8, usize)) -> bool {
-    (crowd.waiter.as_str(), crowd.post, crowd.providers) == wanted
-}
-
-/// Whether these are the crowded postconditions, in this order.
-fn are_crowded<A: Allocator + Copy>(
-    board: &Board<A>,
-    wanted: &[(&str, u8, usize)],
-) -> Result<bool, AllocError> {
-    let crowds = board.crowded()?;
-    for (crowd, wanted) in crowds.iter().zip(wanted) {
-        if !is_crowd(crowd, *wanted) {
-            return Ok(false);
-        }
-    }
-    Ok(crowds.len() == wanted.len())
-}
-
-/// Whether these are the names of the matched queries, in this order.
-pub fn are_matched<A: Allocator + Copy>(
-    board: &Board<A>,
-    wanted: &[&str],
-) -> Result<bool, AllocError> {
-    let names = board.matched()?;
-    Ok(are_called(&names, wanted))
-}
-
-#[test]
-fn worked_edges(rt: HostRuntime) -> Result<(), Fail> {
-    let board = kramer_and_jerry(rt.alloc())?;
-    let links = [("jerry", 0, "kramer", 0), ("kramer", 0, "jerry", 0)];
-    assert!(rt; are_edges(&board, links.as_slice()) == Ok(true));
-    assert!(rt; are_matched(&board, ["kramer", "jerry"].as_slice()) == Ok(true));
-    assert!(rt; are_crowded(&board, [].as_slice()) == Ok(true));
-    assert!(rt; have_fallen(&board, [].as_slice()) == Ok(true));
-    Ok(())
-}
-
-/// One query waits for what two others have, of which one waits for what nobody has.
-const CROWD: [&str; 3] = [
-    "post w {R(1)} Q(1) <-",
-    "post h1 {} R(1) <-",
-    "post h2 {Z(1)} R(2), R(1) <-",
+const QUERIES_BY_NAME: Looks = &[
+    (Of("kramer", Itself), "matched 3 1"),
+    (Of("jerry", Itself), "matched 2 2"),
+    (Of("newman", Itself), "none 0 0"),
 ];
 
-/// The edge from the second head of the last query to the first.
-const FROM_SECOND_HEAD: Edge = Edge {
-    provider: 2,
-    head: 1,
-    waiter: 0,
-    post: 0,
+const QUERIES_IN_POSTING_ORDER: Looks = &[
+    (Names, "kramer jerry"),
+    (NameAt(0), "kramer"),
+    (NameAt(1), "jerry"),
+    (NameAt(2), "none"),
+    (Numbered, "1.0>0.0 0.0>1.0"),
+];
+
+/// Counts, edges, matched queries and the groundings of the first on the worked board.
+pub const WORKED_SHOWN: Looks = &[
+    (Counts, "2 3 9 4 4"),
+    (Numbered, "1.0>0.0 0.0>1.0"),
+    (Matched, "kramer jerry"),
+    (Of("kramer", Itself), "matched 3 1"),
+];
+
+const WORKED_EDGES: Looks = &[
+    (Edges, "jerry.0>kramer.0 kramer.0>jerry.0"),
+    (Matched, "kramer jerry"),
+    (Crowded, ""),
+    (Falls, ""),
+];
+
+/// One query waits for what two others have, of which one waits for what nobody has.
+pub const CROWD: Setup = Setup {
+    rows: &[],
+    others: &[
+        "post w {R(1)} Q(1) <-",
+        "post h1 {} R(1) <-",
+        "post h2 {Z(1)} R(2), R(1) <-",
+    ],
 };
 
-/// Nobody has what the last query waits for.
-const UNMET: Fall = Fall {
-    node: 2,
-    reason: Reason::Unmet(0),
+/// The last query supplies the first by its second head.
+pub const CROWD_SHOWN: Looks = &[
+    (Names, "w h1 h2"),
+    (Numbered, "1.0>0.0 2.1>0.0"),
+    (Edges, "h1.0>w.0 h2.1>w.0"),
+    (Matched, "w h1"),
+    (Crowded, "2>w.0"),
+    (Falls, "2:unmet.0"),
+];
+
+/// A query without a row that waits for one that waits for it.
+const WAITING: Setup = Setup {
+    rows: &[],
+    others: &[P, Q],
 };
 
-/// Whether a board with the crowd shows what it must by each call.
-fn shows_crowd<A: Allocator + Copy>(board: &Board<A>) -> Result<bool, AllocError> {
-    let numbered = [edge(1, 0), FROM_SECOND_HEAD];
-    let links = [("h1", 0, "w", 0), ("h2", 1, "w", 0)];
-    Ok(
-        are_names(board, ["w", "h1", "h2"].as_slice())?
-            && are_numbered(board, numbered.as_slice())?
-            && are_edges(board, links.as_slice())?
-            && are_matched(board, ["w", "h1"].as_slice())?
-            && are_crowded(board, [("w", 0, 2)].as_slice())?
-            && have_fallen(board, [UNMET].as_slice())?,
-    )
-}
+// A query that waits for a row is a provider all the same.
+const WAITING_PROVIDERS: Looks = &[(Numbered, "1.0>0.0 0.0>1.0")];
+
+const BY_KRAMER: &str = "post kramer {R(Jerry)} R(Kramer) <- F(x)";
+
+const BY_JERRY: &str = "post jerry {R(Kramer)} R(Jerry) <-";
+
+const BY_NEWMAN: &str = "post newman {R(Newman)} R(Newman) <-";
+
+/// Each of the first two queries waits for the other, and the first is able where there is a row. The third supplies itself.
+pub const PAIR: Setup = Setup {
+    rows: &[],
+    others: &[BY_KRAMER, BY_JERRY, BY_NEWMAN],
+};
+
+/// The same with a row.
+const PAIR_ABLE: Setup = Setup {
+    rows: &[],
+    others: &[BY_KRAMER, BY_JERRY, BY_NEWMAN, "insert F(1)"],
+};
+
+/// The same without the first query.
+const PAIR_PARTED: Setup = Setup {
+    rows: &[],
+    others: &[
+        BY_KRAMER,
+        BY_JERRY,
+        BY_NEWMAN,
+        "insert F(1)",
+        "withdraw kramer",
+    ],
+};
+
+/// The first query has no grounding, and nobody who is left has what the second waits for.
+const UNABLE: Looks = &[(Falls, "0:unable 1:unmet.0")];
+
+const ABLE: Looks = &[(Falls, "")];
+
+const PARTED: Looks = &[(Falls, "0:unmet.0")];
+
+/// The second query waits for the first, whose body finds no row.
+pub const JERRY_WAITS: Looks = &[(Of("jerry", Waits), "kramer:unable jerry:unmet.0")];
+
+// The third query is matched, and no query has the last name.
+const WHY_EACH_WAITS: Looks = &[
+    (Of("jerry", Waits), "kramer:unable jerry:unmet.0"),
+    (Of("kramer", Waits), "kramer:unable"),
+    (Of("newman", Waits), "none"),
+    (Of("elaine", Waits), "none"),
+];
+
+/// No head unifies with the first postcondition of the second query.
+pub const SLIPS: Setup = Setup {
+    rows: &[],
+    others: &[
+        "post h1 {} R(Tom, Rome, June), R(Jery, Paris, May) <-",
+        "post w {R(Jerry, Paris, May), R(Jery, Paris, May), R(x, x, May)} Q(Jerry, Paris, May) <- F(x)",
+        "post h2 {} R(Jery, Rome, May), R(Jerry, Paris, June) <-",
+    ],
+};
+
+/// A slip in one constant comes first, and what differs everywhere is the fourth.
+pub const BY_SLIP: Looks = &[(Of("w", Near(0)), "h1.1:1 h2.1:1 h2.0:2")];
+
+// The second head of the first query unifies with the second postcondition. With the third no head unifies, since one
+// variable cannot be two constants.
+const SLIPS_OF_THE_PEN: Looks = &[
+    (Of("w", Near(0)), "h1.1:1 h2.1:1 h2.0:2"),
+    (Of("w", Near(1)), "h2.0:1 h2.1:2 h1.0:3"),
+    (Of("w", Near(2)), "h1.1:0 h2.0:0 h1.0:1"),
+    (Of("w", Near(3)), ""),
+    (Of("newman", Near(0)), ""),
+];
+
+const SHOWN: [(&str, Setup, Looks); 11] = [
+    ("queries_by_name", WORKED, QUERIES_BY_NAME),
+    ("queries_in_posting_order", WORKED, QUERIES_IN_POSTING_ORDER),
+    ("counts", WORKED, WORKED_SHOWN),
+    ("worked_edges", WORKED, WORKED_EDGES),
+    ("crowded_supplier", CROWD, CROWD_SHOWN),
+    ("waiting_providers", WAITING, WAITING_PROVIDERS),
+    ("able_and_unable: a query is not able", PAIR, UNABLE),
+    ("able_and_unable: both are able", PAIR_ABLE, ABLE),
+    ("able_and_unable: one is withdrawn", PAIR_PARTED, PARTED),
+    ("why_each_waits", PAIR, WHY_EACH_WAITS),
+    ("slips_of_the_pen", SLIPS, SLIPS_OF_THE_PEN),
+];
 
 #[test]
-fn crowded_supplier(rt: HostRuntime) -> Result<(), Fail> {
-    let board = made(rt.alloc(), CROWD.as_slice())?;
-    assert!(rt; shows_crowd(&board) == Ok(true));
-    Ok(())
-}
-
-/// What the board shows, by one call after another.
-struct Showing;
-
-fn shown<A: Allocator + Copy>(board: &Board<A>) -> Outcome {
-    match shows_crowd(board) {
-        Ok(right) => Outcome::done_if(right),
-        Err(_) => Outcome::refused_if(shows_crowd(board) == Ok(true)),
+fn shown_boards(rt: HostRuntime) {
+    for (name, setup, looks) in SHOWN {
+        let other = other_made(rt.alloc(), setup, looks);
+        assert!(rt; other == Ok(None), "{name}: {other:?}");
     }
-}
-
-impl Tried for Showing {
-    fn tried<A: Allocator + Copy>(alloc: A) -> Outcome {
-        match made(alloc, CROWD.as_slice()) {
-            Ok(board) => shown(&board),
-            Err(_) => Outcome::Unready,
-        }
-    }
-}
-
-#[test]
-fn refused_growth_in_views(rt: HostRuntime) {
-    assert!(rt; matches!(refusals::<Showing>(rt.alloc()), Ok(5..)));
 }

@@ -1,0 +1,111 @@
+//! The part of a falling list on which a node rests. What is expected was worked out by hand.
+
+use crate::matching::edges::Ends;
+use crate::matching::graphs::{Asked, Graph, other_graph};
+use crate::matching::growths::{Asking, PARTS};
+use cq_match::Reason;
+use cq_tests_growths::refusals;
+
+// The falls are 4 and 5, not able, and 9, to which no edge leads; then 2 and 3, by 9; then 8, whose postcondition 1 is
+// crowded by 3 and 5. Nodes 1 and 6 are matched.
+const NODES: &[(usize, u8, bool)] = &[
+    (8, 2, true),
+    (3, 1, true),
+    (5, 0, false),
+    (1, 0, true),
+    (9, 1, true),
+    (6, 1, true),
+    (2, 3, true),
+    (4, 1, false),
+];
+
+const EDGES: &[Ends] = &[
+    (5, 0, 2, 2),
+    (9, 0, 2, 1),
+    (1, 0, 2, 0),
+    (9, 0, 3, 0),
+    (1, 0, 6, 0),
+    (5, 0, 8, 1),
+    (1, 0, 8, 0),
+    (3, 0, 8, 1),
+];
+
+const PARTS_OF_FALLS: [Graph; 5] = [
+    Graph {
+        name: "4 is not able",
+        nodes: NODES,
+        edges: EDGES,
+        asked: Asked::PartFor(4, &[(4, Reason::NotAble)]),
+    },
+    Graph {
+        name: "2 rests on 9",
+        nodes: NODES,
+        edges: EDGES,
+        asked: Asked::PartFor(2, &[(9, Reason::Unmet(0)), (2, Reason::Unmet(1))]),
+    },
+    Graph {
+        name: "8 is crowded",
+        nodes: NODES,
+        edges: EDGES,
+        asked: Asked::PartFor(
+            8,
+            &[
+                (5, Reason::NotAble),
+                (9, Reason::Unmet(0)),
+                (3, Reason::Unmet(0)),
+                (8, Reason::Unmet(1)),
+            ],
+        ),
+    },
+    Graph {
+        name: "6 is matched",
+        nodes: NODES,
+        edges: EDGES,
+        asked: Asked::PartFor(6, &[]),
+    },
+    Graph {
+        name: "7 is not there",
+        nodes: NODES,
+        edges: EDGES,
+        asked: Asked::PartFor(7, &[]),
+    },
+];
+
+#[test]
+fn parts_of_falls(rt: HostRuntime) {
+    let other = other_graph(rt.alloc(), PARTS_OF_FALLS.as_slice());
+    assert!(rt; other.is_none(), "{other:?}");
+}
+
+// Each of three nodes waits for the next, and the last is missing. Node 5 supplies itself, and waits for somebody else too.
+const PARTS_OF_RINGS: [Graph; 3] = [
+    Graph {
+        name: "the first of a broken ring",
+        nodes: &[(0, 1, true), (1, 1, true)],
+        edges: &[(1, 0, 0, 0)],
+        asked: Asked::PartFor(0, &[(1, Reason::Unmet(0)), (0, Reason::Unmet(0))]),
+    },
+    Graph {
+        name: "the second of a broken ring",
+        nodes: &[(0, 1, true), (1, 1, true)],
+        edges: &[(1, 0, 0, 0)],
+        asked: Asked::PartFor(1, &[(1, Reason::Unmet(0))]),
+    },
+    Graph {
+        name: "5 supplies itself",
+        nodes: &[(5, 2, true)],
+        edges: &[(5, 0, 5, 0)],
+        asked: Asked::PartFor(5, &[(5, Reason::Unmet(1))]),
+    },
+];
+
+#[test]
+fn parts_of_rings(rt: HostRuntime) {
+    let other = other_graph(rt.alloc(), PARTS_OF_RINGS.as_slice());
+    assert!(rt; other.is_none(), "{other:?}");
+}
+
+#[test]
+fn refused_growth_in_parts(rt: HostRuntime) {
+    assert!(rt; matches!(refusals::<Asking<PARTS>>(rt.alloc()), Ok(10..)));
+}

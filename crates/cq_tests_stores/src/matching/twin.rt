@@ -1,0 +1,103 @@
+//! A matcher beside plain lists of what was put into it.
+
+use crate::matching::guarded::Guarded;
+use crate::matching::listed::is_shown;
+use cq_atom::Meter;
+use cq_match::{Edge, Matcher};
+use std::alloc::{AllocError, Allocator, Global};
+
+/// A matcher, and lists of the nodes and edges that it must have.
+#[derive(Drop)]
+pub struct Twin<A: Allocator = Global> {
+    pub kept: Guarded<A>,
+    pub nodes: Vec<(usize, u8, bool), A>,
+    pub edges: Vec<Edge, A>,
+    /// It counts how many edges lost their matched providers to removals and to nodes that were able no longer.
+    pub meter: Meter,
+    places: usize,
+}
+
+impl<A: Allocator + Copy> Twin<A> {
+    /// No nodes, with room for so many, whose numbers are below as many, and for so many edges.
+    pub fn begin(alloc: A, places: usize, edges: usize) -> Result<Twin<A>, AllocError> {
+        Ok(Twin {
+            kept: Guarded::begin(alloc, places)?,
+            nodes: Vec::with_capacity(alloc, places)?,
+            edges: Vec::with_capacity(alloc, edges)?,
+            meter: Meter::new(),
+            places,
+        })
+    }
+
+    /// Adds the node with its edges; false where that is not allowed.
+    pub fn add(
+        &mut self,
+        node: usize,
+        posts: u8,
+        able: bool,
+        edges: &[Edge],
+    ) -> Result<bool, AllocError> {
+        self.nodes.reserve(1)?;
+        self.edges.reserve(edges.len())?;
+        if !self.kept.add(node, posts, able, edges)? {
+            return Ok(false);
+        }
+        self.nodes.push((node, posts, able))?;
+        self.edges.extend_from_slice(edges)?;
+        Ok(true)
+    }
+
+    /// Goes on with a copy in place of the matcher.
+    pub fn go_on_with_copy(&mut self) -> Result<(), AllocError> {
+        self.kept.go_on_with_copy()
+    }
+
+    /// Whether the matcher shows what the lists have.
+    pub fn holds(&self, alloc: A) -> Result<bool, AllocError> {
+        self.is_shown_by(alloc, self.kept.matcher())
+    }
+
+    /// Whether that matcher shows what the lists have.
+    pub fn is_shown_by(&self, alloc: A, matcher: &Matcher<A>) -> Result<bool, AllocError> {
+        is_shown(alloc, matcher, &self.nodes, &self.edges, self.places)
+    }
+}
+
+impl<A: Allocator> Twin<A> {
+    /// Removes the node and its edges; false where it is not there.
+    pub fn remove(&mut self, node: usize) -> bool {
+        if !self.kept.remove(node, &mut self.meter) {
+            return false;
+        }
+        self.nodes.retain(|other| other.0 != node);
+        self.edges
+            .retain(|edge| edge.provider != node && edge.waiter != node);
+        true
+    }
+
+    fn list_able(&mut self, node: usize, able: bool) {
+        for other in self.nodes.iter_mut() {
+            if other.0 == node {
+                other.2 = able;
+            }
+        }
+    }
+
+    /// Lets the node be able; false where it is not there.
+    pub fn enable(&mut self, node: usize) -> Result<bool, AllocError> {
+        if !self.kept.enable(node)? {
+            return Ok(false);
+        }
+        self.list_able(node, true);
+        Ok(true)
+    }
+
+    /// Lets the node be able no longer; false where it is not there.
+    pub fn disable(&mut self, node: usize) -> bool {
+        if !self.kept.disable(node, &mut self.meter) {
+            return false;
+        }
+        self.list_able(node, false);
+        true
+    }
+}
