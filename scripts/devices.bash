@@ -1,4 +1,4 @@
-# Runs of the program where a device or a file fails. It is read by ./check and not run, which gives `room`, `programs`,
+# Runs of the program where a device or a file fails. It is read by ./check and ./prove and not run, which give `room`, `programs`,
 # `passed` and `fail`.
 
 # Cases, by what they do where nothing fails.

@@ -1,5 +1,5 @@
-# What ./board and ./build share. It is read by them and not run: `self` is the name of the one that reads it, and
-# `top` the folder of the checkout.
+# What ./board, ./build, ./check and ./prove know of the program. It is read by them and not run: `self` is the name of the
+# one that reads it, and `top` the folder of the checkout.
 shopt -s globstar nullglob
 
 # One line says why the work cannot be done, and the status is 70.
@@ -8,21 +8,27 @@ cannot() {
     exit 70
 }
 
-room=${TMPDIR:-/tmp}
-has_room() {
-    [ -d "$room" ] && [ -w "$room" ] || cannot "the temporary folder $room is not there or cannot be written"
+temporary=${TMPDIR:-/tmp}
+has_temporary() {
+    [ -d "$temporary" ] && [ -w "$temporary" ] || cannot "the temporary folder $temporary is not there or cannot be written"
 }
 
-# A proved program stands in this folder under the stamp of what it was built of, which its name carries: so a
-# program and its stamp cannot part, and one that is there is whole.
+# A program stands in this folder under the stamp of what it was built of, which its name carries: so a program and its
+# stamp cannot part, and one that is there is whole. `board.STAMP` is proved, `unproved.STAMP` is not.
 kept=$top/out
-
-# Puts into `crates` the crates of the repository that the program stands on, lowest first, and its own crate.
+# Puts into `crates` the crates of the repository that the program stands on, lowest first, and its own crate, and into
+# `seconds` what the proof of each takes, which stands behind its line of crates.txt.
 find_crates() {
     local -A uses=() seen=()
     local name parts
+    declare -gA seconds=()
     while read -r name parts; do
-        case $name in *:) uses[${name%:}]=${parts%%#*} ;; esac
+        case $name in
+        *:)
+            uses[${name%:}]=${parts%%#*}
+            [[ $parts =~ \#\ ([0-9]+)\ s$ ]] && seconds[${name%:}]=${BASH_REMATCH[1]}
+            ;;
+        esac
     done <"$top/crates.txt"
     crates=()
     add_crate cq_cli
@@ -56,4 +62,28 @@ toolchain_stamp() {
     kit=${kit%/*/*}
     if [ -f "$kit/KIT-ID" ]; then line=$(<"$kit/KIT-ID"); else line=$(rt version); fi
     printf '%s\n' "${line//[^[:alnum:].]/-}"
+}
+
+# Puts into `unproved` the unproved program of these sources, and into `running` the words that run it: the toolchain's
+# loader and its path. It is built where it is not there, which `$1` says on standard error.
+find_unproved() {
+    local half library
+    type -P python3 >/dev/null || cannot "python3 is not on the PATH"
+    has_temporary
+    find_crates
+    library=$(readlink -f -- "$(type -P rt)")
+    library=${library%/*/*}/toolchain/lib
+    unproved=$kept/unproved.$(sources_stamp).$(toolchain_stamp)
+    running=("$library/ld-linux-x86-64.so.2" --inhibit-cache --library-path "$library" "$unproved")
+    [ -x "$unproved" ] && return
+    echo "$1" >&2
+    { mkdir -p -- "$kept" && half=$(mktemp -- "$kept/half.XXXXXX"); } 2>/dev/null || cannot "the checkout cannot be written: $kept"
+    trap 'rm -f -- "$half"; exit 130' INT TERM HUP
+    if ! python3 "$top/scripts/unproved.py" build "$half" <&-; then
+        rm -f -- "$half"
+        cannot "the unproved program could not be built; what the toolchain said stands above"
+    fi
+    rm -f -- "$kept"/unproved.*
+    mv -- "$half" "$unproved" || cannot "the checkout cannot be written: $kept"
+    trap - INT TERM HUP
 }

@@ -1,4 +1,0 @@
-pub mod Few
-pub mod Kept
-pub mod Lists
-pub mod Numbered

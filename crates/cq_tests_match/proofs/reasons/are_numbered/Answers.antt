@@ -1,9 +1,0 @@
-use Rattle.std.proofs.Common.{arith}
-use Rattle.cq_tests_match.proofs.Numbered.{numbered-distinct}
-use Rattle.cq_tests_match.proofs.reasons.are_numbered.Goals as goal
-
-pub returns-clause-numbered : goal.returns-clause-numbered
-returns-clause-numbered c = λ all place low. c.loop-place.invariant place (omega arith)
-
-pub returns-clause-distinct : goal.returns-clause-distinct
-returns-clause-distinct c = λ all. numbered-distinct c.args.nodes.now (λ place low. c.loop-place.invariant place (omega arith))

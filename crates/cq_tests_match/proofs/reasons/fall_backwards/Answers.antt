@@ -1,4 +1,0 @@
-use Rattle.cq_tests_match.proofs.reasons.fall_backwards.Goals as goal
-
-pub falling-requires-clause-ends : goal.falling-requires-clause-ends
-falling-requires-clause-ends g c = c.are_within.ensures c.if-not-are_within.false (c.are_numbered.ensures.numbered c.if-not-are_numbered.false)

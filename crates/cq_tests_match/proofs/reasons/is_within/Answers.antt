@@ -1,7 +1,0 @@
-use Rattle.std.proofs.Common.{arith}
-use borrow.Author.Tests.{ltb-true}
-use Rattle.cq_tests_match.proofs.Numbered.{numbered-ends}
-use Rattle.cq_tests_match.proofs.reasons.is_within.Goals as goal
-
-pub returns : goal.returns
-returns c = λ t numbered. numbered-ends c.args.nodes.now c.args.edge numbered (omega arith) (omega arith) (ltb-true _ _ t)

@@ -1,0 +1,437 @@
+"""Wrong bodies: edits of a crate that the prover must refuse (crates/NAME/must-fail/*.edit).
+
+An edit is a line `file: src/..` and pairs of lines `old: TEXT`, `new: TEXT`; each old text stands in the file once. It is
+tried on a copy of the crate, over the proved libraries below it: first the edited functions alone, with what they call, and
+where these are still proved, the whole crate. It counts as refused only where a goal was not proved, and not where a proof
+file merely names what the edit took away.
+
+wrong-bodies.txt says for each crate the sum under which all of its wrong bodies were last refused: over its sources, its
+definitions and its wrong bodies, the statements of the crates below, and the logic of the toolchain.
+"""
+import fcntl
+import hashlib
+import os
+import re
+import shutil
+import subprocess
+import sys
+import tempfile
+import threading
+import time
+from concurrent.futures import ThreadPoolExecutor
+
+sys.dont_write_bytecode = True
+from toolchain import below, checked_over, crates_of, kit_folder, logic, text_of
+
+PARTS = ("src", "specs", "proofs")
+
+
+# --- sums
+
+QUOTED = r'"(?:\\.|[^"\\])*"|\'(?:\\.[^\']*|[^\'\\])\''
+
+
+def statements(text):
+    """A source without its comments and without what stands in the bodies of its functions."""
+    text = re.sub(rf"({QUOTED})|//[^\n]*", lambda it: it[1] or "", text)
+    kept, at = [], 0
+    for head in re.finditer(r"\bfn\s+\w+", text):
+        if head.start() < at:
+            continue
+        body = body_of(text, head.end())
+        if body:
+            kept.append(text[at : body[0]])
+            at = body[1]
+    return re.sub(r"\s+", " ", "".join([*kept, text[at:]]))
+
+
+def body_of(text, at):
+    """Where the body of a function begins and ends, whose head ends here, or none. A brace after the name of a clause is the clause's."""
+    depth = start = 0
+    for it in re.finditer(rf"{QUOTED}|[][(){{}};]", text[at:]):
+        letter, place = it[0], at + it.start()
+        if letter in "([":
+            depth += 1
+        elif letter in ")]":
+            depth -= 1
+        elif letter == ";" and not depth:
+            return None
+        elif letter == "{":
+            if not depth:
+                clause = re.search(r"\b((requires|ensures)\s*\*?(\s+\w+)?|ghost\s+\w+\s*:)\s*$", text[at:place][-80:])
+                start = -1 if clause else place
+            depth += 1
+        elif letter == "}":
+            depth -= 1
+            if not depth and start >= 0:
+                return start, place + 1
+    return None
+
+
+def sum_of(crates, name):
+    """The sum under which the wrong bodies of a crate are refused."""
+    top, sums = crates[name].top, hashlib.sha256(logic().encode())
+    for file in crates[name].files("src", "specs", "must-fail"):
+        sums.update(repr((os.path.relpath(file, top), text_of(file))).encode())
+    for dep in below(crates, name):
+        for file in crates[dep].files("src"):
+            sums.update(repr((os.path.relpath(file, top), statements(text_of(file)))).encode())
+        for file in crates[dep].files("specs"):
+            sums.update(repr((os.path.relpath(file, top), text_of(file))).encode())
+    return sums.hexdigest()[:16]
+
+
+RECORD = "wrong-bodies.txt"
+HEADING = "# NAME SUM: under this sum all wrong bodies of the crate were refused. ./prove --wrong-bodies writes it.\n"
+
+
+def recorded(top):
+    try:
+        rows = text_of(f"{top}/{RECORD}").split("\n")
+    except OSError:
+        return {}
+    return {it.split()[0]: it.split()[1] for it in rows if re.fullmatch(r"\w+ [0-9a-f]{16}", it)}
+
+
+def record(top, tried, sums):
+    """Writes the lines of the crates that were tried: the sum of each, or no line where it has none. The lines of the others stay."""
+    crates = crates_of(top)
+    with open(f"{top}/{RECORD}", "a+", encoding="utf-8") as file:
+        fcntl.flock(file, fcntl.LOCK_EX)
+        rows = {**{it: sum for it, sum in recorded(top).items() if it not in tried}, **sums}
+        rows = [f"{it} {rows[it]}\n" for it in crates if it in rows and crates[it].edits()]
+        file.truncate(0)
+        file.write(HEADING + "".join(rows))
+
+
+# --- edits
+
+
+def edited(folder, edit):
+    """The texts that an edit leaves, by path, with the places of its changes in the old texts; or why it cannot be applied."""
+    path, old, texts, places = "", None, {}, []
+    for line in text_of(edit).split("\n"):
+        word, _, rest = line.partition(": ")
+        if word == "file":
+            path = rest.strip()
+            if not path.startswith("src/") or os.path.normpath(path) != path or not os.path.isfile(f"{folder}/{path}"):
+                return None, f"there is no file {path} below src/"
+        elif word == "old":
+            old = rest
+        elif line.startswith("new:"):
+            if not path or not old:
+                return None, "a line `new:` stands before `file:` or `old:`"
+            text = texts.get(path) or text_of(f"{folder}/{path}")
+            if text.count(old) != 1:
+                return None, f"an old text stands in {path} {text.count(old)} times"
+            places.append((path, text, text.index(old) + len(old) - len(old.lstrip())))
+            texts[path], old = text.replace(old, line[5:]), None
+    return (texts, places) if texts else (None, "it has no pair `old:`, `new:`")
+
+
+WORD = re.compile(r"\w+")
+
+
+def split_generics(text):
+    """A text that begins with generics in angle brackets: what stands in them, and what stands behind."""
+    depth = 0
+    for at, letter in enumerate(text):
+        depth += (letter == "<") - (letter == ">" and text[at - 1] != "-")
+        if not depth:
+            return (text[1:at], text[at + 1 :]) if letter == ">" else ("", text)
+    return "", text
+
+
+def impl_name(header, module, homes):
+    """The path under which a check prints the functions of an impl or of a trait that stands in a module. `homes` has the module of each type."""
+    header = re.sub(r"^(pub\s+)?(unsafe\s+)?", "", " ".join(header.split())).rstrip("{ ")
+    header = re.split(r"\bwhere\b", header)[0].strip()
+    join = lambda *it: "::".join(word for word in it if word)
+    if header.startswith("trait "):
+        return join(module, WORD.findall(header)[1])
+    generics, rest = split_generics(header[len("impl") :])
+    parameters = {it for part in generics.split(",") for it in WORD.findall(part)[:1]}
+    rest, named, name = rest.partition(" as ")
+    if named:
+        return join(module, WORD.search(name)[0])
+    trait, found, of = rest.partition(" for ")
+    words = lambda text: [it for it in WORD.findall(re.sub(r"(\w+\s*::\s*)+", "", text)) if it not in parameters]
+    if not found:
+        own = words(rest)[0]
+        return join(homes.get(own, module), own)
+    return join(module, (words(of) or [""])[0] + "".join(words(trait)))
+
+
+def function_at(text, place, module, homes):
+    """The path of the function that the place stands in, in a formatted source, or none."""
+    lines = text.split("\n")
+    row = text.count("\n", 0, place)
+    for at in range(row, -1, -1):
+        head = re.match(r"( {0}| {4})(?:pub(?:\([^)]*\))? )?(?:(?:const|unsafe|final) )*fn (\w+)", lines[at])
+        if not head:
+            continue
+        ends = [it for it in range(at, len(lines)) if lines[it] == f"{head[1]}}}" or it == at and re.search(r"[;}]$", lines[it])]
+        if not ends or ends[0] < row:
+            return None
+        if not head[1]:
+            return f"{module}::{head[2]}" if module else head[2]
+        for top in range(at, -1, -1):
+            if re.match(r"(pub )?(unsafe )?(impl|trait)\b", lines[top]):
+                end = next((it for it in range(top, at) if lines[it].endswith("{")), top)
+                return f"{impl_name(' '.join(lines[top : end + 1]), module, homes)}::{head[2]}"
+        return None
+    return None
+
+
+def module_of(path):
+    words = path[len("src/") : -len(".rt")].split("/")
+    return "::".join(it for it in words if it not in ("lib", "main", "mod"))
+
+
+def homes_of(crate):
+    """The module of each type of a crate."""
+    found = {}
+    for file in crate.files("src"):
+        for it in re.findall(r"(?m)^(?:pub(?:\([^)]*\))? )?(?:struct|enum|union) (\w+)", text_of(file)):
+            found[it] = module_of(os.path.relpath(file, crate.folder))
+    return found
+
+
+def asked_for(crate, places):
+    """The functions that an edit changes, each with the module that it stands in, or nothing where one of its places stands in no function."""
+    found, homes = {}, homes_of(crate)
+    for path, text, place in places:
+        name = function_at(text, place, module_of(path), homes)
+        if not name:
+            return {}
+        found[name] = module_of(path)
+    return found
+
+
+# --- trials
+
+
+class Trial:
+    """One wrong body, and what came of it: `refused`, `proved` or `bad`, with the goal or the reason."""
+
+    def __init__(self, crates, name, edit):
+        self.crates, self.crate, self.edit = crates, crates[name], edit
+        self.label = f"{name}/{os.path.basename(edit)[: -len('.edit')]}"
+        self.came, self.told, self.seconds = "bad", "it was not tried", 0
+        self.texts, places = edited(crates[name].folder, edit)
+        # The functions that it changes; none stands for the whole crate.
+        self.only, self.fault = ({}, places) if self.texts is None else (asked_for(crates[name], places), None)
+
+    def run(self, kept):
+        began = time.monotonic()
+        judge = lambda only: judged(check(self.crates, self.crate, self.texts, kept, only), self.texts)
+        if self.fault:
+            self.told = self.fault
+            return
+        if self.only:
+            self.came, self.told = judge(list(self.only))
+        if not self.only or self.came != "refused":
+            self.came, self.told = judge([])
+            self.told += " (by a check of the whole crate)" * (self.came == "refused")
+        self.seconds = time.monotonic() - began
+
+
+def check(crates, crate, texts, kept, only, jobs=1):
+    """Checks a copy of the crate with these texts in place of its own, over what is kept there: these functions with what they call, or all."""
+    words = [f"{kit_folder()}/bin/rattle", "check", *checked_over(crates, crate), "--jobs", str(jobs), "--incremental", kept]
+    for it in only:
+        words += ["--only", it]
+    with tempfile.TemporaryDirectory(prefix="wrong-body-") as room:
+        for part in PARTS:
+            if os.path.isdir(f"{crate.folder}/{part}"):
+                shutil.copytree(f"{crate.folder}/{part}", f"{room}/{part}")
+        for path, text in texts.items():
+            with open(f"{room}/{path}", "w", encoding="utf-8") as it:
+                it.write(text)
+        how = {"cwd": room, "stdin": subprocess.DEVNULL, "stdout": subprocess.PIPE, "stderr": subprocess.STDOUT}
+        return subprocess.run(words, errors="replace", **how)
+
+
+PLACE = r"(?:note: )?(?:\./)?((?:src|specs|proofs)/\S+?):\d+:\d+: "
+# What antt says where it cannot read a text, or a proof file names what is no more there.
+UNREAD = r"is not in scope|has no field|is no name|operand is missing|expected the end|cannot continue"
+LOST = r"has no field|is not in scope|has no `|was not admitted"
+
+
+def judged(ran, texts):
+    """What a check of an edited crate says of the edit."""
+    lines = ran.stdout.rstrip("\n").split("\n")
+    last = re.fullmatch(r"only=(\d+) proved=(\d+)", lines[-1])
+    if ran.returncode == 0:
+        return "proved", "the crate is still proved with it"
+    if ran.returncode != 1 or not (last or lines[-1].startswith("logic=not-proved")):
+        return "bad", f"it did not reach the prover: {' / '.join(lines[-3:])[:400]}"
+    errors = [it for it in lines if re.match(PLACE + "error", it)]
+    for it in errors:
+        path, said = re.match(PLACE, it)[1], re.sub(r"`[^`]*`", "", it)
+        if (path in texts or path.startswith(("src/", "specs/"))) and re.search(UNREAD, said):
+            return "bad", f"the edited text cannot be read: {it[:300]}"
+    goals = [it for it in lines if re.match(r"note: (\./)?src/\S+: it is not proved that", it)]
+    goals += [it for it in errors if not (it.startswith(("./proofs/", "proofs/")) and re.search(LOST, it))]
+    # A loop that is not shown to end.
+    goals += [it for it in lines if re.match(r"fn \S+: no proof: expected a measure", it)]
+    if goals:
+        return "refused", re.sub(r"^(note: )?(\./)?", "", goals[0])[:200]
+    first = [*errors, *[it for it in lines if it.startswith("fn ") and not it.endswith(": proved")], *lines][0]
+    return "bad", f"only a proof file no longer fits, so no goal was tried: {first[:300]}"
+
+
+def lanes():
+    """How many trials run side by side: one a processor, or as many as RT_JOBS says, and as memory holds."""
+    number = os.environ.get("RT_JOBS", "")
+    memory = int(re.search(r"MemAvailable:\s+(\d+)", text_of("/proc/meminfo"))[1]) // 3_000_000
+    return max(1, min(int(number) if number.isdigit() else len(os.sched_getaffinity(0)), memory))
+
+
+class Lanes:
+    """Trials side by side, neighbours in one lane, each over what was checked of its crate before in that lane. A lane begins with a check of the
+    crate as it is, of all functions that its trials ask for, which is made once: where that is not proved, no trial counts."""
+
+    def __init__(self, trials, tell, until, begin_with):
+        self.left, self.tell, self.until, self.begin_with = list(trials), tell, until, begin_with
+        self.lock, self.trials = threading.Lock(), list(trials)
+        self.first = {it.crate.name: threading.Lock() for it in trials}
+        self.is_sound = {}
+
+    def begin(self, trial, folder):
+        """Makes the check of the crate as it is, once, and returns whether it is proved."""
+        name = trial.crate.name
+        with self.first[name]:
+            if name not in self.is_sound:
+                if self.begin_with and os.path.isdir(self.begin_with(trial.crate)):
+                    shutil.copytree(self.begin_with(trial.crate), folder)
+                self.is_sound[name] = self.check_as_it_is(trial, folder)
+            return self.is_sound[name]
+
+    def check_as_it_is(self, trial, folder):
+        """Returns nothing where the crate is proved there, and else what was said. A function that the check knows by another name is asked for by its module."""
+        mine = [it for it in self.trials if it.crate.name == trial.crate.name and not it.fault]
+        while True:
+            only = [] if any(not it.only for it in mine) else list(dict.fromkeys(path for it in mine for path in it.only))
+            ran = check(trial.crates, trial.crate, {}, folder, only, lanes())
+            last = ran.stdout.rstrip("\n").split("\n")[-1]
+            unknown = re.search(r"`([^`]*)`", last.partition(" has no ")[2])
+            if ran.returncode != 2 or not unknown or unknown[1] not in only:
+                return None if ran.returncode == 0 else last
+            for it in mine:
+                module = it.only.pop(unknown[1], None)
+                if module is not None:
+                    it.only[module] = module
+
+    def lane(self, number, room):
+        while True:
+            with self.lock:
+                if not self.left or self.until and time.monotonic() > self.until:
+                    return
+                trial = self.left.pop(0)
+            kept, fault = f"{room}/{trial.crate.name}.{number}", self.begin(trial, f"{room}/{trial.crate.name}")
+            for old in os.listdir(room):
+                if old.endswith(f".{number}") and old != os.path.basename(kept):
+                    shutil.rmtree(f"{room}/{old}", ignore_errors=True)
+            if fault:
+                trial.told = f"without the edit the crate is not proved here: {fault}"
+            else:
+                if not os.path.isdir(kept):
+                    shutil.copytree(f"{room}/{trial.crate.name}", kept)
+                trial.run(kept)
+            with self.lock:
+                self.tell(trial)
+
+
+def try_all(trials, tell, until=None, begin_with=None):
+    """Runs trials, and returns those that were not begun by then. `begin_with` gives a folder of what is kept of a crate."""
+    with tempfile.TemporaryDirectory(prefix="wrong-bodies-") as room:
+        work = Lanes(trials, tell, until, begin_with)
+        with ThreadPoolExecutor(lanes()) as pool:
+            for it in [pool.submit(work.lane, at, room) for at in range(lanes())]:
+                it.result()
+    return work.left
+
+
+# --- what is due
+
+
+def groups(crates):
+    """All wrong bodies, in ten groups of neighbours, so that a group is of few crates."""
+    every = [(name, edit) for name in crates for edit in crates[name].edits()]
+    return [every[len(every) * it // 10 : len(every) * (it + 1) // 10] for it in range(10)]
+
+
+def due(crates, known, commit):
+    """The trials that must be made, since something changed under them, and those of the others whose turn it is."""
+    changed = [it for it in crates if crates[it].edits() and known.get(it) != sum_of(crates, it)]
+    turn = int(hashlib.sha256(commit.encode()).hexdigest(), 16) % 10
+    must = [Trial(crates, name, edit) for name in changed for edit in crates[name].edits()]
+    rest = [Trial(crates, name, edit) for name, edit in groups(crates)[turn] if name not in changed]
+    return changed, must, rest
+
+
+def say(trial):
+    words = {"refused": "refused", "proved": "NOT REFUSED", "bad": "NO TRIAL"}
+    print(f"wrong body {trial.label} ({trial.seconds:.0f} s): {words[trial.came]}: {trial.told}", flush=True)
+
+
+def count(trials):
+    passed = sum(it.came == "refused" for it in trials)
+    print(f"{passed} passed, {len(trials) - passed} failed")
+    return 0 if passed == len(trials) else 1
+
+
+def try_due(top, tree, commit, minutes):
+    """Tries what is due of the repository at top, over the proved crates of a copy; what only has its turn is not begun after so many minutes."""
+    crates = crates_of(tree)
+    changed, must, rest = due(crates_of(top), recorded(top), commit)
+    for it in [*must, *rest]:
+        it.crates, it.crate = crates, crates[it.crate.name]
+    print(f"wrong bodies: {len(must)} of changed crates ({' '.join(changed) or 'none'}), and {len(rest)} of the others in their turn", flush=True)
+    try_all(must, say)
+    left = try_all(rest, say, time.monotonic() + 60 * minutes)
+    if left:
+        print(f"wrong bodies left out, since the time was up: {' '.join(it.label for it in left)}")
+    return count([it for it in [*must, *rest] if it not in left])
+
+
+def prove(crates, names):
+    """Proves, over kept work, these crates and those that they stand on."""
+    for it in dict.fromkeys(it for name in names for it in [*below(crates, name), name]):
+        print(f"wrong bodies: {it} is proved, over what is kept ..", flush=True)
+        verb = "check" if os.path.isfile(f"{crates[it].folder}/src/main.rt") else "lib"
+        how = {"stdin": subprocess.DEVNULL, "stdout": subprocess.PIPE, "stderr": subprocess.STDOUT, "errors": "replace"}
+        ran = subprocess.run(["rt", verb], cwd=crates[it].folder, **how)
+        if ran.returncode:
+            print(ran.stdout)
+            raise SystemExit(f"wrong bodies: {it} is not proved")
+
+
+def try_every(top, names):
+    """Tries all wrong bodies of these crates, and records the sums of those whose wrong bodies were all refused."""
+    crates = crates_of(top)
+    unknown = [it for it in names if it not in crates]
+    if unknown:
+        raise SystemExit(f"wrong bodies: crates.txt names no crate {unknown[0]}")
+    names = [it for it in crates if crates[it].edits() and (it in names or not names)]
+    prove(crates, names)
+    trials = [Trial(crates, name, edit) for name in names for edit in crates[name].edits()]
+    sums = {it: sum_of(crates, it) for it in names}
+    try_all(trials, say, begin_with=lambda crate: f"{crate.folder}/out/incremental")
+    whole = [it for it in names if all(trial.came == "refused" for trial in trials if trial.crate.name == it)]
+    record(top, names, {it: sums[it] for it in whole if sum_of(crates, it) == sums[it]})
+    return count(trials)
+
+
+def main(words):
+    top = os.path.dirname(os.path.dirname(os.path.realpath(__file__)))
+    if words[:1] == ["every"]:
+        return try_every(top, words[1:])
+    if words[:1] == ["due"] and len(words) == 4:
+        return try_due(top, words[1], words[2], float(words[3]))
+    raise SystemExit("usage: wrong_bodies.py every [CRATE..] | due TREE COMMIT MINUTES")
+
+
+if __name__ == "__main__":
+    sys.exit(main(sys.argv[1:]))
