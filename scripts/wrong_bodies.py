@@ -292,8 +292,8 @@ class Lanes:
     """Trials side by side, neighbours in one lane, each over what was checked of its crate before in that lane. A lane begins with a check of the
     crate as it is, of all functions that its trials ask for, which is made once: where that is not proved, no trial counts."""
 
-    def __init__(self, trials, tell, until, begin_with):
-        self.left, self.tell, self.until, self.begin_with = list(trials), tell, until, begin_with
+    def __init__(self, trials, tell, until):
+        self.left, self.tell, self.until = list(trials), tell, until
         self.lock, self.trials = threading.Lock(), list(trials)
         self.first = {it.crate.name: threading.Lock() for it in trials}
         self.is_sound = {}
@@ -303,8 +303,6 @@ class Lanes:
         name = trial.crate.name
         with self.first[name]:
             if name not in self.is_sound:
-                if self.begin_with and os.path.isdir(self.begin_with(trial.crate)):
-                    shutil.copytree(self.begin_with(trial.crate), folder)
                 self.is_sound[name] = self.check_as_it_is(trial, folder)
             return self.is_sound[name]
 
@@ -343,10 +341,10 @@ class Lanes:
                 self.tell(trial)
 
 
-def try_all(trials, tell, until=None, begin_with=None):
-    """Runs trials, and returns those that were not begun by then. `begin_with` gives a folder of what is kept of a crate."""
+def try_all(trials, tell, until=None):
+    """Runs trials, and returns those that were not begun by then."""
     with tempfile.TemporaryDirectory(prefix="wrong-bodies-") as room:
-        work = Lanes(trials, tell, until, begin_with)
+        work = Lanes(trials, tell, until)
         with ThreadPoolExecutor(lanes()) as pool:
             for it in [pool.submit(work.lane, at, room) for at in range(lanes())]:
                 it.result()
@@ -396,16 +394,22 @@ def try_due(top, tree, commit, minutes):
     return count([it for it in [*must, *rest] if it not in left])
 
 
-def prove(crates, names):
-    """Proves, over kept work, these crates and those that they stand on."""
-    for it in dict.fromkeys(it for name in names for it in [*below(crates, name), name]):
-        print(f"wrong bodies: {it} is proved, over what is kept ..", flush=True)
-        verb = "check" if os.path.isfile(f"{crates[it].folder}/src/main.rt") else "lib"
-        how = {"stdin": subprocess.DEVNULL, "stdout": subprocess.PIPE, "stderr": subprocess.STDOUT, "errors": "replace"}
-        ran = subprocess.run(["rt", verb], cwd=crates[it].folder, **how)
-        if ran.returncode:
-            print(ran.stdout)
-            raise SystemExit(f"wrong bodies: {it} is not proved")
+def copy_proved(crates, names, tree):
+    """Copies these crates and those that they stand on, without their wrong bodies, into a folder, and has them proved there by `rt ci`, which keeps
+    on this machine what it has proved: so of what the gate has proved before nothing is proved again."""
+    needed = [it for it in crates if it in names or any(it in below(crates, name) for name in names)]
+    for it in needed:
+        shutil.copytree(crates[it].folder, f"{tree}/crates/{it}", ignore=lambda at, files: {"out", "must-fail"} & set(files))
+    shutil.copy(f"{crates[needed[0]].top}/HANDLES", tree)
+    with open(f"{tree}/crates.txt", "w", encoding="utf-8") as made:
+        made.writelines(f"{it}: {' '.join([*crates[it].of_kit, *crates[it].deps])}\n" for it in needed)
+    print(f"wrong bodies: proving {' '.join(needed)}, where that is not kept ..", flush=True)
+    how = {"stdin": subprocess.DEVNULL, "stdout": subprocess.PIPE, "stderr": subprocess.STDOUT, "errors": "replace"}
+    ran = subprocess.run(["rt", "ci"], cwd=tree, **how)
+    if ran.returncode or not re.search(r"(?m)^[1-9]\d* passed, 0 failed$", ran.stdout):
+        print(ran.stdout)
+        raise SystemExit("wrong bodies: the crates are not proved")
+    return crates_of(tree)
 
 
 def try_every(top, names):
@@ -415,10 +419,13 @@ def try_every(top, names):
     if unknown:
         raise SystemExit(f"wrong bodies: crates.txt names no crate {unknown[0]}")
     names = [it for it in crates if crates[it].edits() and (it in names or not names)]
-    prove(crates, names)
-    trials = [Trial(crates, name, edit) for name in names for edit in crates[name].edits()]
     sums = {it: sum_of(crates, it) for it in names}
-    try_all(trials, say, begin_with=lambda crate: f"{crate.folder}/out/incremental")
+    trials = [Trial(crates, name, edit) for name in names for edit in crates[name].edits()]
+    with tempfile.TemporaryDirectory(prefix="wrong-bodies-") as tree:
+        proved = copy_proved(crates, names, tree)
+        for it in trials:
+            it.crates, it.crate = proved, proved[it.crate.name]
+        try_all(trials, say)
     whole = [it for it in names if all(trial.came == "refused" for trial in trials if trial.crate.name == it)]
     record(top, names, {it: sums[it] for it in whole if sum_of(crates, it) == sums[it]})
     return count(trials)

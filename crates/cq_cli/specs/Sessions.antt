@@ -1,7 +1,7 @@
 -- What `sessions` writes, and whose fault it is. (this project's profile)
 use Rattle.std.specs.Prelude.{◌≡◌, ℕ, List, Option, length}
 use Rattle.cq_report.specs.declared.fault.RunFault.TheVariants as runs
-use Rattle.cq_report.specs.Sessions.{Wrote}
+use Rattle.cq_sessions.specs.Sessions.{Wrote}
 use Rattle.cq_report.specs.Run as runs_of
 use Rattle.cq_cli.specs.declared.sessions.SessionsFault.{SessionsFault}
 use Rattle.cq_cli.specs.declared.sessions.SessionsFault.TheVariants.{NoFile, TooMany, Open, Run}

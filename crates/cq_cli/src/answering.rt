@@ -4,12 +4,12 @@ ghost use Rattle.std.specs.Prelude.{◌≡◌, ◌<◌, ◌^◌};
 ghost use Rattle.cq_cli.specs.declared.status.Status.{Status};
 ghost use Rattle.cq_cli.specs.Status.{DeviceFailed, IsRefused};
 
-use crate::explaining::explain_within;
+use crate::explaining::answer_explained;
 use crate::rows::write_rows;
 use crate::sessions::serve_files;
 use crate::status::Status;
-use crate::views::{choice_within, view_within};
-use crate::wanted::{Wanted, read_words};
+use crate::views::{answer_choice, answer_view};
+use crate::wanted::{Task, Wanted, read_words};
 use crate::writing::{tell, tell_fault, write_text};
 use clap::Error;
 use clap::error::ErrorKind;
@@ -78,33 +78,6 @@ fn answer_replay<A: Allocator + Copy, R: Source, W: Sink, E: Sink>(
     Status::of_run(fault)
 }
 
-/// The same with no more than so many bytes of the heap out at a time, where a number of them is told.
-fn replay_within<A: Allocator + Copy, R: Source, W: Sink, E: Sink>(
-    alloc: Global,
-    heap: A,
-    memory: Option<usize>,
-    numbering: Numbering,
-    source: &mut R,
-    sink: &mut W,
-    errors: &mut E,
-) -> Status
-    requires reads { R.reads_made source.old < 2 ^ 62 }
-    requires read_failures { R.failures_met source.old < 2 ^ 62 }
-    requires sink { W.write_failures sink.old < 2 ^ 62 }
-    requires errors { E.write_failures errors.old < 2 ^ 62 }
-    ensures read { R.failures_met source.old < R.failures_met source.new → result ≡ Status.Failed }
-    ensures write { W.write_failures sink.old < W.write_failures sink.new → result ≡ Status.Failed }
-    ensures failed { result ≡ Status.Failed → DeviceFailed (R.reads_made source.old) (R.reads_made source.new) (R.failures_met source.old) (R.failures_met source.new) (W.write_failures sink.old) (W.write_failures sink.new) }
-    ensures refused { IsRefused result → (sink.new ≡ sink.old) }
-    ensures unread { result ≡ Status.Usage → source.new ≡ source.old }
-{
-    let Some(bytes) = memory else {
-        return answer_replay(alloc, heap, numbering, source, sink, errors);
-    };
-    let budget = Budget::new(heap, bytes);
-    answer_replay(alloc, &budget, numbering, source, sink, errors)
-}
-
 /// Writes the insert lines of the CSV that the source gives, and tells a fault of it.
 fn answer_rows<A: Allocator + Copy, R: Source, W: Sink, E: Sink>(
     alloc: Global,
@@ -130,34 +103,6 @@ fn answer_rows<A: Allocator + Copy, R: Source, W: Sink, E: Sink>(
     };
     tell_fault(alloc, &fault, errors);
     Status::of_rows(fault)
-}
-
-/// The same with no more than so many bytes of the heap out at a time, where a number of them is told.
-fn rows_within<A: Allocator + Copy, R: Source, W: Sink, E: Sink>(
-    alloc: Global,
-    heap: A,
-    memory: Option<usize>,
-    relation: &str,
-    arity: &str,
-    source: &mut R,
-    sink: &mut W,
-    errors: &mut E,
-) -> Status
-    requires reads { R.reads_made source.old < 2 ^ 62 }
-    requires read_failures { R.failures_met source.old < 2 ^ 62 }
-    requires sink { W.write_failures sink.old < 2 ^ 62 }
-    requires errors { E.write_failures errors.old < 2 ^ 62 }
-    ensures read { R.failures_met source.old < R.failures_met source.new → result ≡ Status.Failed }
-    ensures write { W.write_failures sink.old < W.write_failures sink.new → result ≡ Status.Failed }
-    ensures failed { result ≡ Status.Failed → DeviceFailed (R.reads_made source.old) (R.reads_made source.new) (R.failures_met source.old) (R.failures_met source.new) (W.write_failures sink.old) (W.write_failures sink.new) }
-    ensures refused { IsRefused result → (sink.new ≡ sink.old) }
-    ensures unread { result ≡ Status.Usage → source.new ≡ source.old }
-{
-    let Some(bytes) = memory else {
-        return answer_rows(alloc, heap, relation, arity, source, sink, errors);
-    };
-    let budget = Budget::new(heap, bytes);
-    answer_rows(alloc, &budget, relation, arity, source, sink, errors)
 }
 
 /// Serves the files, and tells a fault of it.
@@ -188,36 +133,50 @@ fn answer_sessions<
     Status::of_sessions(fault)
 }
 
-/// The same with no more than so many bytes of the heap out at a time, in all threads together, where a number of them is told.
-fn sessions_within<
+/// Does a task.
+fn answer_task<
     H: Files + Threads + Wait + Sync,
     A: Allocator + Copy + Send + Sync,
+    R: Source,
     W: Sink,
     E: Sink,
 >(
     host: &H,
     alloc: Global,
     heap: A,
-    memory: Option<usize>,
-    setup: &str,
-    files: &[&str],
+    task: &Task<'_>,
+    source: &mut R,
     sink: &mut W,
     errors: &mut E,
 ) -> Status
+    requires reads { R.reads_made source.old < 2 ^ 62 }
+    requires read_failures { R.failures_met source.old < 2 ^ 62 }
     requires sink { W.write_failures sink.old < 2 ^ 62 }
     requires errors { E.write_failures errors.old < 2 ^ 62 }
+    ensures read { R.failures_met source.old < R.failures_met source.new → result ≡ Status.Failed }
     ensures write { W.write_failures sink.old < W.write_failures sink.new → result ≡ Status.Failed }
-    ensures failed { result ≡ Status.Failed → W.write_failures sink.old < W.write_failures sink.new }
+    ensures failed { result ≡ Status.Failed → DeviceFailed (R.reads_made source.old) (R.reads_made source.new) (R.failures_met source.old) (R.failures_met source.new) (W.write_failures sink.old) (W.write_failures sink.new) }
     ensures refused { IsRefused result → (sink.new ≡ sink.old) }
+    ensures unread { result ≡ Status.Usage → source.new ≡ source.old }
 {
-    let Some(bytes) = memory else {
-        return answer_sessions(host, alloc, heap, setup, files, sink, errors);
-    };
-    let budget = Budget::new(heap, bytes);
-    answer_sessions(host, alloc, &budget, setup, files, sink, errors)
+    match task {
+        Task::Replay { numbering } => {
+            answer_replay(alloc, heap, *numbering, source, sink, errors)
+        }
+        Task::Rows { relation, arity } => {
+            answer_rows(alloc, heap, relation, arity, source, sink, errors)
+        }
+        Task::Sessions { setup, files } => {
+            answer_sessions(host, alloc, heap, setup, files, sink, errors)
+        }
+        Task::View { view } => answer_view(alloc, heap, *view, source, sink, errors),
+        Task::Explain { names } => answer_explained(alloc, heap, names, source, sink, errors),
+        Task::Choice { words } => answer_choice(alloc, heap, words, source, sink, errors),
+    }
 }
 
-/// Does what is wanted.
+/// Does what is wanted, with no more than so many bytes of the heap out at a time, in all threads together, where a number of
+/// them is told.
 fn answer_wanted<
     H: Files + Threads + Wait + Sync,
     A: Allocator + Copy + Send + Sync,
@@ -243,30 +202,12 @@ fn answer_wanted<
     ensures refused { IsRefused result → (sink.new ≡ sink.old) }
     ensures unread { result ≡ Status.Usage → source.new ≡ source.old }
 {
-    match wanted {
-        Wanted::Replay { numbering, memory } => {
-            replay_within(alloc, heap, *memory, *numbering, source, sink, errors)
-        }
-        Wanted::Rows {
-            relation,
-            arity,
-            memory,
-        } => rows_within(alloc, heap, *memory, relation, arity, source, sink, errors),
-        Wanted::Sessions {
-            setup,
-            files,
-            memory,
-        } => sessions_within(host, alloc, heap, *memory, setup, files, sink, errors),
-        Wanted::View { view, memory } => {
-            view_within(alloc, heap, *memory, *view, source, sink, errors)
-        }
-        Wanted::Explain { names, memory } => {
-            explain_within(alloc, heap, *memory, names, source, sink, errors)
-        }
-        Wanted::Choice { words, memory } => {
-            choice_within(alloc, heap, *memory, words, source, sink, errors)
-        }
-    }
+    let task = &wanted.task;
+    let Some(bytes) = wanted.memory else {
+        return answer_task(host, alloc, heap, task, source, sink, errors);
+    };
+    let budget = Budget::new(heap, bytes);
+    answer_task(host, alloc, &budget, task, source, sink, errors)
 }
 
 /// Does what the words say. Texts of faults go to the sink of errors, each one line; help goes to the other.

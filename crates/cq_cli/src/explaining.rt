@@ -17,7 +17,6 @@ use crate::views::{end_with, write_lines};
 use crate::writing::tell;
 use cq_atom::{Bad, Name};
 use cq_board::Board;
-use cq_budget::Budget;
 use cq_report::{RunFault, read_script};
 use cq_show::{explain, explain_named};
 use cq_text::{Sink, Source};
@@ -176,7 +175,7 @@ fn show_explained<A: Allocator + Copy, R: Source, W: Sink, E: Sink>(
 }
 
 /// The same, or tells a fault.
-fn answer_explained<A: Allocator + Copy, R: Source, W: Sink, E: Sink>(
+pub(crate) fn answer_explained<A: Allocator + Copy, R: Source, W: Sink, E: Sink>(
     alloc: Global,
     heap: A,
     names: &[&str],
@@ -198,33 +197,4 @@ fn answer_explained<A: Allocator + Copy, R: Source, W: Sink, E: Sink>(
 {
     let shown = show_explained(heap, names, source, sink, errors);
     end_with(alloc, shown, errors)
-}
-
-/// The same with no more than so many bytes of the heap out at a time, where a number of them is told.
-pub(crate) fn explain_within<A: Allocator + Copy, R: Source, W: Sink, E: Sink>(
-    alloc: Global,
-    heap: A,
-    memory: Option<usize>,
-    names: &[&str],
-    source: &mut R,
-    sink: &mut W,
-    errors: &mut E,
-) -> Status
-    requires reads { R.reads_made source.old < 2 ^ 62 }
-    requires read_failures { R.failures_met source.old < 2 ^ 62 }
-    requires sink { W.write_failures sink.old < 2 ^ 62 }
-    requires errors { E.write_failures errors.old < 2 ^ 62 }
-    ensures told { result ≡ Status.Done → IfSome (R.left source.old) (λ input. (readings : List Reading) → AreReadings (lines_of input) readings → IsWritten (pool_left readings) (map (λ name. name.now) names.now) (W.taken sink.old) (W.taken sink.new)) }
-    ensures status { (result ≡ Status.Done) ⊎ (result ≡ Status.NotSo) → IfSome (R.left source.old) (λ input. (readings : List Reading) → AreReadings (lines_of input) readings → result ≡ status_of_absent (absent_names (pool_left readings) (map (λ name. name.now) names.now))) }
-    ensures read { R.failures_met source.old < R.failures_met source.new → result ≡ Status.Failed }
-    ensures write { W.write_failures sink.old < W.write_failures sink.new → result ≡ Status.Failed }
-    ensures failed { result ≡ Status.Failed → DeviceFailed (R.reads_made source.old) (R.reads_made source.new) (R.failures_met source.old) (R.failures_met source.new) (W.write_failures sink.old) (W.write_failures sink.new) }
-    ensures refused { IsRefused result → (sink.new ≡ sink.old) }
-    ensures unread { result ≡ Status.Usage → source.new ≡ source.old }
-{
-    let Some(bytes) = memory else {
-        return answer_explained(alloc, heap, names, source, sink, errors);
-    };
-    let budget = Budget::new(heap, bytes);
-    answer_explained(alloc, &budget, names, source, sink, errors)
 }

@@ -3,7 +3,8 @@
 ghost use Rattle.std.specs.Prelude.{◌≡◌, ◌<◌, ◌+◌, ◌^◌, ◌⊎◌, length, Err, IfOk, IfErr, OnOk, MatchResult};
 ghost use Rattle.cq_cli.specs.Sessions.{WroteScript, IsOfFile, IsOfWriting, IsOfCount, failures_of};
 
-use cq_report::{RunFault, read_whole, run_sessions};
+use cq_report::{RunFault, read_whole};
+use cq_sessions::run_sessions;
 use cq_text::{Counted, Sink};
 use std::alloc::Allocator;
 use std::fs;

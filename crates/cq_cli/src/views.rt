@@ -17,7 +17,6 @@ use crate::choices::read_choices;
 use crate::status::Status;
 use crate::writing::{tell_fault, write_text};
 use cq_board::{Board, Choice};
-use cq_budget::Budget;
 use cq_report::{RunFault, read_script};
 use cq_show::{graph, json};
 use cq_text::{Sink, Source};
@@ -175,7 +174,7 @@ fn show_choice<A: Allocator + Copy, R: Source, W: Sink>(
 }
 
 /// Reads the script that the source gives, and tells of the board that it leaves what is asked of it, or tells a fault.
-fn answer_view<A: Allocator + Copy, R: Source, W: Sink, E: Sink>(
+pub(crate) fn answer_view<A: Allocator + Copy, R: Source, W: Sink, E: Sink>(
     alloc: Global,
     heap: A,
     view: View,
@@ -196,34 +195,6 @@ fn answer_view<A: Allocator + Copy, R: Source, W: Sink, E: Sink>(
 {
     let shown = show_view(heap, view, source, sink);
     end_with(alloc, shown, errors)
-}
-
-/// The same with no more than so many bytes of the heap out at a time, where a number of them is told.
-pub(crate) fn view_within<A: Allocator + Copy, R: Source, W: Sink, E: Sink>(
-    alloc: Global,
-    heap: A,
-    memory: Option<usize>,
-    view: View,
-    source: &mut R,
-    sink: &mut W,
-    errors: &mut E,
-) -> Status
-    requires reads { R.reads_made source.old < 2 ^ 62 }
-    requires read_failures { R.failures_met source.old < 2 ^ 62 }
-    requires sink { W.write_failures sink.old < 2 ^ 62 }
-    requires errors { E.write_failures errors.old < 2 ^ 62 }
-    ensures told { result ≡ Status.Done → IfSome (R.left source.old) (λ input. (readings : List Reading) → AreReadings (lines_of input) readings → Appends (W.taken sink.old) (W.taken sink.new) (viewed view (pool_left readings))) }
-    ensures read { R.failures_met source.old < R.failures_met source.new → result ≡ Status.Failed }
-    ensures write { W.write_failures sink.old < W.write_failures sink.new → result ≡ Status.Failed }
-    ensures failed { result ≡ Status.Failed → DeviceFailed (R.reads_made source.old) (R.reads_made source.new) (R.failures_met source.old) (R.failures_met source.new) (W.write_failures sink.old) (W.write_failures sink.new) }
-    ensures refused { IsRefused result → (sink.new ≡ sink.old) }
-    ensures unread { result ≡ Status.Usage → source.new ≡ source.old }
-{
-    let Some(bytes) = memory else {
-        return answer_view(alloc, heap, view, source, sink, errors);
-    };
-    let budget = Budget::new(heap, bytes);
-    answer_view(alloc, &budget, view, source, sink, errors)
 }
 
 /// Reads the script that the source gives, and says whether the choices coordinate on the board that it leaves, or tells a fault.
@@ -254,7 +225,7 @@ fn say_choice<A: Allocator + Copy, R: Source, W: Sink, E: Sink>(
 }
 
 /// Reads choices from words, and says of them the same, or what is wrong with the words.
-fn answer_choice<A: Allocator + Copy, R: Source, W: Sink, E: Sink>(
+pub(crate) fn answer_choice<A: Allocator + Copy, R: Source, W: Sink, E: Sink>(
     alloc: Global,
     heap: A,
     words: &[&str],
@@ -283,35 +254,4 @@ fn answer_choice<A: Allocator + Copy, R: Source, W: Sink, E: Sink>(
             Status::of_choices(fault)
         }
     }
-}
-
-/// The same with no more than so many bytes of the heap out at a time, where a number of them is told.
-pub(crate) fn choice_within<A: Allocator + Copy, R: Source, W: Sink, E: Sink>(
-    alloc: Global,
-    heap: A,
-    memory: Option<usize>,
-    words: &[&str],
-    source: &mut R,
-    sink: &mut W,
-    errors: &mut E,
-) -> Status
-    requires reads { R.reads_made source.old < 2 ^ 62 }
-    requires read_failures { R.failures_met source.old < 2 ^ 62 }
-    requires sink { W.write_failures sink.old < 2 ^ 62 }
-    requires errors { E.write_failures errors.old < 2 ^ 62 }
-    ensures so { result ≡ Status.Done → IfSome (R.left source.old) (λ input. (readings : List Reading) → AreReadings (lines_of input) readings → AreCoordinating (pool_left readings) (map (λ word. word.now) words.now)) }
-    ensures not_so { result ≡ Status.NotSo → IfSome (R.left source.old) (λ input. (readings : List Reading) → AreReadings (lines_of input) readings → AreNotCoordinating (pool_left readings) (map (λ word. word.now) words.now)) }
-    ensures said { result ≡ Status.Done → Appends (W.taken sink.old) (W.taken sink.new) (codes "coordinating\n") }
-    ensures denied { result ≡ Status.NotSo → Appends (W.taken sink.old) (W.taken sink.new) (codes "not coordinating\n") }
-    ensures read { R.failures_met source.old < R.failures_met source.new → result ≡ Status.Failed }
-    ensures write { W.write_failures sink.old < W.write_failures sink.new → result ≡ Status.Failed }
-    ensures failed { result ≡ Status.Failed → DeviceFailed (R.reads_made source.old) (R.reads_made source.new) (R.failures_met source.old) (R.failures_met source.new) (W.write_failures sink.old) (W.write_failures sink.new) }
-    ensures refused { IsRefused result → (sink.new ≡ sink.old) }
-    ensures unread { result ≡ Status.Usage → source.new ≡ source.old }
-{
-    let Some(bytes) = memory else {
-        return answer_choice(alloc, heap, words, source, sink, errors);
-    };
-    let budget = Budget::new(heap, bytes);
-    answer_choice(alloc, &budget, words, source, sink, errors)
 }

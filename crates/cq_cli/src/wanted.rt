@@ -154,13 +154,20 @@ docs/formats.md describes values and choices.";
 
 /// What the words ask for.
 #[derive(Drop, Debug)]
-pub(crate) enum Wanted<'a> {
+pub(crate) struct Wanted<'a> {
+    /// What is to be done.
+    pub(crate) task: Task<'a>,
+    /// How many bytes of memory that may take at a time; no bound where none is told.
+    pub(crate) memory: Option<usize>,
+}
+
+/// What is to be done.
+#[derive(Drop, Debug)]
+pub(crate) enum Task<'a> {
     /// A script is replayed.
     Replay {
         /// Whether replies have the numbers of their lines.
         numbering: Numbering,
-        /// How many bytes of memory the run may have at a time; no bound where none is told.
-        memory: Option<usize>,
     },
     /// CSV becomes insert lines.
     Rows {
@@ -168,8 +175,6 @@ pub(crate) enum Wanted<'a> {
         relation: &'a str,
         /// The word that stands for its arity.
         arity: &'a str,
-        /// How many bytes of memory the rows may have at a time; no bound where none is told.
-        memory: Option<usize>,
     },
     /// Files are served over one board.
     Sessions {
@@ -177,29 +182,21 @@ pub(crate) enum Wanted<'a> {
         setup: &'a str,
         /// The paths of the files.
         files: Vec<&'a str>,
-        /// How many bytes of memory the sessions may have at a time; no bound where none is told.
-        memory: Option<usize>,
     },
     /// Something is told of the board that a script leaves.
     View {
         /// What is told.
         view: View,
-        /// How many bytes of memory that may take at a time; no bound where none is told.
-        memory: Option<usize>,
     },
     /// It is told why queries of the board that a script leaves wait.
     Explain {
         /// The words that stand for the queries' names; none for all that wait.
         names: Vec<&'a str>,
-        /// How many bytes of memory that may take at a time; no bound where none is told.
-        memory: Option<usize>,
     },
     /// It is said whether choices coordinate on the board that a script leaves.
     Choice {
         /// The words that stand for the choices.
         words: Vec<&'a str>,
-        /// How many bytes of memory that may take at a time; no bound where none is told.
-        memory: Option<usize>,
     },
 }
 
@@ -320,21 +317,29 @@ fn choice_command<'a>(alloc: Global) -> Result<Command<'a>, AllocError> {
         .arg(view_memory(alloc))
 }
 
+/// A command with one subcommand more. Each of the two is let go here alone, where the other is refused.
+fn with<'a>(
+    command: Command<'a>,
+    subcommand: Result<Command<'a>, AllocError>,
+) -> Result<Command<'a>, AllocError> {
+    command.subcommand(subcommand?)
+}
+
 fn board_command<'a>(alloc: Global) -> Result<Command<'a>, AllocError> {
-    Command::new(alloc, "board")
+    let board = Command::new(alloc, "board")
         .version(VERSION)
         .about(ABOUT)
         .after_help(BEHIND)
         .subcommand_required(true)
         .arg_required_else_help(true)
-        .bin_name("board")?
-        .subcommand(replay_command(alloc)?)?
-        .subcommand(rows_command(alloc)?)?
-        .subcommand(sessions_command(alloc)?)?
-        .subcommand(explain_command(alloc)?)?
-        .subcommand(graph_command(alloc)?)?
-        .subcommand(json_command(alloc)?)?
-        .subcommand(choice_command(alloc)?)
+        .bin_name("board")?;
+    let board = with(board, replay_command(alloc))?;
+    let board = with(board, rows_command(alloc))?;
+    let board = with(board, sessions_command(alloc))?;
+    let board = with(board, explain_command(alloc))?;
+    let board = with(board, graph_command(alloc))?;
+    let board = with(board, json_command(alloc))?;
+    with(board, choice_command(alloc))
 }
 
 /// All the words that stand for that argument.
@@ -356,6 +361,35 @@ fn numbering(asked: bool) -> Numbering {
     }
 }
 
+/// What a subcommand asks for, by its name and the words behind it.
+fn task_of<'a>(
+    alloc: Global,
+    name: &str,
+    matches: &ArgMatches<'a>,
+) -> Result<Task<'a>, AllocError> {
+    Ok(match name {
+        "rows" => Task::Rows {
+            relation: matches.get_str("RELATION").unwrap_or(""),
+            arity: matches.get_str("ARITY").unwrap_or(""),
+        },
+        "sessions" => Task::Sessions {
+            setup: matches.get_str("SETUP").unwrap_or(""),
+            files: words_of(alloc, matches, "FILE")?,
+        },
+        "explain" => Task::Explain {
+            names: words_of(alloc, matches, "NAME")?,
+        },
+        "graph" => Task::View { view: View::Graph },
+        "json" => Task::View { view: View::Json },
+        "choice" => Task::Choice {
+            words: words_of(alloc, matches, "CHOICE")?,
+        },
+        _ => Task::Replay {
+            numbering: numbering(matches.get_flag("number")),
+        },
+    })
+}
+
 /// What the words ask for, of which the first is the program's name.
 ///
 /// # Errors
@@ -363,40 +397,16 @@ fn numbering(asked: bool) -> Numbering {
 /// growth was refused.
 pub(crate) fn read_words<'a, S: AsStr>(alloc: Global, words: &'a [S]) -> Result<Wanted<'a>, Error> {
     let matches = board_command(alloc)?.try_get_matches_from(words)?;
-    match matches.subcommand() {
-        Some(("rows", rows)) => Ok(Wanted::Rows {
-            relation: rows.get_str("RELATION").unwrap_or(""),
-            arity: rows.get_str("ARITY").unwrap_or(""),
-            memory: rows.get_one::<usize>("memory"),
-        }),
-        Some(("sessions", sessions)) => Ok(Wanted::Sessions {
-            setup: sessions.get_str("SETUP").unwrap_or(""),
-            files: words_of(alloc, sessions, "FILE")?,
-            memory: sessions.get_one::<usize>("memory"),
-        }),
-        Some(("explain", explain)) => Ok(Wanted::Explain {
-            names: words_of(alloc, explain, "NAME")?,
-            memory: explain.get_one::<usize>("memory"),
-        }),
-        Some(("graph", graph)) => Ok(Wanted::View {
-            view: View::Graph,
-            memory: graph.get_one::<usize>("memory"),
-        }),
-        Some(("json", json)) => Ok(Wanted::View {
-            view: View::Json,
-            memory: json.get_one::<usize>("memory"),
-        }),
-        Some(("choice", choice)) => Ok(Wanted::Choice {
-            words: words_of(alloc, choice, "CHOICE")?,
-            memory: choice.get_one::<usize>("memory"),
-        }),
-        Some((_, replay)) => Ok(Wanted::Replay {
-            numbering: numbering(replay.get_flag("number")),
-            memory: replay.get_one::<usize>("memory"),
-        }),
-        None => Ok(Wanted::Replay {
-            numbering: Numbering::Plain,
+    let Some((name, behind)) = matches.subcommand() else {
+        return Ok(Wanted {
+            task: Task::Replay {
+                numbering: Numbering::Plain,
+            },
             memory: None,
-        }),
-    }
+        });
+    };
+    Ok(Wanted {
+        task: task_of(alloc, name, behind)?,
+        memory: behind.get_one::<usize>("memory"),
+    })
 }

@@ -10,7 +10,8 @@ use Rattle.std.proofs.lemmas.Bool.{cases_lt, eqb-true}
 use Rattle.cq_report.specs.Lines.{lines_of, whole_lines, before_first, before_whole}
 use Rattle.cq_report.specs.declared.line.TheConstants.{KEPT}
 use Rattle.cq_report.specs.Steps.Kept.{kept}
-use Rattle.cq_report.specs.Steps.Serving.{HasNoEnd, HaveNoEnd, ended}
+use Rattle.cq_report.specs.Steps.Serving.{HaveNoEnd, ended}
+use Rattle.cq_report.specs.Lines.{HasNoEnd}
 
 -- ---- what is kept
 

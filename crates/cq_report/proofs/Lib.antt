@@ -1,3 +1,4 @@
+pub mod CallerLemmas
 mod Examples
 pub mod Named
 pub mod Refused
@@ -9,10 +10,4 @@ pub mod Served
 pub mod Starving
 pub mod Ending
 pub mod Leaving
-pub mod Turns
-pub mod Sheets
-pub mod Clients
-pub mod Settings
-pub mod Rooms
-pub mod Threads
 pub mod Pages

@@ -12,7 +12,8 @@ use Rattle.cq_report.specs.Output.{AreReadFrom, state_after, output_from}
 use Rattle.cq_report.specs.Run.{IsOfRead, IsOfOutput, failures_of}
 use Rattle.cq_report.specs.Steps.Written.{Puts, Breaks, Fails}
 use Rattle.cq_report.specs.Steps.Kept.{kept}
-use Rattle.cq_report.specs.Steps.Serving.{HasNoEnd, HaveNoEnd, ended, Answered, Served, Finished, Stopped, ServesOn, StopsOn, IsSound}
+use Rattle.cq_report.specs.Steps.Serving.{HaveNoEnd, ended, Answered, Served, Finished, Stopped, ServesOn, StopsOn, IsSound}
+use Rattle.cq_report.specs.Lines.{HasNoEnd}
 use Rattle.cq_report.proofs.Cutting.{kept_nil, kept_again, kept_none, kept_some, lines_of_all_ended, lines_of_ended, lines_of_open, HasNoEnd-append, HaveNoEnd-more, ended-more}
 use Rattle.cq_report.proofs.Kept.{IsReading-kept, IsReading-whole}
 use Rattle.cq_report.specs.Steps.Writing.{Puts-nothing, Puts-then, Puts-breaks, Breaks-more, Puts-cut, Puts-starved}

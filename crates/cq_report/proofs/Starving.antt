@@ -1,6 +1,6 @@
 -- Memory that was wanting while lines were served.
-use Rattle.std.proofs.Common.{◌≡◌, ◌==◌, ◌≤◌, ℕ, Bool, true, false, List, [], ◌∷◌, ◌++◌, length, Option, refl, sym, ap, subst, ◌∙◌, append_assoc, append-nil, arith}
-use Rattle.std.specs.Io.KnownBytes.{Appends, Consumes}
+use Rattle.std.proofs.Common.{◌≡◌, ◌==◌, ◌≤◌, ℕ, Bool, true, false, List, [], ◌∷◌, ◌++◌, length, Option, refl, sym, ap, subst, ◌∙◌, append_assoc, arith}
+use Rattle.std.specs.Io.KnownBytes.{Consumes}
 use Rattle.std.proofs.KnownBytes.{Appends-nil, Consumes-nil}
 use Rattle.cq_text.specs.declared.limits.TheConstants.{MAX_PIECE}
 use Rattle.cq_report.specs.declared.output.Output.{Output}
@@ -8,9 +8,8 @@ use Rattle.cq_report.specs.declared.fault.RunFault.{RunFault}
 use Rattle.cq_report.specs.declared.fault.RunFault.TheVariants as faults
 use Rattle.cq_report.specs.declared.numbering.Numbering.{Numbering}
 use Rattle.cq_report.specs.Lines.{whole_lines, before_whole}
-use Rattle.cq_report.specs.Reading.{Reading}
 use Rattle.cq_report.specs.Machine.{State, begin_state}
-use Rattle.cq_report.specs.Output.{AreReadings, output}
+use Rattle.cq_report.specs.Output.{AreReadings}
 use Rattle.cq_report.specs.Run.{IfMemory, WroteFirstLines}
 use Rattle.cq_report.specs.Steps.Written.{Puts, Breaks}
 use Rattle.cq_report.specs.Steps.Serving.{Served, Stopped, Starved, ServesOn, StarvesOn}

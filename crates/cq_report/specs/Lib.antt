@@ -5,6 +5,4 @@ pub mod Reply
 pub mod Machine
 pub mod Output
 pub mod Run
-pub mod Script
-pub mod Sessions
 pub mod Steps

@@ -1,5 +1,5 @@
 -- A script as lines (this project's profile).
-use Rattle.std.specs.Prelude.{ℕ, List, [], ◌∷◌, ◌==◌, if◌then◌else◌}
+use Rattle.std.specs.Prelude.{◌≡◌, ℕ, List, [], ◌∷◌, ◌==◌, if◌then◌else◌, false}
 
 -- A byte before the first line; where there is none, it begins one.
 abbrev pub before_first : ℕ → List (List ℕ) → List (List ℕ)
@@ -20,3 +20,8 @@ before_whole b (line ∷ lines) = (b ∷ line) ∷ lines
 abbrev pub whole_lines : List ℕ → List (List ℕ)
 whole_lines [] = []
 whole_lines (b ∷ bs) = if b == 10 then [] ∷ whole_lines bs else before_whole b (whole_lines bs)
+
+-- No byte ends a line.
+abbrev pub HasNoEnd : List ℕ → Type 0
+HasNoEnd [] = Unit {0}
+HasNoEnd (b ∷ bs) = ((b == 10) ≡ false) × HasNoEnd bs

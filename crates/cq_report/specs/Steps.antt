@@ -7,7 +7,3 @@ pub mod Kept
 pub mod Serving
 pub mod Replay
 pub mod Playing
-pub mod Sheets
-pub mod Clients
-pub mod Settings
-pub mod Rooms

@@ -8,7 +8,7 @@ use cq_text::{Command, CommandKind, Form};
 use std::alloc::Allocator;
 
 /// The form in which the next line is read, where this one is settled, if any.
-pub(crate) fn form_of(heading: Option<Form>) -> Form
+pub fn form_of(heading: Option<Form>) -> Form
     ensures { result ≡ form_of heading }
 {
     match heading {
@@ -18,7 +18,7 @@ pub(crate) fn form_of(heading: Option<Form>) -> Form
 }
 
 /// The form that is settled behind a command, if any.
-pub(crate) fn headed<A: Allocator>(heading: Option<Form>, command: &Command<A>) -> Option<Form>
+pub fn headed<A: Allocator>(heading: Option<Form>, command: &Command<A>) -> Option<Form>
     ensures { result ≡ headed heading (Reads command.now) }
 {
     match heading {

@@ -24,17 +24,23 @@ mod playing;
 mod reply;
 mod reporting;
 mod running;
-mod sessions;
 mod setup;
 mod stage;
 mod unheard;
 mod whole;
 
 pub use fault::RunFault;
+pub use heading::{form_of, headed};
 pub use limits::{JOURNAL_LIMIT, POOL_LIMIT};
 pub use numbering::Numbering;
+pub use page::put;
 pub use playing::{Played, read_script};
+pub use reply::{
+    board_line, catalog_line, entered_line, fault_line, late_line, ok_line, published_line,
+    refusal_line, show_line,
+};
 pub use reporting::report;
-pub use running::run;
-pub use sessions::{run_sessions, run_sessions_past};
+pub use running::{first_line, run};
+pub use setup::Setup;
+pub use stage::Stage;
 pub use whole::read_whole;

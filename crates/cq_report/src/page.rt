@@ -5,7 +5,7 @@ ghost use Rattle.std.specs.Prelude.{◌≡◌, ◌++◌, ℕ, List, string_bytes
 use std::alloc::{AllocError, Allocator};
 
 /// Puts a text that was made behind the page, or tells that there was no memory for it.
-pub(crate) fn put<A: Allocator>(
+pub fn put<A: Allocator>(
     page: &mut String<A>,
     text: Result<String<A>, AllocError>,
 ) -> Result<(), AllocError>

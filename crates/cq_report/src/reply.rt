@@ -25,7 +25,7 @@ fn kind_word(kind: Kind) -> &'static str
 }
 
 /// The reply to a line that is no command.
-pub(crate) fn fault_line<A: Allocator>(
+pub fn fault_line<A: Allocator>(
     alloc: A,
     kind: Kind,
     offset: usize,
@@ -51,21 +51,21 @@ fn place_line<A: Allocator>(alloc: A, words: &str, place: usize) -> Result<Strin
 }
 
 /// The reply to what is accepted before the floor serves.
-pub(crate) fn ok_line() -> &'static str
+pub fn ok_line() -> &'static str
     ensures { result.now ≡ ok_line }
 {
     "ok\n"
 }
 
 /// The reply to a line of the setup that comes behind it.
-pub(crate) fn late_line() -> &'static str
+pub fn late_line() -> &'static str
     ensures { result.now ≡ late_line }
 {
     "refused Late\n"
 }
 
 /// The reply to a line that names the form, where this one was settled before it, if any.
-pub(crate) fn board_line(heading: Option<Form>) -> &'static str
+pub fn board_line(heading: Option<Form>) -> &'static str
     ensures { result.now ≡ board_line heading }
 {
     match heading {
@@ -75,7 +75,7 @@ pub(crate) fn board_line(heading: Option<Form>) -> &'static str
 }
 
 /// The reply to a relation that is not declared. Want of memory has none.
-pub(crate) fn catalog_line(fault: CatalogFault) -> &'static str
+pub fn catalog_line(fault: CatalogFault) -> &'static str
     ensures { result.now ≡ catalog_line fault }
 {
     match fault {
@@ -115,7 +115,7 @@ fn why_line<A: Allocator>(alloc: A, reason: Why) -> Result<String<A>, AllocError
 
 /// The reply to an event that is refused. The session of a script is there, and nobody is told of
 /// anything; want of memory ends the run.
-pub(crate) fn refusal_line<A: Allocator>(
+pub fn refusal_line<A: Allocator>(
     alloc: A,
     refusal: StepFault<Why>,
 ) -> Result<String<A>, AllocError>
@@ -129,21 +129,21 @@ pub(crate) fn refusal_line<A: Allocator>(
 }
 
 /// The reply to an edit: the number of its entry.
-pub(crate) fn entered_line<A: Allocator>(alloc: A, entry: u64) -> Result<String<A>, AllocError>
+pub fn entered_line<A: Allocator>(alloc: A, entry: u64) -> Result<String<A>, AllocError>
     ensures { IfOk result (λ text. string_bytes text ≡ entered_line entry) }
 {
     format!(in alloc; "ok {entry}\n")
 }
 
 /// The reply to a publish.
-pub(crate) fn published_line<A: Allocator>(alloc: A, count: u64) -> Result<String<A>, AllocError>
+pub fn published_line<A: Allocator>(alloc: A, count: u64) -> Result<String<A>, AllocError>
     ensures { IfOk result (λ text. string_bytes text ≡ published_line count) }
 {
     format!(in alloc; "published {count}\n")
 }
 
 /// The first line of what is shown.
-pub(crate) fn show_line<A: Allocator>(alloc: A, count: u64) -> Result<String<A>, AllocError>
+pub fn show_line<A: Allocator>(alloc: A, count: u64) -> Result<String<A>, AllocError>
     ensures { IfOk result (λ text. string_bytes text ≡ show_line count) }
 {
     format!(in alloc; "show {count}\n")

@@ -10,7 +10,8 @@ ghost use Rattle.cq_report.specs.Run.{IfRead, IfMemory, IsOfRead, IsOfRun, failu
 ghost use Rattle.cq_report.specs.Steps.Written.{Fails, Puts};
 ghost use Rattle.cq_report.specs.Steps.Count.{lines_before};
 ghost use Rattle.cq_report.specs.Steps.Replay.{Replayed, BrokeOff, Ended, RanOut};
-ghost use Rattle.cq_report.specs.Steps.Serving.{HasNoEnd, ServesOn, StopsOn, StarvesOn, Finishes, IsSound};
+ghost use Rattle.cq_report.specs.Steps.Serving.{ServesOn, StopsOn, StarvesOn, Finishes, IsSound};
+ghost use Rattle.cq_report.specs.Lines.{HasNoEnd};
 
 use crate::fault::RunFault;
 use crate::line::Line;
@@ -29,7 +30,7 @@ fn first_end(bytes: &[u8]) -> Option<usize>
 }
 
 /// The first line of the bytes without its LF, and what stands behind that, where there is an LF.
-pub(crate) fn first_line(bytes: &[u8]) -> Option<(&[u8], &[u8])>
+pub fn first_line(bytes: &[u8]) -> Option<(&[u8], &[u8])>
     ensures cut { IfSome result (λ parts. bytes.now ≡ parts.0.now ++ (10 ∷ parts.1.now)) }
     ensures line { IfSome result (λ parts. HasNoEnd parts.0.now) }
     ensures none { IfNone result (HasNoEnd bytes.now) }

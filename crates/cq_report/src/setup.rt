@@ -13,7 +13,7 @@ use std::marker::Model;
 
 /// The relations that were declared so far, and the latest limits.
 #[derive(Drop)]
-pub(crate) struct Setup<A: Allocator> {
+pub struct Setup<A: Allocator> {
     catalog: Catalog<A>,
     limits: Limits,
 }
@@ -28,7 +28,7 @@ impl<A: Allocator> Model for Setup<A> {
 
 impl<A: Allocator> Setup<A> {
     /// No relation, and the limits of a script that names none.
-    pub(crate) fn begin(alloc: A) -> Setup<A>
+    pub fn begin(alloc: A) -> Setup<A>
         ensures { result ≡ begin_setup }
     {
         Setup {
@@ -41,14 +41,14 @@ impl<A: Allocator> Setup<A> {
     }
 
     /// The relations and the limits.
-    pub(crate) fn into_parts(self) -> (Catalog<A>, Limits)
+    pub fn into_parts(self) -> (Catalog<A>, Limits)
         ensures { result ≡ (self.catalog, self.limits) }
     {
         (self.catalog, self.limits)
     }
 
     /// Sets the limits.
-    pub(crate) fn limit(&mut self, limits: Limits)
+    pub fn limit(&mut self, limits: Limits)
         ensures { self.new ≡ record self.old { limits = limits } }
     {
         self.limits = limits;
@@ -60,7 +60,7 @@ impl<A: Allocator + Clone> Setup<A> {
     ///
     /// # Errors
     /// As those of `Catalog::declare`. The setup stays as it was then.
-    pub(crate) fn declare(&mut self, name: &str, arity: usize) -> Result<(), CatalogFault>
+    pub fn declare(&mut self, name: &str, arity: usize) -> Result<(), CatalogFault>
         ensures answer { Answers CatalogFault.NoMemory (declare_fault self.old.catalog name.now arity) tt result }
         ensures ok { OnOk result (self.new ≡ record self.old { catalog = self.old.catalog ++ declaration name.now arity ∷ [] }) }
         ensures err { OnErr result (self.new ≡ self.old) }

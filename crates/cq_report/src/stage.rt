@@ -2,7 +2,7 @@
 
 /// What serves the next line, over what holds a setup and what serves behind it.
 #[derive(Drop)]
-pub(crate) enum Stage<S, F> {
+pub enum Stage<S, F> {
     /// Relations and limits are still taken.
     Setup(S),
     /// The floor serves.

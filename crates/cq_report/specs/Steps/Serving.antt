@@ -1,18 +1,13 @@
 -- How far the lines of a script have been answered.
-use Rattle.std.specs.Prelude.{◌≡◌, ◌==◌, ℕ, List, [], ◌∷◌, ◌++◌, Option, false}
+use Rattle.std.specs.Prelude.{◌≡◌, ℕ, List, [], ◌∷◌, ◌++◌, Option}
 use Rattle.cq_report.specs.declared.output.Output.{Output}
 use Rattle.cq_report.specs.declared.fault.RunFault.{RunFault}
-use Rattle.cq_report.specs.Lines.{lines_of}
+use Rattle.cq_report.specs.Lines.{lines_of, HasNoEnd}
 use Rattle.cq_report.specs.Reading.{Reading}
 use Rattle.cq_report.specs.Machine.{State}
 use Rattle.cq_report.specs.Output.{AreReadFrom, state_after, output_from}
 use Rattle.cq_report.specs.Steps.Written.{Puts, Breaks}
 use Rattle.cq_report.specs.Steps.Kept.{kept}
-
--- No byte ends a line.
-abbrev pub HasNoEnd : List ℕ → Type 0
-HasNoEnd [] = Unit {0}
-HasNoEnd (b ∷ bs) = ((b == 10) ≡ false) × HasNoEnd bs
 
 abbrev pub HaveNoEnd : List (List ℕ) → Type 0
 HaveNoEnd [] = Unit {0}

@@ -1,4 +1,3 @@
-use Rattle.std.proofs.Common.{◌≡◌}
 use Rattle.cq_cli.proofs.Telling.{said_of_left}
 use Rattle.cq_cli.proofs.views.show_choice.Goals as goal
 

@@ -1,10 +1,10 @@
-use Rattle.std.proofs.Common.{◌≡◌, ◌+◌, List, length, drop, subst, ap, Some, arith}
+use Rattle.std.proofs.Common.{◌≡◌, ◌+◌, List, drop, subst, Some}
 use Rattle.std.specs.Prelude.{string_bytes}
 use Rattle.std.specs.List.{flat_map, slice_get}
 use Rattle.cq_rel.specs.Tables.{Declaration, declaration}
 use Rattle.cq_report.specs.Report.{relation_line}
-use Rattle.cq_board.proofs.Pieces.{pieces_at, nothing_left}
-use Rattle.cq_report.proofs.Pages.{put_on, put_end}
+use Rattle.cq_board.proofs.Pieces.{pieces_at}
+use Rattle.cq_report.proofs.Pages.{put_on}
 use Rattle.cq_report.proofs.reporting.put_relations.Goals as goal
 
 pub loop-place-preserved : goal.loop-place-preserved

@@ -1,5 +1,5 @@
 use Rattle.std.proofs.Common.{◌++◌, ◌∷◌, ℕ, List, drop, sym, ap, subst, ◌∙◌}
-use Rattle.cq_report.specs.Steps.Serving.{HasNoEnd}
+use Rattle.cq_report.specs.Lines.{HasNoEnd}
 use Rattle.cq_report.proofs.Cutting.{HasNoEnd-before, HasNoEnd-none, cut_first}
 use Rattle.cq_report.proofs.running.first_line.Goals as goal
 

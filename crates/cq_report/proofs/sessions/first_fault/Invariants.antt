@@ -1,6 +1,0 @@
-use Rattle.std.proofs.Common.{◌≤◌, length}
-use Rattle.std.specs.Prelude.{IfNone}
-use Rattle.cq_report.proofs.sessions.first_fault.Given as goal
-
-abbrev pub invariant-loop-left : goal.invariant-loop-left
-invariant-loop-left g l = IfNone l.first (l.count ≤ length l.lefts)

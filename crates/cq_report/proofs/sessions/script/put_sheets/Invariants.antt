@@ -1,8 +1,0 @@
-use Rattle.std.proofs.Common.{◌≡◌, ◌+◌, ◌++◌, drop, map}
-use Rattle.std.specs.Prelude.{string_bytes}
-use Rattle.std.specs.List.{flat_map}
-use Rattle.cq_report.specs.Script.{entries_from, replies_from, sheets_from, declaration_line}
-use Rattle.cq_report.proofs.sessions.script.put_sheets.Given as goal
-
-abbrev pub invariant-loop-number : goal.invariant-loop-number
-invariant-loop-number g l = string_bytes l.page ++ sheets_from l.number (map (λ sheet. sheet.replies) (drop l.number l.sheets)) ≡ string_bytes l.initial.page ++ sheets_from 0 (map (λ sheet. sheet.replies) l.sheets)

@@ -1,5 +1,0 @@
-use Rattle.std.proofs.Common.{[], ◌∷◌}
-use Rattle.cq_report.proofs.sessions.script_of.Given as goal
-
-abbrev pub ghosts-serve_room : goal.ghosts-serve_room
-ghosts-serve_room g a = record { book = a.parts.book; opening = a.parts.opening ∷ []; limit = a.parts.limit }

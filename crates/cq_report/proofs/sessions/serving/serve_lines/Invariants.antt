@@ -1,9 +1,0 @@
-use Rattle.std.proofs.Common.{ℕ, length}
-use Rattle.cq_report.specs.Steps.Sheets.{ServedTo}
-use Rattle.cq_report.proofs.sessions.serving.serve_lines.Given as goal
-
-abbrev pub decreases-loop-line : goal.decreases-loop-line
-decreases-loop-line g l = length l.rest
-
-abbrev pub invariant-loop-line : goal.invariant-loop-line
-invariant-loop-line g l = ServedTo l.form g.C.Client.opening g.C.Client.limit (g.C.Client.known l.initial.client) l.initial.sheet l.bytes (g.C.Client.known l.client) l.sheet l.rest

@@ -1,9 +1,0 @@
-use Rattle.std.proofs.Common.{ℕ, length}
-use Rattle.cq_report.specs.Steps.Settings.{SetTo}
-use Rattle.cq_report.proofs.sessions.setting.set_all.Given as goal
-
-abbrev pub decreases-loop-line : goal.decreases-loop-line
-decreases-loop-line g l = length l.rest
-
-abbrev pub invariant-loop-line : goal.invariant-loop-line
-invariant-loop-line g l = SetTo l.bytes l.rest l.heading l.setup l.sheet

@@ -1,0 +1,103 @@
+-- Lines of a setup, one after another.
+use Rattle.std.proofs.Common.{◌≡◌, ℕ, ◌<◌, List, [], ◌∷◌, ◌++◌, true, false, length, map, refl, sym, ap, subst, ◌∙◌, append_assoc}
+use Rattle.std.specs.Prelude.{Bool, Option, None, MatchBool}
+use Rattle.cq_text.specs.declared.form.Form.{Form}
+use Rattle.cq_text.specs.Grammar.{CommandContent, StandsFor}
+use Rattle.cq_sessions.specs.declared.sheet.Line.{Line}
+use Rattle.cq_sessions.specs.declared.sheet.Line.TheVariants.{Told}
+use Rattle.cq_report.specs.Lines.{lines_of}
+use Rattle.cq_report.specs.Reading.{Reading, Reads, IsReading, AreReadIn}
+use Rattle.cq_report.specs.declared.numbering.Numbering.TheVariants.{Plain}
+use Rattle.cq_report.specs.Machine.{State, SetupRecord, begin_state, begin_setup, form_of, form_in, headed, next, reply}
+use Rattle.cq_report.specs.Output.{AreReadFrom, state_after}
+use Rattle.cq_sessions.specs.Script.{Sheet}
+use Rattle.cq_sessions.specs.Sessions.{is_of_setup, in_setup, IsSetBy, BeginsBoard, setup_sheet, told_or_none}
+use Rattle.cq_report.specs.Lines.{HasNoEnd}
+use Rattle.cq_sessions.specs.Steps.Sheets.{SheetRecord}
+use Rattle.cq_sessions.specs.Steps.Settings.{Sets, Stays, SetsLine, IsBehind, SetTo, RestBegins}
+use Rattle.cq_report.proofs.CallerLemmas.{lines_of_ended, lines_of_open}
+use Rattle.cq_sessions.proofs.Turns.{map-snoc}
+
+-- one line more is read in the form that those before it settle
+AreReadFrom-snoc : (state : State) (lines : List (List ℕ)) (front : List Reading) (line : List ℕ) (reading : Reading) → AreReadFrom state.heading lines front → IsReading (form_in (state_after state front)) line reading → AreReadFrom state.heading (lines ++ line ∷ []) (front ++ reading ∷ [])
+AreReadFrom-snoc state [] [] line reading are is = (is, tt)
+AreReadFrom-snoc state [] (r ∷ front) line reading are is = absurd are
+AreReadFrom-snoc state (l ∷ lines) [] line reading are is = absurd are
+AreReadFrom-snoc state (l ∷ lines) (r ∷ front) line reading are is = (are.0, AreReadFrom-snoc (next state r) lines front line reading are.1 is)
+
+-- the state behind lines of a setup
+set_state : (state : State) (front : List Reading) (heading : Option Form) (setup : SetupRecord) → IsSetBy state front heading setup → state_after state front ≡ in_setup heading setup
+set_state state [] heading setup set = set
+set_state state (r ∷ front) heading setup set = set_state (next state r) front heading setup set.1
+
+IsSetBy-snoc : (state : State) (front : List Reading) (heading heading' : Option Form) (setup setup' : SetupRecord) (reading : Reading) → IsSetBy state front heading setup → is_of_setup reading ≡ true → next (in_setup heading setup) reading ≡ in_setup heading' setup'
+    → IsSetBy state (front ++ reading ∷ []) heading' setup'
+IsSetBy-snoc state [] heading heading' setup setup' reading set of moves = (of, ap (λ (s : State). next s reading) set ∙ moves)
+IsSetBy-snoc state (r ∷ front) heading heading' setup setup' reading set of moves = (set.0, IsSetBy-snoc (next state r) front heading heading' setup setup' reading set.1 of moves)
+
+setup_sheet-snoc : (state : State) (front : List Reading) (heading : Option Form) (setup : SetupRecord) (reading : Reading) → IsSetBy state front heading setup → setup_sheet state (front ++ reading ∷ []) ≡ setup_sheet state front ++ told_or_none (reply (in_setup heading setup) reading) ∷ []
+setup_sheet-snoc state [] heading setup reading set = ap (λ (s : State). told_or_none (reply s reading) ∷ []) set
+setup_sheet-snoc state (r ∷ front) heading setup reading set = ap (λ (z : Sheet). told_or_none (reply state r) ∷ z) (setup_sheet-snoc (next state r) front heading setup reading set.1)
+
+pub set_begin : (bytes : List ℕ) (heading : Option Form) (setup : SetupRecord) (sheet : SheetRecord) → heading ≡ None → setup ≡ begin_setup → sheet ≡ record { replies = []; batch = []; asked = [] } → SetTo bytes bytes heading setup sheet
+set_begin bytes heading setup sheet fresh is empty = record { lines = []; cut = refl; front = []; are = tt; set = rw (fresh, is) refl; told = empty }
+
+set_on : (bytes rest rest' line : List ℕ) (heading heading' : Option Form) (setup setup' : SetupRecord) (sheet sheet' : SheetRecord) → lines_of rest ≡ line ∷ lines_of rest' → SetTo bytes rest heading setup sheet → SetsLine heading setup sheet heading' setup' sheet' line → SetTo bytes rest' heading' setup' sheet'
+set_on bytes rest rest' line heading heading' setup setup' sheet sheet' cut so l = record {
+  lines = so.lines ++ line ∷ [];
+  cut = so.cut ∙ ap (λ (z : List (List ℕ)). so.lines ++ z) cut ∙ sym (append_assoc so.lines (line ∷ []) (lines_of rest'));
+  front = so.front ++ l.reading ∷ [];
+  are = AreReadFrom-snoc (begin_state Plain) so.lines so.front line l.reading so.are (subst (λ (s : State). IsReading (form_in s) line l.reading) (sym (set_state (begin_state Plain) so.front heading setup so.set)) l.is);
+  set = IsSetBy-snoc (begin_state Plain) so.front heading heading' setup setup' l.reading so.set l.sets.of_setup (rw (l.sets.stage, l.settles) refl);
+  told = l.sets.told ∙ ap (λ (z : SheetRecord). record z { batch = z.batch ++ Told (told_or_none (reply (in_setup heading setup) l.reading)) ∷ [] }) so.told
+      ∙ ap (λ (z : List (Line (List ℕ))). record { replies = []; batch = z; asked = [] })
+      (sym (map-snoc Told (setup_sheet (begin_state Plain) so.front) (told_or_none (reply (in_setup heading setup) l.reading))) ∙ ap (map Told) (sym (setup_sheet-snoc (begin_state Plain) so.front heading setup l.reading so.set)));
+}
+
+pub set_line : (bytes rest line behind : List ℕ) (heading heading' : Option Form) (setup setup' : SetupRecord) (sheet sheet' : SheetRecord) → rest ≡ line ++ (10 ∷ behind) → HasNoEnd line → SetTo bytes rest heading setup sheet → SetsLine heading setup sheet heading' setup' sheet' line
+    → SetTo bytes behind heading' setup' sheet'
+set_line bytes rest line behind heading heading' setup setup' sheet sheet' cut no_end so l = set_on bytes rest behind line heading heading' setup setup' sheet sheet' (ap lines_of cut ∙ lines_of_ended line behind no_end) so l
+
+pub set_last : (bytes rest : List ℕ) (heading heading' : Option Form) (setup setup' : SetupRecord) (sheet sheet' : SheetRecord) → HasNoEnd rest → 0 < length rest → SetTo bytes rest heading setup sheet → SetsLine heading setup sheet heading' setup' sheet' rest → SetTo bytes [] heading' setup' sheet'
+set_last bytes rest heading heading' setup setup' sheet sheet' no_end some so l = set_on bytes rest [] rest heading heading' setup setup' sheet sheet' (lines_of_open rest no_end some) so l
+
+begins_by : (form : Form) (lines : List (List ℕ)) (line : List ℕ) → ((reading : Reading) → IsReading form line reading → is_of_setup reading ≡ false) → (behind : List Reading) → AreReadIn form (line ∷ lines) behind → BeginsBoard behind
+begins_by form lines line other [] are = tt
+begins_by form lines line other (reading ∷ behind) are = other reading are.0
+
+pub begins_line : (form : Form) (rest line behind : List ℕ) → rest ≡ line ++ (10 ∷ behind) → HasNoEnd line → ((reading : Reading) → IsReading form line reading → is_of_setup reading ≡ false) → RestBegins form rest
+begins_line form rest line behind cut no_end other bs are = begins_by form (lines_of behind) line other bs (subst (λ (z : List (List ℕ)). AreReadIn form z bs) (ap lines_of cut ∙ lines_of_ended line behind no_end) are)
+
+pub begins_last : (form : Form) (rest : List ℕ) → HasNoEnd rest → 0 < length rest → ((reading : Reading) → IsReading form rest reading → is_of_setup reading ≡ false) → RestBegins form rest
+begins_last form rest no_end some other bs are = begins_by form [] rest other bs (subst (λ (z : List (List ℕ)). AreReadIn form z bs) (lines_of_open rest no_end some) are)
+
+pub begins_none : (form : Form) → RestBegins form []
+begins_none form [] are = tt
+begins_none form (reading ∷ behind) are = absurd are
+
+-- what is known of a command holds of the line that is read so
+pub set_by : (line : List ℕ) (command : CommandContent) (heading heading' : Option Form) (setup setup' : SetupRecord) (sheet sheet' : SheetRecord) → StandsFor (form_of heading) line command → heading' ≡ headed heading (Reads command)
+    → Sets heading setup sheet setup' sheet' (Reads command) → SetsLine heading setup sheet heading' setup' sheet' line
+set_by line command heading heading' setup setup' sheet sheet' found settles sets = record { reading = Reads command; is = found; settles = settles; sets = sets }
+
+pub behind_by : (line : List ℕ) (command : CommandContent) (heading : Option Form) (setup setup' : SetupRecord) (sheet sheet' : SheetRecord) → ((reading : Reading) → IsReading (form_of heading) line reading → reading ≡ Reads command)
+    → Stays setup sheet setup' sheet' (Reads command) → IsBehind heading setup sheet heading setup' sheet' line
+behind_by line command heading setup setup' sheet sheet' only stays = record {
+  other = λ reading is. ap is_of_setup (only reading is) ∙ stays.other;
+  heading_stays = refl;
+  setup_stays = stays.setup_stays;
+  sheet_stays = stays.sheet_stays;
+}
+
+-- what holds at either answer, made weaker
+pub match_on : (b : Bool) (P Q R S : Type 0) → (P → R) → (Q → S) → MatchBool b P Q → MatchBool b R S
+match_on true P Q R S f g h = f h
+match_on false P Q R S f g h = g h
+
+pub when_true : (b : Bool) (P Q : Type 0) → b ≡ true → MatchBool b P Q → P
+when_true true P Q e h = h
+when_true false P Q e h = cc
+
+pub when_false : (b : Bool) (P Q : Type 0) → b ≡ false → MatchBool b P Q → Q
+when_false true P Q e h = cc
+when_false false P Q e h = h

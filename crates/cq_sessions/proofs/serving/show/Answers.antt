@@ -1,0 +1,13 @@
+use Rattle.std.proofs.Common.{ap, Some}
+use Rattle.std.proofs.lemmas.Result.{on_ok_weaker}
+use Rattle.cq_report.specs.Reply.{show_line}
+use Rattle.cq_sessions.proofs.Sheets.{told_onward}
+use Rattle.cq_sessions.proofs.serving.show.Goals as goal
+
+pub returns : goal.returns
+returns g c =
+    let now = g.C.Client.known c.look.new.self in
+    on_ok_weaker c.tell.result
+    (λ is. told_onward g.C.Client.opening g.C.Client.limit _ now c.args.sheet.now c.tell.new.sheet _ (Some (show_line c.in_ok-count.count))
+    (λ rs lines behind last s. (now, c.in_ok-count.ensures.seen, ap (λ n. Some (show_line n)) c.in_ok-count.ensures.shown, s)) c.requires is)
+    (c.tell.ensures (show_line c.in_ok-count.count) c.show_line.ensures)

@@ -1,0 +1,71 @@
+//! Why files are not served.
+
+ghost use Rattle.std.specs.Prelude.{◌≡◌};
+
+use cq_report::RunFault;
+use cq_room::RoomFault;
+use std::alloc::{AllocError, AllocFailed};
+
+/// Why SETUP and files were not served. Nothing is written then.
+#[derive(Clone, Copy, Debug, PartialEq, Eq)]
+pub(crate) enum ServeFault {
+    /// A session got no place among the readers, or a look was refused.
+    Places,
+    /// A thread was not started.
+    Thread,
+    /// A growth was refused.
+    NoMemory,
+}
+
+impl ServeFault {
+    /// How a room that was not begun or opened is told. There are as many sessions as files, so their number is right.
+    pub(crate) fn of_room(fault: RoomFault) -> ServeFault {
+        match fault {
+            RoomFault::Places => ServeFault::Places,
+            RoomFault::Sessions | RoomFault::NoMemory => ServeFault::NoMemory,
+        }
+    }
+
+    /// Which of two faults is answered: `Places` before `Thread`, and that before want of memory.
+    pub(crate) fn or_before(self, other: Option<ServeFault>) -> ServeFault {
+        match (self, other) {
+            (ServeFault::Places, _) | (_, Some(ServeFault::Places)) => ServeFault::Places,
+            (ServeFault::Thread, _) | (_, Some(ServeFault::Thread)) => ServeFault::Thread,
+            _ => ServeFault::NoMemory,
+        }
+    }
+}
+
+impl From<AllocError> for ServeFault {
+    ghost use Rattle.cq_sessions.specs.declared.fault.ServeFault.TheVariants.{NoMemory};
+
+    ghost from_gives = { λ _ e. e ≡ NoMemory };
+
+    fn from(_e: AllocError) -> ServeFault {
+        ServeFault::NoMemory
+    }
+}
+
+impl<T: Drop> From<AllocFailed<T>> for ServeFault {
+    ghost use Rattle.cq_sessions.specs.declared.fault.ServeFault.TheVariants.{NoMemory};
+
+    ghost from_gives = { λ _ e. e ≡ NoMemory };
+
+    fn from(_e: AllocFailed<T>) -> ServeFault {
+        ServeFault::NoMemory
+    }
+}
+
+impl From<ServeFault> for RunFault {
+    ghost use Rattle.cq_sessions.specs.Steps.Rooms.{run_fault};
+
+    ghost from_gives = { λ fault e. e ≡ run_fault fault };
+
+    fn from(fault: ServeFault) -> RunFault {
+        match fault {
+            ServeFault::Places => RunFault::Places,
+            ServeFault::Thread => RunFault::Thread,
+            ServeFault::NoMemory => RunFault::NoMemory,
+        }
+    }
+}
