@@ -34,14 +34,43 @@ impl Tried for Begin {
     }
 }
 
-struct Enter;
+/// A call on a desk.
+#[derive(Clone, Copy)]
+enum Call {
+    Enter,
+    Publish,
+    /// A publish behind another one, which left the state that is not shown without its edits.
+    PublishAgain,
+    Submit,
+}
 
-impl Tried for Enter {
+const CALLS: [Call; 4] = [Call::Enter, Call::Publish, Call::PublishAgain, Call::Submit];
+
+/// The call at that place.
+struct Nth<const N: usize>;
+
+impl<const N: usize> Tried for Nth<N> {
     fn tried<A: Allocator + Copy>(alloc: A) -> Outcome {
-        match desk(alloc, 9) {
-            Ok(mut desk) => entered(&mut desk),
-            Err(NoMemory) => Outcome::Unready,
+        match CALLS.get(N) {
+            Some(call) => on_desk(alloc, *call),
+            None => Outcome::Wrong,
         }
+    }
+}
+
+fn on_desk<A: Allocator + Copy>(alloc: A, call: Call) -> Outcome {
+    match desk(alloc, 9) {
+        Ok(mut desk) => called(alloc, &mut desk, call),
+        Err(NoMemory) => Outcome::Unready,
+    }
+}
+
+fn called<A: Allocator + Copy>(alloc: A, desk: &mut TallyDesk<A>, call: Call) -> Outcome {
+    match call {
+        Call::Enter => entered(desk),
+        Call::Publish => entered_and_published(desk),
+        Call::PublishAgain => published_before(desk),
+        Call::Submit => listed(alloc, desk),
     }
 }
 
@@ -55,75 +84,36 @@ fn entered<A: Allocator + Copy>(desk: &mut TallyDesk<A>) -> Outcome {
     }
 }
 
-struct Publish;
-
-impl Tried for Publish {
-    fn tried<A: Allocator + Copy>(alloc: A) -> Outcome {
-        match desk(alloc, 9) {
-            Ok(mut desk) => entered_and_published(&mut desk),
-            Err(NoMemory) => Outcome::Unready,
-        }
-    }
-}
-
 fn entered_and_published<A: Allocator + Copy>(desk: &mut TallyDesk<A>) -> Outcome {
     if desk.enter(0, 5) == Ok(1) && desk.enter(0, 6) == Ok(2) {
-        published(desk)
+        published(desk, &[], &[5, 6])
     } else {
         Outcome::Unready
-    }
-}
-
-fn published<A: Allocator + Copy>(desk: &mut TallyDesk<A>) -> Outcome {
-    match desk.publish(&()) {
-        Ok(_) => Outcome::done_if(stands(desk, &[5, 6], &[5, 6])),
-        Err(NoMemory) => Outcome::refused_if(
-            stands(desk, &[5, 6], &[])
-                && desk.publish(&()) == Ok(2)
-                && stands(desk, &[5, 6], &[5, 6]),
-        ),
-    }
-}
-
-/// A publish behind another one, which left the state that is not shown without its edits.
-struct PublishAgain;
-
-impl Tried for PublishAgain {
-    fn tried<A: Allocator + Copy>(alloc: A) -> Outcome {
-        match desk(alloc, 9) {
-            Ok(mut desk) => published_before(&mut desk),
-            Err(NoMemory) => Outcome::Unready,
-        }
     }
 }
 
 fn published_before<A: Allocator + Copy>(desk: &mut TallyDesk<A>) -> Outcome {
     if desk.enter(0, 4) == Ok(1) && desk.publish(&()) == Ok(1) && desk.enter(0, 5) == Ok(2) {
-        published_again(desk)
+        published(desk, &[4], &[4, 5])
     } else {
         Outcome::Unready
     }
 }
 
-fn published_again<A: Allocator + Copy>(desk: &mut TallyDesk<A>) -> Outcome {
+/// What comes of a publish where two bytes are entered, and those before it are shown.
+fn published<A: Allocator + Copy>(desk: &mut TallyDesk<A>, before: &[u8], both: &[u8]) -> Outcome {
     match desk.publish(&()) {
-        Ok(_) => Outcome::done_if(stands(desk, &[4, 5], &[4, 5])),
+        Ok(_) => Outcome::done_if(stands(desk, both, both)),
         Err(NoMemory) => Outcome::refused_if(
-            stands(desk, &[4, 5], &[4])
-                && desk.publish(&()) == Ok(2)
-                && stands(desk, &[4, 5], &[4, 5]),
+            stands(desk, both, before) && desk.publish(&()) == Ok(2) && stands(desk, both, both),
         ),
     }
 }
 
-struct Submit;
-
-impl Tried for Submit {
-    fn tried<A: Allocator + Copy>(alloc: A) -> Outcome {
-        match (desk(alloc, 9), list(alloc, &[5, 6])) {
-            (Ok(mut desk), Ok(asked)) => submitted(alloc, &mut desk, asked),
-            _ => Outcome::Unready,
-        }
+fn listed<A: Allocator + Copy>(alloc: A, desk: &mut TallyDesk<A>) -> Outcome {
+    match list(alloc, &[5, 6]) {
+        Ok(asked) => submitted(alloc, desk, asked),
+        Err(NoMemory) => Outcome::Unready,
     }
 }
 
@@ -187,10 +177,10 @@ pub fn is_borne(refused: Result<u64, u64>) -> bool {
 fn each_growth_refused(rt: HostRuntime) {
     let calls = [
         ("begin", refusals::<Begin>(rt.alloc())),
-        ("enter", refusals::<Enter>(rt.alloc())),
-        ("publish", refusals::<Publish>(rt.alloc())),
-        ("publish again", refusals::<PublishAgain>(rt.alloc())),
-        ("submit", refusals::<Submit>(rt.alloc())),
+        ("enter", refusals::<Nth<0>>(rt.alloc())),
+        ("publish", refusals::<Nth<1>>(rt.alloc())),
+        ("publish again", refusals::<Nth<2>>(rt.alloc())),
+        ("submit", refusals::<Nth<3>>(rt.alloc())),
     ];
     for (call, refused) in calls {
         assert!(rt; is_borne(refused), "{call}: {refused:?}");
