@@ -1,19 +1,12 @@
-//! Tests of `cq_room` over a tally and over a board: each public call with ample memory, sessions in threads, a look while
-//! a gate holds a submit, and a submit that takes a grounding away. Nothing but tests is here, and no crate stands on this
-//! one.
+//! Tests of `cq_desk` and of `cq_room`, over a board and over a state of their own, a tally: so that both are seen to need
+//! nothing of a board. Nothing but tests is here, and no crate stands on this one.
 #![tactic(auto)]
 
 #[cfg(test)]
-mod boards;
+mod desk;
 #[cfg(test)]
-mod gates;
+mod lines;
 #[cfg(test)]
-mod groundings;
+mod room;
 #[cfg(test)]
-mod jobs;
-#[cfg(test)]
-mod rooms;
-#[cfg(test)]
-mod tallies;
-#[cfg(test)]
-mod threads;
+mod tally;

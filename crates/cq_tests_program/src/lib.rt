@@ -1,0 +1,17 @@
+//! Tests of what the program is made of above boards: runs of scripts, reports and sessions (`cq_report`), and the texts
+//! that are shown of a board (`cq_show`). Whole scripts and their outputs stand in the cases. Nothing but tests is here, and
+//! no crate stands on this one.
+#![tactic(auto)]
+
+#[cfg(test)]
+mod devices;
+#[cfg(test)]
+mod files;
+#[cfg(test)]
+mod lines;
+#[cfg(test)]
+mod report;
+#[cfg(test)]
+mod sessions;
+#[cfg(test)]
+mod show;

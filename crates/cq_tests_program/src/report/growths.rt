@@ -1,0 +1,171 @@
+//! Each growth of a call refused in turn.
+
+use crate::devices::{Expecting, OneLine, Pieces};
+use crate::lines::edit;
+use crate::report::reports::with_one_row;
+use cq_board::{Board, Edit};
+use cq_report::{Numbering, RunFault, read_whole, report, run};
+use cq_tests_growths::{ENOUGH, Outcome, Refusing, Tried, refusals};
+use cq_text::Counted;
+use std::alloc::{Allocator, Global};
+use std::io::Read;
+
+/// Setup, every kind of edit, a refused post, a publish and a look, and a line that is no command.
+const SCRIPT: &[u8] = b"relation T 1\nlimits 9 9\ninsert T(1)\ninsert T(2)\ndelete T(2)
+post a {S(2)} S(1) <-\npost b {S(1)} S(2) <- T(x)\npost b {} S(3) <-
+publish\nshow\npost c {} S(3) <-\nwithdraw c\n?\n";
+
+/// The replies, with the numbers of their lines.
+const ANSWERS: &[u8] =
+    b"1: ok\n2: ok\n3: ok 1\n4: ok 2\n5: ok 3\n6: ok 4\n7: ok 5\n8: refused NameTaken
+9: published 5\n10: show 5
+relation T 1 rows 1
+query a matched
+  text {S(2)} S(1) <-
+  post 0 providers 1
+    b head 0
+  groundings 1 ()
+    ()
+query b matched
+  text {S(1)} S(2) <- T(x)
+  post 0 providers 1
+    a head 0
+  groundings 1 (x)
+    (1)
+end
+11: ok 6\n12: ok 7\n13: refused Token at 0
+";
+
+/// A run of the script, with numbers, each of which takes memory too.
+struct Running;
+
+/// How the run of the script that is read ends, over a writer that takes the answers alone; and how many bytes it lacked.
+fn told<A: Allocator + Copy, R: Read + Drop>(alloc: A, script: R) -> (Result<(), RunFault>, usize) {
+    let mut reader = Counted::new(script);
+    let mut writer = Counted::new(Expecting::new(ANSWERS));
+    let result = run(alloc, Numbering::Numbered, &mut reader, &mut writer);
+    (result, writer.into_inner().rest.len())
+}
+
+impl Tried for Running {
+    fn tried<A: Allocator + Copy>(alloc: A) -> Outcome {
+        match told(alloc, SCRIPT) {
+            (Ok(()), lacking) => Outcome::done_if(lacking == 0),
+            (Err(fault), _) => {
+                Outcome::refused_if(
+                    fault == RunFault::NoMemory && told(alloc, SCRIPT) == (Ok(()), 0),
+                )
+            }
+        }
+    }
+}
+
+// A refused growth ends the run as want of memory, and what was written is a front of the answers.
+#[test]
+fn refused_growth_in_run(rt: HostRuntime) {
+    assert!(rt; matches!(refusals::<Running>(rt.alloc()), Ok(33..)));
+}
+
+/// How many different lengths of answers were written by runs with one growth refused, where each wrote as much as where each line
+/// is read alone, so that its reply is written before the next read; or nothing, where one did not.
+fn lengths_written(alloc: Global) -> Option<u64> {
+    let mut lengths = 1u64;
+    let mut last = ANSWERS.len();
+    for growth in 0..ENOUGH {
+        let (ended, lacking) = told(&Refusing::new(alloc, growth), SCRIPT);
+        if (ended, lacking) != told(&Refusing::new(alloc, growth), OneLine(SCRIPT)) {
+            return None;
+        }
+        lengths = lengths.saturating_add(u64::from(lacking < last));
+        last = lacking;
+        if ended == Ok(()) {
+            return Some(lengths);
+        }
+    }
+    None
+}
+
+// All lines before the one that met want of memory have their replies, though these waited in a buffer.
+#[test]
+fn replies_before_a_refused_growth(rt: HostRuntime) {
+    assert!(rt; matches!(lengths_written(rt.alloc()), Some(6..)));
+}
+
+const BEFORE: &str = "relation Flights 2 rows 1\n";
+
+const AFTER: &str = "relation Flights 2 rows 1
+query a matched
+  text {R(1)} R(x) <- Flights(x, y)
+  post 0 providers 1
+    a head 0
+  groundings 1 (x, y)
+    (122, \"Paris\")
+";
+
+/// Whether that is the report on the board.
+fn is_report<A: Allocator + Copy>(alloc: A, board: &Board<A>, wanted: &str) -> bool {
+    match report(alloc, board) {
+        Ok(text) => text.as_str() == wanted,
+        Err(_) => false,
+    }
+}
+
+/// A query posted.
+struct Posting;
+
+fn admitted<A: Allocator + Copy>(alloc: A, board: &mut Board<A>, edit: &Edit<A>) -> Outcome {
+    match board.admit(edit) {
+        Ok(told) => Outcome::done_if(told.is_none()),
+        Err(_) => Outcome::refused_if(
+            is_report(alloc, board, BEFORE)
+                && board.admit(edit) == Ok(None)
+                && is_report(alloc, board, AFTER),
+        ),
+    }
+}
+
+impl Tried for Posting {
+    fn tried<A: Allocator + Copy>(alloc: A) -> Outcome {
+        let Ok(mut board) = with_one_row(alloc) else {
+            return Outcome::Unready;
+        };
+        match edit(alloc, "post a {R(1)} R(x) <- Flights(x, y)") {
+            Ok(edit) => admitted(alloc, &mut board, &edit),
+            Err(_) => Outcome::Unready,
+        }
+    }
+}
+
+// A refused growth in an edit leaves the report on the board, and the same edit then succeeds.
+#[test]
+fn refused_growth_in_admit(rt: HostRuntime) {
+    assert!(rt; matches!(refusals::<Posting>(rt.alloc()), Ok(6..)));
+}
+
+/// The script read whole.
+struct ReadingWhole;
+
+fn is_whole<A: Allocator + Copy>(alloc: A) -> Result<bool, RunFault> {
+    let pieces = Pieces {
+        rest: SCRIPT,
+        most: 3,
+    };
+    let bytes = read_whole(alloc, &mut Counted::new(pieces))?;
+    Ok(bytes.as_slice() == SCRIPT)
+}
+
+impl Tried for ReadingWhole {
+    fn tried<A: Allocator + Copy>(alloc: A) -> Outcome {
+        match is_whole(alloc) {
+            Ok(right) => Outcome::done_if(right),
+            Err(fault) => {
+                Outcome::refused_if(fault == RunFault::NoMemory && is_whole(alloc) == Ok(true))
+            }
+        }
+    }
+}
+
+#[test]
+fn refused_growth_in_read_whole(rt: HostRuntime) {
+    assert!(rt; matches!(refusals::<ReadingWhole>(rt.alloc()), Ok(4..)));
+}

@@ -1,0 +1,114 @@
+//! What a session keeps of its replies and looks.
+
+use crate::sessions::boards::BoardSession;
+use cq_board::{Board, Why};
+use cq_desk::{End, Reply};
+use cq_report::report;
+use cq_room::{Front, Receipt, RoomName};
+use std::alloc::{AllocError, Global};
+
+/// A look that is kept: how many entries it showed, and the report on its board.
+#[derive(Drop)]
+pub struct Kept {
+    pub count: u64,
+    pub text: String,
+}
+
+/// What a session was told and saw.
+#[derive(Drop)]
+pub struct Record {
+    alloc: Global,
+    /// The replies to its edits, in the order in which it asked for them.
+    pub replies: Vec<Reply<Why>>,
+    /// Some of its looks, the earliest first.
+    pub looks: Vec<Kept>,
+    /// The most entries that it has seen or heard of.
+    known: u64,
+    /// Whether nothing was refused for want of memory, and no look and no front showed less than was known.
+    pub holds: bool,
+}
+
+impl Record {
+    pub fn begin(alloc: Global) -> Record {
+        Record {
+            alloc,
+            replies: Vec::new(alloc),
+            looks: Vec::new(alloc),
+            known: 0,
+            holds: true,
+        }
+    }
+
+    pub fn fails(&mut self) {
+        self.holds = false;
+    }
+
+    /// So many entries are known of from now on. Fewer than before are not right.
+    fn knows(&mut self, count: u64) {
+        if count < self.known {
+            self.fails();
+        }
+        self.known = count;
+    }
+
+    /// Whether so many entries are known to have come since the last look that is kept.
+    pub fn is_due(&self, entries: u64) -> bool {
+        match self.looks.last() {
+            Some(kept) => self.known >= kept.count.saturating_add(entries),
+            None => true,
+        }
+    }
+
+    /// Keeps a look.
+    fn keep(&mut self, count: u64, board: &Board) -> Result<(), AllocError> {
+        let text = report(self.alloc, board)?;
+        self.looks.push(Kept { count, text })?;
+        Ok(())
+    }
+
+    /// Looks, and keeps the look where asked to.
+    pub fn looks<N: RoomName<Board>>(
+        &mut self,
+        session: BoardSession<N>,
+        keep: bool,
+    ) -> BoardSession<N> {
+        match session.watch() {
+            Ok(look) => {
+                self.knows(look.count());
+                if keep && self.keep(look.count(), look.state()).is_err() {
+                    self.fails();
+                }
+                look.leave()
+            }
+            Err(session) => {
+                self.fails();
+                session
+            }
+        }
+    }
+
+    /// Hears a front of another session. It may be an older one.
+    pub fn hears<N: RoomName<Board>>(
+        &mut self,
+        session: &mut BoardSession<N>,
+        front: &Front<Board, N>,
+    ) {
+        session.hear(front);
+        self.known = self.known.max(front.count());
+    }
+
+    /// Takes the replies down, and gives the front on.
+    pub fn takes<N: RoomName<Board>>(
+        &mut self,
+        receipt: Receipt<Board, N>,
+    ) -> Option<Front<Board, N>> {
+        let Receipt { submitted, front } = receipt;
+        let front = front?;
+        self.knows(front.count());
+        if submitted.end != End::Published(front.count()) {
+            return None;
+        }
+        self.replies.extend_from_slice(&submitted.replies).ok()?;
+        Some(front)
+    }
+}

@@ -1,0 +1,91 @@
+//! Sixteen sessions in threads.
+
+ghost use Rattle.std.specs.Prelude.{◌≡◌, ◌∷◌, []};
+
+use crate::sessions::boards::{BoardRoom, BoardSession, LIMITS, board};
+use crate::sessions::jobs::run_all;
+use crate::sessions::judged::{Finding, judge};
+use crate::sessions::record::Record;
+use crate::sessions::seats::{Hall, Notice, Seat};
+use cq_board::Board;
+use cq_room::{Parts, Room, RoomName};
+use std::alloc::{AllocError, Global};
+use std::marker::Brand;
+use std::mem::drop;
+use std::sync::Wait;
+use std::thread::Threads;
+
+/// A seat for each session.
+fn seats<'a, N: RoomName<Board>, R: Wait + Drop>(
+    hall: &'a Hall<'a, N, R>,
+    sessions: Vec<BoardSession<N>>,
+) -> Result<Vec<Seat<'a, N, R>>, AllocError> {
+    let mut seats = Vec::new(hall.alloc);
+    for session in sessions {
+        seats.push(Seat { hall, session })?;
+    }
+    Ok(seats)
+}
+
+/// The records of the sessions, each of which ran in a thread of its own.
+fn run_in<N: RoomName<Board> + Send + Sync, R: Wait + Drop + Send + Sync, T: Threads + Sync>(
+    threads: &T,
+    rt: &R,
+    alloc: Global,
+    room: &BoardRoom<N, R>,
+    sessions: Vec<BoardSession<N>>,
+) -> Result<Vec<Record>, AllocError> {
+    let notice = Notice::empty();
+    let hall = Hall {
+        rt,
+        alloc,
+        room,
+        notice: &notice,
+    };
+    run_all(threads, seats(&hall, sessions)?)
+}
+
+/// What is found where the room is closed.
+fn closes<N: RoomName<Board>, R: Wait + Drop>(
+    rt: &R,
+    alloc: Global,
+    room: BoardRoom<N, R>,
+    records: &[Record],
+) -> Finding {
+    let desk = room.close(rt, Vec::new(alloc));
+    let finding = judge(alloc, desk.journal(), records);
+    drop(desk);
+    finding
+}
+
+fn runs<N: RoomName<Board> + Send + Sync, R: Wait + Drop + Send + Sync, T: Threads + Sync>(
+    threads: &T,
+    rt: &R,
+    alloc: Global,
+    parts: Parts<Board, R>,
+) -> Option<Finding>
+    requires book { parts.book ≡ N.book }
+    requires opening { N.opening ≡ parts.opening ∷ [] }
+    requires limit { N.limit ≡ parts.limit }
+{
+    let (room, sessions) = parts.open::<N>().ok()?;
+    let records = run_in(threads, rt, alloc, &room, sessions).ok()?;
+    Some(closes(rt, alloc, room, &records))
+}
+
+fn opened<R: Wait + Drop>(rt: R, alloc: Global) -> Option<Parts<Board, R>> {
+    let board = board(alloc)?;
+    Room::begin(rt, alloc, board, LIMITS.journal, 16).ok()
+}
+
+#[test]
+fn sixteen_sessions(rt: HostRuntime) {
+    let handle = &rt;
+    match opened(handle, rt.alloc()) {
+        Some(parts) => {
+            let finding = runs::<Brand, _, _>(&rt, &handle, rt.alloc(), parts);
+            assert!(rt; finding == Some(Finding::Right), "{finding:?}");
+        }
+        None => assert!(rt; false),
+    }
+}

@@ -1,0 +1,176 @@
+//! Texts that are written of the boards which scripts leave: each once, and with each of its growths refused in turn.
+
+use cq_board::Board;
+use cq_report::{RunFault, read_script, report};
+use cq_show::{explain, explain_named, graph, json};
+use cq_tests_growths::{Outcome, Tried, refusals};
+use cq_text::Counted;
+use std::alloc::{AllocError, Allocator};
+
+/// What is written of a board.
+#[derive(Clone, Copy)]
+enum View {
+    Report,
+    Graph,
+    Json,
+    /// Why each query waits that does.
+    Explained,
+    /// What is told of the third query, of a word that names none, and of the first.
+    Named,
+}
+
+/// A script, and what is so written of the board that it leaves.
+type Text = (&'static [u8], View, &'static str);
+
+/// One query, which supplies one of its postconditions, and nobody the other.
+const SUPPLIED: &[u8] = b"relation T 1\ninsert T(1)\npost a {S(2), R(x)} S(x) <- T(x)\npublish\n";
+
+/// The first query finds no row, the second waits for it, and the third has a slip of the pen.
+const WAITING: &[u8] =
+    b"relation T 1\npost a {} S(1) <- T(x)\npost b {S(1)} R(2) <-\npost c {R(3)} Q(1) <-\npublish\n";
+
+const REPORT: &str = "relation T 1 rows 1
+query a waiting
+  text {S(2), R(x)} S(x) <- T(x)
+  post 0 providers 1
+    a head 0
+  post 1 providers 0
+  groundings 1 (x)
+    (1)
+";
+
+const GRAPH: &str = "digraph board {
+  q0 [label=\"a\\nwaiting\", shape=box, style=dashed];
+  q0 -> q0 [label=\"head 0, post 0\"];
+  n0_1 [label=\"no provider\", shape=plaintext];
+  n0_1 -> q0 [label=\"post 1 R(x)\", style=dotted];
+}
+";
+
+const JSON: &str =
+    "{\"relations\":[{\"name\":\"T\",\"arity\":1,\"rows\":1}],\"queries\":[{\"name\":\"a\",\"state\":\"waiting\",\"text\":\"{S(2), R(x)} S(x) <- T(x)\",\"postconditions\":[{\"providers\":[{\"query\":\"a\",\"head\":0}],\"crowded\":false},{\"providers\":[],\"crowded\":false}],\"variables\":[\"x\"],\"groundings\":[[1]]}]}";
+
+const EXPLAINED: &str = "a waits
+  a: no row for its body
+b waits
+  a: no row for its body
+  b: post 0 S(1): only a, who waits
+c waits
+  c: post 0 R(3): no provider; near: b head 0 R(2)
+";
+
+const NAMED: &str = "c waits
+  c: post 0 R(3): no provider; near: b head 0 R(2)
+a waits
+  a: no row for its body
+";
+
+const TEXTS: [Text; 5] = [
+    (SUPPLIED, View::Report, REPORT),
+    (SUPPLIED, View::Graph, GRAPH),
+    (SUPPLIED, View::Json, JSON),
+    (WAITING, View::Explained, EXPLAINED),
+    (WAITING, View::Named, NAMED),
+];
+
+fn text_of<A: Allocator + Copy>(
+    alloc: A,
+    board: &Board<A>,
+    view: View,
+) -> Result<String<A>, AllocError> {
+    match view {
+        View::Report => report(alloc, board),
+        View::Graph => graph(alloc, board),
+        View::Json => json(alloc, board),
+        View::Explained => explain(alloc, board),
+        View::Named => explain_named(alloc, board, ["c", "no name", "a"].as_slice()),
+    }
+}
+
+/// Whether that is what is so written of the board.
+fn is_text<A: Allocator + Copy>(
+    alloc: A,
+    board: &Board<A>,
+    view: View,
+    wanted: &str,
+) -> Result<bool, AllocError> {
+    let text = text_of(alloc, board, view)?;
+    Ok(text.as_str() == wanted)
+}
+
+fn written<A: Allocator + Copy>(alloc: A, board: &Board<A>, view: View, wanted: &str) -> Outcome {
+    match is_text(alloc, board, view, wanted) {
+        Ok(right) => Outcome::done_if(right),
+        Err(_) => Outcome::refused_if(is_text(alloc, board, view, wanted) == Ok(true)),
+    }
+}
+
+fn tried<A: Allocator + Copy>(alloc: A, text: Text) -> Outcome {
+    let (script, view, wanted) = text;
+    match read_script(alloc, &mut Counted::new(script)) {
+        Ok(played) => written(alloc, played.board(), view, wanted),
+        Err(_) => Outcome::Unready,
+    }
+}
+
+/// The text at that place written.
+struct Nth<const N: usize>;
+
+impl<const N: usize> Tried for Nth<N> {
+    fn tried<A: Allocator + Copy>(alloc: A) -> Outcome {
+        match TEXTS.get(N) {
+            Some(text) => tried(alloc, *text),
+            None => Outcome::Wrong,
+        }
+    }
+}
+
+#[test]
+fn refused_growth_in_report(rt: HostRuntime) {
+    assert!(rt; matches!(refusals::<Nth<0>>(rt.alloc()), Ok(1..)));
+}
+
+#[test]
+fn refused_growth_in_graph(rt: HostRuntime) {
+    assert!(rt; matches!(refusals::<Nth<1>>(rt.alloc()), Ok(3..)));
+}
+
+#[test]
+fn refused_growth_in_json(rt: HostRuntime) {
+    assert!(rt; matches!(refusals::<Nth<2>>(rt.alloc()), Ok(3..)));
+}
+
+#[test]
+fn refused_growth_in_explain(rt: HostRuntime) {
+    assert!(rt; matches!(refusals::<Nth<3>>(rt.alloc()), Ok(3..)));
+}
+
+#[test]
+fn refused_growth_in_explain_named(rt: HostRuntime) {
+    assert!(rt; matches!(refusals::<Nth<4>>(rt.alloc()), Ok(3..)));
+}
+
+/// Whether the script leaves the board of that report.
+fn is_left<A: Allocator + Copy>(alloc: A) -> Result<bool, RunFault> {
+    let played = read_script(alloc, &mut Counted::new(SUPPLIED))?;
+    Ok(report(alloc, played.board())?.as_str() == REPORT)
+}
+
+/// A script read, and the board that it leaves reported on.
+struct Playing;
+
+impl Tried for Playing {
+    fn tried<A: Allocator + Copy>(alloc: A) -> Outcome {
+        match is_left(alloc) {
+            Ok(right) => Outcome::done_if(right),
+            Err(fault) => {
+                Outcome::refused_if(fault == RunFault::NoMemory && is_left(alloc) == Ok(true))
+            }
+        }
+    }
+}
+
+#[test]
+fn refused_growth_in_read_script(rt: HostRuntime) {
+    assert!(rt; matches!(refusals::<Playing>(rt.alloc()), Ok(3..)));
+}

@@ -1,0 +1,197 @@
+//! A look while a gate holds a submit.
+
+ghost use Rattle.std.specs.Prelude.{◌≡◌, ◌∷◌, []};
+
+use crate::lines::{ANSWER, edits};
+use crate::room::boards::{BoardRoom, BoardSession, looks, opened, published};
+use crate::room::jobs::{Job, both};
+use cq_board::Board;
+use cq_desk::Reply;
+use cq_room::{Front, Gate, Parts, RoomName};
+use std::alloc::Global;
+use std::hint::spin_loop;
+use std::marker::Brand;
+use std::sync::atomic::{AtomicBool, Ordering};
+use std::sync::{Mutex, Wait};
+use std::thread::Threads;
+
+/// More turns than it takes a thread to look.
+const TURNS: u64 = 100_000_000;
+
+/// A gate that opens when another thread says so, or after so many turns.
+#[derive(Drop)]
+struct Held {
+    reached: AtomicBool,
+    open: AtomicBool,
+    passed: AtomicBool,
+}
+
+impl Held {
+    fn closed() -> Held {
+        Held {
+            reached: AtomicBool::new(false),
+            open: AtomicBool::new(false),
+            passed: AtomicBool::new(false),
+        }
+    }
+}
+
+/// Whether another thread says so within so many turns.
+fn is_told(flag: &AtomicBool) -> bool {
+    for _ in 0..TURNS {
+        if flag.load(Ordering::SeqCst) {
+            return true;
+        }
+        spin_loop();
+    }
+    false
+}
+
+impl Gate for Held {
+    fn pass(&self) {
+        self.reached.store(true, Ordering::SeqCst);
+        let told = is_told(&self.open);
+        self.passed.store(told, Ordering::SeqCst);
+    }
+}
+
+/// The first session posts past the gate.
+#[derive(Drop)]
+struct Posting<'a, N: RoomName<Board>, R: Wait + Drop> {
+    rt: &'a R,
+    alloc: Global,
+    room: &'a BoardRoom<N, R>,
+    first: BoardSession<N>,
+    gate: &'a Held,
+}
+
+/// The front of the posting of `a` past the gate.
+fn posts_past<N: RoomName<Board>, R: Wait + Drop>(
+    rt: &R,
+    alloc: Global,
+    room: &BoardRoom<N, R>,
+    session: &mut BoardSession<N>,
+    gate: &Held,
+) -> Option<Front<Board, N>> {
+    let asked = edits(alloc, &[ANSWER]).ok()?;
+    let receipt = session.submit_past(rt, room, asked, gate).ok()?;
+    published(receipt, &[Reply::Entered(1)], 1)
+}
+
+impl<'a, N: RoomName<Board> + Send + Sync, R: Wait + Drop + Send + Sync> Job for Posting<'a, N, R> {
+    type Told = Option<Front<Board, N>>;
+
+    fn run(self) -> Option<Front<Board, N>> {
+        let Posting {
+            rt,
+            alloc,
+            room,
+            mut first,
+            gate,
+        } = self;
+        posts_past(rt, alloc, room, &mut first, gate)
+    }
+}
+
+/// The second session looks while the gate holds, and opens it. It is taken from its seat for the look.
+#[derive(Drop)]
+struct Looking<'a, N: RoomName<Board>, R: Wait + Drop> {
+    rt: &'a R,
+    seat: &'a Mutex<Option<BoardSession<N>>>,
+    gate: &'a Held,
+}
+
+/// The session after a look while the gate holds. The gate opens then.
+fn looks_meanwhile<N: RoomName<Board>>(
+    session: BoardSession<N>,
+    gate: &Held,
+) -> Option<BoardSession<N>> {
+    let reached = is_told(&gate.reached);
+    let session = looks(session, 0, 0);
+    gate.open.store(reached, Ordering::SeqCst);
+    session
+}
+
+impl<'a, N: RoomName<Board> + Send + Sync, R: Wait + Drop + Send + Sync> Job for Looking<'a, N, R> {
+    type Told = ();
+
+    fn run(self) {
+        let Looking { rt, seat, gate } = self;
+        let taken = seat.lock(rt).take();
+        if let Some(session) = taken {
+            let session = looks_meanwhile(session, gate);
+            *seat.lock(rt) = session;
+        }
+    }
+}
+
+/// The front of the posting, beside another job. That one stands as a parameter, since two types that hold a session are
+/// more than the check of one call takes.
+fn posts_beside<N: RoomName<Board> + Send + Sync, R: Wait + Drop + Send + Sync, J: Job, T: Threads>(
+    threads: &T,
+    posting: Posting<'_, N, R>,
+    other: J,
+) -> Option<Front<Board, N>> {
+    let (front, _) = both(threads, posting, other);
+    front
+}
+
+/// Whether the second session sees what the first one posted, once it has heard of it.
+fn sees<N: RoomName<Board>>(mut session: BoardSession<N>, front: &Front<Board, N>) -> bool {
+    session.hear(front);
+    looks(session, 1, 1).is_some()
+}
+
+/// The front of the first session's posting, where the second one looks from its seat.
+fn run_both<N: RoomName<Board> + Send + Sync, R: Wait + Drop + Send + Sync, T: Threads>(
+    threads: &T,
+    rt: &R,
+    alloc: Global,
+    room: &BoardRoom<N, R>,
+    first: BoardSession<N>,
+    seat: &Mutex<Option<BoardSession<N>>>,
+    gate: &Held,
+) -> Option<Front<Board, N>> {
+    let looking = Looking { rt, seat, gate };
+    let posting = Posting {
+        rt,
+        alloc,
+        room,
+        first,
+        gate,
+    };
+    posts_beside(threads, posting, looking)
+}
+
+/// Whether the second session opened the gate, and saw nothing before it opened.
+fn watches<N: RoomName<Board> + Send + Sync, R: Wait + Drop + Send + Sync, T: Threads>(
+    threads: &T,
+    rt: &R,
+    alloc: Global,
+    parts: Parts<Board, R>,
+) -> Option<bool>
+    requires book { parts.book ≡ N.book }
+    requires opening { N.opening ≡ parts.opening ∷ [] }
+    requires limit { N.limit ≡ parts.limit }
+{
+    let (room, mut sessions) = parts.open::<N>().ok()?;
+    let second = sessions.pop()?;
+    let first = sessions.pop()?;
+    let gate = Held::closed();
+    let seat = Mutex::new(Some(second));
+    let front = run_both(threads, rt, alloc, &room, first, &seat, &gate)?;
+    let second = seat.into_inner()?;
+    Some(sees(second, &front) && gate.passed.load(Ordering::SeqCst))
+}
+
+#[test]
+fn watch_past_a_gate(rt: HostRuntime) {
+    let handle = &rt;
+    match opened(handle, rt.alloc(), &[]) {
+        Some(parts) => {
+            let passed = watches::<Brand, _, _>(&rt, &handle, rt.alloc(), parts);
+            assert!(rt; passed == Some(true));
+        }
+        None => assert!(rt; false),
+    }
+}

@@ -1,0 +1,258 @@
+//! Each growth of a room, from its beginning to the end of a submit, refused in turn, and then an empty submit of
+//! another session.
+
+ghost use Rattle.std.specs.Prelude.{◌≡◌, ◌∷◌, []};
+
+use crate::room::grown::{Grown, both_edits};
+use crate::room::met::{Attempt, Counts, Met, counted, met_by};
+use crate::tally::Tally;
+use cq_board::Board;
+use cq_desk::End;
+use cq_room::{Front, Pair, Parts, Receipt, Room, RoomFault, RoomName, Session};
+use std::alloc::Allocator;
+use std::marker::Brand;
+use std::sync::Wait;
+
+pub type GrowingRoom<L, N, R, A> = Room<L, N, Pair<L, N, R, A>, A>;
+
+/// In what a submit of two edits met the refusal. It tells of a front exactly where both are published.
+fn met_in<L: Grown<A>, N: RoomName<L::Content>, A: Allocator + Copy>(
+    receipt: &Receipt<L, N, A>,
+) -> Met {
+    let met = met_by(&receipt.submitted);
+    match &receipt.front {
+        Some(front) => met.if_right(met == Met::Nothing && front.count() == 2),
+        None => met.if_right(met != Met::Nothing),
+    }
+}
+
+/// What comes of a submit of the two edits.
+fn asks<L: Grown<A>, N: RoomName<L::Content>, R: Wait + Drop, A: Allocator + Copy>(
+    rt: &R,
+    alloc: A,
+    room: &GrowingRoom<L, N, R, A>,
+    session: &mut Session<L, N, A>,
+) -> Met {
+    let Some(asked) = both_edits::<L, A>(alloc) else {
+        return Met::Setup;
+    };
+    match session.submit(rt, room, asked) {
+        Ok(receipt) => met_in(&receipt),
+        Err(_) => Met::Replies,
+    }
+}
+
+/// The session after a look at what so many entries left.
+pub fn sees<L: Grown<A>, N: RoomName<L::Content>, A: Allocator + Copy>(
+    session: Session<L, N, A>,
+    entries: u64,
+) -> Option<Session<L, N, A>> {
+    let look = session.watch().ok()?;
+    if look.count() != entries || !look.state().is_left_by(entries) {
+        return None;
+    }
+    Some(look.leave())
+}
+
+/// The front of an empty submit, by which so many entries are published.
+fn publishes<L: Grown<A>, N: RoomName<L::Content>, R: Wait + Drop, A: Allocator + Copy>(
+    rt: &R,
+    alloc: A,
+    room: &GrowingRoom<L, N, R, A>,
+    session: &mut Session<L, N, A>,
+    entries: u64,
+) -> Option<Front<L, N>> {
+    let receipt = session.submit(rt, room, Vec::new(alloc)).ok()?;
+    let Receipt { submitted, front } = receipt;
+    let front = front?;
+    if submitted.replies.is_empty()
+        && submitted.end == End::Published(entries)
+        && front.count() == entries
+    {
+        Some(front)
+    } else {
+        None
+    }
+}
+
+/// The second session sees nothing of a submit that was refused a growth. Its empty submit publishes all that was
+/// entered, which both sessions see then.
+fn goes_on<L: Grown<A>, N: RoomName<L::Content>, R: Wait + Drop, A: Allocator + Copy>(
+    rt: &R,
+    alloc: A,
+    room: &GrowingRoom<L, N, R, A>,
+    mut first: Session<L, N, A>,
+    second: Session<L, N, A>,
+    entries: u64,
+) -> Option<()> {
+    if first.seen() != 0 {
+        return None;
+    }
+    let mut second = sees(second, 0)?;
+    let front = publishes(rt, alloc, room, &mut second, entries)?;
+    first.hear(&front);
+    let _first = sees(first, entries)?;
+    let _second = sees(second, entries)?;
+    Some(())
+}
+
+/// Both sessions see both edits.
+fn both_see<L: Grown<A>, N: RoomName<L::Content>, A: Allocator + Copy>(
+    first: Session<L, N, A>,
+    second: Session<L, N, A>,
+) -> Option<()> {
+    if first.seen() != 2 {
+        return None;
+    }
+    let _first = sees(first, 2)?;
+    let _second = sees(second, 2)?;
+    Some(())
+}
+
+/// What comes of it between two sessions.
+fn between<L: Grown<A>, N: RoomName<L::Content>, R: Wait + Drop, A: Allocator + Copy>(
+    rt: &R,
+    alloc: A,
+    room: &GrowingRoom<L, N, R, A>,
+    mut first: Session<L, N, A>,
+    second: Session<L, N, A>,
+) -> Met {
+    let met = asks(rt, alloc, room, &mut first);
+    let agreed = if met == Met::Nothing {
+        both_see(first, second)
+    } else {
+        goes_on(rt, alloc, room, first, second, met.entries())
+    };
+    met.if_right(agreed.is_some())
+}
+
+fn tried<L: Grown<A>, N: RoomName<L::Content>, R: Wait + Drop, A: Allocator + Copy>(
+    rt: &R,
+    alloc: A,
+    parts: Parts<L, R, A>,
+) -> Met
+    requires book { parts.book ≡ N.book }
+    requires opening { N.opening ≡ parts.opening ∷ [] }
+    requires limit { N.limit ≡ parts.limit }
+{
+    let (room, mut sessions) = match parts.open::<N>() {
+        Ok(opened) => opened,
+        Err(fault) => return Met::Open.if_right(fault == RoomFault::NoMemory),
+    };
+    match (sessions.pop(), sessions.pop()) {
+        (Some(second), Some(first)) => between(rt, alloc, &room, first, second),
+        _ => Met::Wrong,
+    }
+}
+
+/// Whether a room begins.
+fn begins<L: Grown<A>, R: Wait + Drop, A: Allocator + Copy>(rt: R, alloc: A) -> bool {
+    match L::begun(alloc) {
+        Some(state) => Room::begin(rt, alloc, state, 9, 2).is_ok(),
+        None => false,
+    }
+}
+
+/// The parts of a room for two sessions. Where a growth was refused, another room then begins.
+pub fn parts_of<L: Grown<A>, R: Wait + Drop + Copy, A: Allocator + Copy>(
+    rt: R,
+    alloc: A,
+) -> Result<Parts<L, R, A>, Met> {
+    let Some(state) = L::begun(alloc) else {
+        return Err(Met::Setup);
+    };
+    match Room::begin(rt, alloc, state, 9, 2) {
+        Ok(parts) => Ok(parts),
+        Err(fault) => {
+            let right = fault == RoomFault::NoMemory && begins::<L, R, A>(rt, alloc);
+            Err(Met::Begin.if_right(right))
+        }
+    }
+}
+
+fn are_opened<L: Grown<A>, N: RoomName<L::Content>, R: Wait + Drop, A: Allocator + Copy>(
+    parts: Parts<L, R, A>,
+) -> bool
+    requires book { parts.book ≡ N.book }
+    requires opening { N.opening ≡ parts.opening ∷ [] }
+    requires limit { N.limit ≡ parts.limit }
+{
+    parts.open::<N>().is_ok()
+}
+
+/// Whether a room begins and is opened.
+fn opens<L: Grown<A>, R: Wait + Drop + Copy, A: Allocator + Copy>(rt: R, alloc: A) -> bool {
+    match parts_of::<L, R, A>(rt, alloc) {
+        Ok(parts) => are_opened::<L, Brand, R, A>(parts),
+        Err(_) => false,
+    }
+}
+
+/// Where a growth was refused in opening the room, another one then is opened.
+fn attempted<L: Grown<A>, R: Wait + Drop + Copy, A: Allocator + Copy>(rt: R, alloc: A) -> Met {
+    let met = match parts_of::<L, R, A>(rt, alloc) {
+        Ok(parts) => tried::<L, Brand, R, A>(&rt, alloc, parts),
+        Err(met) => met,
+    };
+    met.if_right(met != Met::Open || opens::<L, R, A>(rt, alloc))
+}
+
+/// Two bytes are submitted in a room over a tally.
+struct Bytes;
+
+impl Attempt for Bytes {
+    fn attempt<R: Wait + Drop + Copy, A: Allocator + Copy>(rt: R, alloc: A) -> Met {
+        attempted::<Tally<A>, R, A>(rt, alloc)
+    }
+}
+
+/// Two queries are submitted in a room over a board.
+struct Queries;
+
+impl Attempt for Queries {
+    fn attempt<R: Wait + Drop + Copy, A: Allocator + Copy>(rt: R, alloc: A) -> Met {
+        attempted::<Board<A>, R, A>(rt, alloc)
+    }
+}
+
+/// Whether refusals were met in opening a room, and a submit ended in each way.
+fn are_met(counts: Result<Counts, u64>) -> bool {
+    matches!(
+        counts,
+        Ok(Counts {
+            open: 1..,
+            replies: 1..,
+            stopped: 1..,
+            unpublished: 1..,
+            ..
+        })
+    )
+}
+
+/// Whether refusals were met in beginning a room. Over a board without relations no growth is asked for.
+fn are_met_in_begin(counts: Result<Counts, u64>) -> bool {
+    matches!(counts, Ok(Counts { begin: 1.., .. }))
+}
+
+/// Whether a submit was stopped behind an entry.
+pub fn are_stopped_behind(counts: Result<Counts, u64>) -> bool {
+    matches!(
+        counts,
+        Ok(Counts {
+            stopped_behind: 1..,
+            ..
+        })
+    )
+}
+
+#[test]
+fn refused_growth_in_a_room(rt: HostRuntime) {
+    let counts = counted::<Bytes, _>(&rt, rt.alloc());
+    assert!(rt; are_met(counts) && are_met_in_begin(counts), "{counts:?}");
+}
+
+#[test]
+fn refused_growth_in_a_room_over_a_board(rt: HostRuntime) {
+    let counts = counted::<Queries, _>(&rt, rt.alloc());
+    assert!(rt; are_met(counts) && are_stopped_behind(counts), "{counts:?}");
+}

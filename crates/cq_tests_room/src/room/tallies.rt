@@ -1,0 +1,105 @@
+//! A room over a tally.
+
+ghost use Rattle.std.specs.Prelude.{◌≡◌, ◌∷◌, []};
+
+use crate::room::rooms::{TallyRoom, TallySession, looks, submits};
+use crate::tally::{Full, Tally};
+use cq_desk::Reply;
+use cq_room::{Parts, Room, RoomFault, RoomName};
+use std::alloc::Global;
+use std::marker::Brand;
+use std::sync::Wait;
+
+/// Two sessions one after the other: what the first submitted is seen by the second before it hears of
+/// it, and the other way round after a front was heard.
+fn two_sessions<N: RoomName<[u8; 0]>, R: Wait + Drop>(
+    rt: &R,
+    alloc: Global,
+    room: &TallyRoom<N, R>,
+    mut first: TallySession<N>,
+    second: TallySession<N>,
+) -> Option<(TallySession<N>, TallySession<N>)> {
+    let entered = [Reply::Entered(1), Reply::Entered(2)];
+    submits(rt, alloc, room, &mut first, &[1, 2], &entered, 2)?;
+    let mut second = looks(second, &[1, 2], 2)?;
+    let full = [Reply::Entered(3), Reply::Not(Full)];
+    let front = submits(rt, alloc, room, &mut second, &[3, 4], &full, 3)?;
+    first.hear(&front.copy());
+    if first.number() != 0 || second.number() != 1 || first.seen() != 3 {
+        return None;
+    }
+    let first = looks(first, &[1, 2, 3], 3)?;
+    Some((first, second))
+}
+
+/// Whether the closed room's journal has so many entries.
+fn closes<N: RoomName<[u8; 0]>, R: Wait + Drop>(
+    rt: &R,
+    room: TallyRoom<N, R>,
+    sessions: Vec<TallySession<N>>,
+    entries: usize,
+) -> bool {
+    room.close(rt, sessions).journal().len() == entries
+}
+
+fn runs<N: RoomName<[u8; 0]>, R: Wait + Drop>(
+    rt: &R,
+    alloc: Global,
+    parts: Parts<Tally, R>,
+    hand_in: bool,
+) -> Option<bool>
+    requires book { parts.book ≡ N.book }
+    requires opening { N.opening ≡ parts.opening ∷ [] }
+    requires limit { N.limit ≡ parts.limit }
+{
+    let (room, mut sessions) = parts.open::<N>().ok()?;
+    let second = sessions.pop()?;
+    let first = sessions.pop()?;
+    let (first, second) = two_sessions(rt, alloc, &room, first, second)?;
+    if hand_in {
+        sessions.push(first).ok()?;
+        sessions.push(second).ok()?;
+    }
+    Some(closes(rt, room, sessions, 3))
+}
+
+fn opened<R: Wait + Drop>(rt: R, alloc: Global) -> Result<Parts<Tally, R>, RoomFault> {
+    Room::begin(rt, alloc, Tally::empty(alloc), 9, 2)
+}
+
+#[test]
+fn tally_room(rt: HostRuntime) {
+    let handle = &rt;
+    match opened(handle, rt.alloc()) {
+        Ok(parts) => {
+            assert!(rt; runs::<Brand, _>(&handle, rt.alloc(), parts, true) == Some(true))
+        }
+        Err(_) => assert!(rt; false),
+    }
+}
+
+#[test]
+fn tally_room_of_nobody(rt: HostRuntime) {
+    let handle = &rt;
+    match opened(handle, rt.alloc()) {
+        Ok(parts) => {
+            assert!(rt; runs::<Brand, _>(&handle, rt.alloc(), parts, false) == Some(true))
+        }
+        Err(_) => assert!(rt; false),
+    }
+}
+
+/// Whether a room with so many sessions is refused for their number.
+fn is_refused<R: Wait + Drop>(rt: R, alloc: Global, sessions: usize) -> bool {
+    match Room::begin(rt, alloc, Tally::empty(alloc), 9, sessions) {
+        Ok(_) => false,
+        Err(fault) => fault == RoomFault::Sessions,
+    }
+}
+
+#[test]
+fn one_to_sixteen_sessions(rt: HostRuntime) {
+    assert!(rt; is_refused(&rt, rt.alloc(), 0));
+    assert!(rt; !is_refused(&rt, rt.alloc(), 16));
+    assert!(rt; is_refused(&rt, rt.alloc(), 17));
+}

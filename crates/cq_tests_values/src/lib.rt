@@ -1,0 +1,17 @@
+//! Tests of what stands on no other crate of the program: values, atoms, rows and queries (`cq_atom`), with each growth
+//! refused in turn, and the allocator that keeps to a budget (`cq_budget`). Nothing but tests is here, and no crate stands
+//! on this one.
+#![tactic(auto)]
+
+#[cfg(test)]
+mod atoms;
+#[cfg(test)]
+mod budget;
+#[cfg(test)]
+mod growths;
+#[cfg(test)]
+mod queries;
+#[cfg(test)]
+mod samples;
+#[cfg(test)]
+mod words;
