@@ -25,7 +25,7 @@ class Crate:
     """A crate of the repository at top: its folder, and the libraries that it names, its own repository's and the kit's."""
 
     def __init__(self, top, name, parts, ours):
-        self.top, self.name, self.folder = top, name, f"{top}/crates/{name}"
+        self.top, self.name, self.folder, self.parts = top, name, f"{top}/crates/{name}", parts
         self.of_kit = [it for it in parts if it not in ours]
         self.deps = [it for it in parts if it in ours]
         self.root = "src/main.rt" if os.path.isfile(f"{self.folder}/src/main.rt") else "src/lib.rt"

@@ -402,7 +402,7 @@ def copy_proved(crates, names, tree):
         shutil.copytree(crates[it].folder, f"{tree}/crates/{it}", ignore=lambda at, files: {"out", "must-fail"} & set(files))
     shutil.copy(f"{crates[needed[0]].top}/HANDLES", tree)
     with open(f"{tree}/crates.txt", "w", encoding="utf-8") as made:
-        made.writelines(f"{it}: {' '.join([*crates[it].of_kit, *crates[it].deps])}\n" for it in needed)
+        made.writelines(f"{it}: {' '.join(crates[it].parts)}\n" for it in needed)
     print(f"wrong bodies: proving {' '.join(needed)}, where that is not kept ..", flush=True)
     how = {"stdin": subprocess.DEVNULL, "stdout": subprocess.PIPE, "stderr": subprocess.STDOUT, "errors": "replace"}
     ran = subprocess.run(["rt", "ci"], cwd=tree, **how)
