@@ -29,44 +29,90 @@ fn is_entry(desk: &TallyDesk, place: usize, author: usize, byte: u8) -> bool {
     }
 }
 
-/// Two entries, a publish, a third entry that a second publish shows, and two refusals.
-fn enters_and_publishes(desk: &mut TallyDesk) -> bool {
-    desk.enter(4, 10) == Ok(1)
-        && desk.enter(5, 11) == Ok(2)
-        && stands(desk, &[10, 11], &[])
-        && desk.publish(&()) == Ok(2)
-        && stands(desk, &[10, 11], &[10, 11])
-        && desk.enter(4, 12) == Ok(3)
-        && desk.enter(4, 13) == Err(Refused::Not(Full))
-        && stands(desk, &[10, 11, 12], &[10, 11])
-        && desk.publish(&()) == Ok(3)
-        && desk.publish(&()) == Ok(3)
-        && stands(desk, &[10, 11, 12], &[10, 11, 12])
-        && is_entry(desk, 0, 4, 10)
-        && is_entry(desk, 1, 5, 11)
+/// What is done on a desk.
+#[derive(Clone, Copy)]
+enum Call {
+    /// The author enters the byte.
+    Enter(usize, u8),
+    Publish,
 }
+
+/// A call, what it answers, and the bytes of the working state and of the shown one behind it.
+type Step = (
+    Call,
+    Result<u64, Refused<Full>>,
+    &'static [u8],
+    &'static [u8],
+);
+
+fn told(desk: &mut TallyDesk, call: Call) -> Result<u64, Refused<Full>> {
+    match call {
+        Call::Enter(author, byte) => desk.enter(author, byte),
+        Call::Publish => match desk.publish(&()) {
+            Ok(count) => Ok(count),
+            Err(NoMemory) => Err(Refused::NoMemory),
+        },
+    }
+}
+
+/// The place of the first step that comes out otherwise.
+fn other_step(desk: &mut TallyDesk, steps: &[Step]) -> Option<usize> {
+    for (place, (call, wanted, working, shown)) in steps.iter().enumerate() {
+        if told(desk, *call) != *wanted || !stands(desk, working, shown) {
+            return Some(place);
+        }
+    }
+    None
+}
+
+/// Two entries, a publish, a third entry that a second publish shows, and two refusals.
+const STEPS: [Step; 7] = [
+    (Call::Enter(4, 10), Ok(1), &[10], &[]),
+    (Call::Enter(5, 11), Ok(2), &[10, 11], &[]),
+    (Call::Publish, Ok(2), &[10, 11], &[10, 11]),
+    (Call::Enter(4, 12), Ok(3), &[10, 11, 12], &[10, 11]),
+    (
+        Call::Enter(4, 13),
+        Err(Refused::Not(Full)),
+        &[10, 11, 12],
+        &[10, 11],
+    ),
+    (Call::Publish, Ok(3), &[10, 11, 12], &[10, 11, 12]),
+    (Call::Publish, Ok(3), &[10, 11, 12], &[10, 11, 12]),
+];
+
+/// The limit of the journal, which holds three entries, is looked at before the state.
+const LIMIT_FIRST: [Step; 4] = [
+    (Call::Enter(0, 1), Ok(1), &[1], &[]),
+    (Call::Enter(0, 2), Ok(2), &[1, 2], &[]),
+    (Call::Enter(0, 3), Ok(3), &[1, 2, 3], &[]),
+    (
+        Call::Enter(0, 4),
+        Err(Refused::JournalFull),
+        &[1, 2, 3],
+        &[],
+    ),
+];
 
 #[test]
 fn entries_and_publishes(rt: HostRuntime) {
     match desk(rt.alloc(), 9) {
-        Ok(mut desk) => assert!(rt; enters_and_publishes(&mut desk)),
+        Ok(mut desk) => {
+            let other = other_step(&mut desk, STEPS.as_slice());
+            assert!(rt; other.is_none(), "{other:?}");
+            assert!(rt; is_entry(&desk, 0, 4, 10) && is_entry(&desk, 1, 5, 11));
+        }
         Err(fault) => assert!(rt; false, "{fault}"),
     }
-}
-
-/// The limit of the journal is looked at before the state.
-fn limit_comes_first(desk: &mut TallyDesk) -> bool {
-    desk.enter(0, 1) == Ok(1)
-        && desk.enter(0, 2) == Ok(2)
-        && desk.enter(0, 3) == Ok(3)
-        && desk.enter(0, 4) == Err(Refused::JournalFull)
-        && stands(desk, &[1, 2, 3], &[])
 }
 
 #[test]
 fn journal_full(rt: HostRuntime) {
     match desk(rt.alloc(), 3) {
-        Ok(mut desk) => assert!(rt; limit_comes_first(&mut desk)),
+        Ok(mut desk) => {
+            let other = other_step(&mut desk, LIMIT_FIRST.as_slice());
+            assert!(rt; other.is_none(), "{other:?}");
+        }
         Err(fault) => assert!(rt; false, "{fault}"),
     }
 }

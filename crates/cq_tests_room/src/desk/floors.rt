@@ -32,16 +32,40 @@ fn sessions_from_1_to_16(rt: HostRuntime) {
     assert!(rt; fault(rt.alloc(), 17) == Some(FloorFault::Sessions));
 }
 
+/// What is done on a floor, by the session of that number.
+#[derive(Clone, Copy)]
+enum Turn {
+    Enter(usize, u8),
+    Publish,
+    Look(usize),
+    /// It hears of so many entries.
+    Hear(usize, u64),
+}
+
+fn event(turn: Turn) -> Event<u8> {
+    match turn {
+        Turn::Enter(author, edit) => Event::Enter { author, edit },
+        Turn::Publish => Event::Publish,
+        Turn::Look(session) => Event::Look { session },
+        Turn::Hear(session, count) => Event::Hear { session, count },
+    }
+}
+
+/// What is done, and what is answered to it.
+type Asked = (Turn, Told);
+
+/// The place of the first that is answered otherwise.
+fn other_answer(floor: &mut TallyFloor, asked: &[Asked]) -> Option<usize> {
+    for (place, (turn, wanted)) in asked.iter().enumerate() {
+        if floor.step(event(*turn)) != *wanted {
+            return Some(place);
+        }
+    }
+    None
+}
+
 fn enters<A: Allocator + Copy>(floor: &mut TallyFloor<A>, author: usize, edit: u8) -> Told {
     floor.step(Event::Enter { author, edit })
-}
-
-fn hears(floor: &mut TallyFloor, session: usize, count: u64) -> Told {
-    floor.step(Event::Hear { session, count })
-}
-
-fn looks(floor: &mut TallyFloor, session: usize) -> Told {
-    floor.step(Event::Look { session })
 }
 
 /// Whether the working state has these bytes, and the published one those.
@@ -57,17 +81,26 @@ fn have_seen(floor: &TallyFloor, first: u64, second: u64) -> bool {
     floor.seen(0) == Some(first) && floor.seen(1) == Some(second) && floor.seen(2).is_none()
 }
 
-/// Two sessions see apart from each other, and a look shows no more than is published.
+/// A look shows no more than is published.
+const LOOKS: [Asked; 4] = [
+    (Turn::Enter(1, 5), Ok(Answer::Entered(1))),
+    (Turn::Publish, Ok(Answer::Published(1))),
+    (Turn::Enter(0, 6), Ok(Answer::Entered(2))),
+    (Turn::Look(1), Ok(Answer::Looked(1))),
+];
+
+const HEARS: [Asked; 3] = [
+    (Turn::Hear(0, 2), Err(StepFault::Ahead)),
+    (Turn::Hear(0, 1), Ok(Answer::Heard(1))),
+    (Turn::Hear(1, 0), Ok(Answer::Heard(1))),
+];
+
+/// Two sessions see apart from each other.
 fn sees_apart(floor: &mut TallyFloor) -> bool {
-    enters(floor, 1, 5) == Ok(Answer::Entered(1))
-        && floor.step(Event::Publish) == Ok(Answer::Published(1))
-        && enters(floor, 0, 6) == Ok(Answer::Entered(2))
+    other_answer(floor, LOOKS.as_slice()).is_none()
         && stands(floor, &[5, 6], &[5])
-        && looks(floor, 1) == Ok(Answer::Looked(1))
         && have_seen(floor, 0, 1)
-        && hears(floor, 0, 2) == Err(StepFault::Ahead)
-        && hears(floor, 0, 1) == Ok(Answer::Heard(1))
-        && hears(floor, 1, 0) == Ok(Answer::Heard(1))
+        && other_answer(floor, HEARS.as_slice()).is_none()
         && have_seen(floor, 1, 1)
 }
 
@@ -80,14 +113,17 @@ fn two_sessions(rt: HostRuntime) {
 }
 
 /// The tests in their order: the session, the count that is heard, the journal's limit, the state.
+const IN_ORDER: [Asked; 6] = [
+    (Turn::Hear(1, 7), Err(StepFault::NoSession)),
+    (Turn::Enter(0, 1), Ok(Answer::Entered(1))),
+    (Turn::Enter(0, 2), Ok(Answer::Entered(2))),
+    (Turn::Enter(0, 3), Ok(Answer::Entered(3))),
+    (Turn::Enter(1, 4), Err(StepFault::NoSession)),
+    (Turn::Look(1), Err(StepFault::NoSession)),
+];
+
 fn refuses_in_order(floor: &mut TallyFloor) -> bool {
-    hears(floor, 1, 7) == Err(StepFault::NoSession)
-        && enters(floor, 0, 1) == Ok(Answer::Entered(1))
-        && enters(floor, 0, 2) == Ok(Answer::Entered(2))
-        && enters(floor, 0, 3) == Ok(Answer::Entered(3))
-        && enters(floor, 1, 4) == Err(StepFault::NoSession)
-        && looks(floor, 1) == Err(StepFault::NoSession)
-        && stands(floor, &[1, 2, 3], &[])
+    other_answer(floor, IN_ORDER.as_slice()).is_none() && stands(floor, &[1, 2, 3], &[])
 }
 
 #[test]
@@ -102,22 +138,20 @@ fn refusals_in_order(rt: HostRuntime) {
     }
 }
 
-/// Enters two bytes, publishes and looks, a refused edit among them.
-fn event(place: usize) -> Event<u8> {
-    match place {
-        0 => Event::Enter { author: 0, edit: 5 },
-        1 => Event::Enter { author: 9, edit: 7 },
-        2 => Event::Enter { author: 0, edit: 6 },
-        3 => Event::Publish,
-        _ => Event::Look { session: 0 },
-    }
-}
+/// Two bytes, a publish and a look, a refused edit among them.
+const TURNS: [Turn; 5] = [
+    Turn::Enter(0, 5),
+    Turn::Enter(9, 7),
+    Turn::Enter(0, 6),
+    Turn::Publish,
+    Turn::Look(0),
+];
 
 /// These events from that one on.
 fn events<A: Allocator + Copy>(alloc: A, from: usize) -> Result<Vec<Event<u8>, A>, NoMemory> {
     let mut events = Vec::new(alloc);
     for place in from..5 {
-        events.push(event(place))?;
+        events.push(event(TURNS[place]))?;
     }
     Ok(events)
 }

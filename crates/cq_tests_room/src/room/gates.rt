@@ -164,6 +164,22 @@ fn run_both<N: RoomName<Board> + Send + Sync, R: Wait + Drop + Send + Sync, T: T
 }
 
 /// Whether the second session opened the gate, and saw nothing before it opened.
+fn watches_in<N: RoomName<Board> + Send + Sync, R: Wait + Drop + Send + Sync, T: Threads>(
+    threads: &T,
+    rt: &R,
+    alloc: Global,
+    room: &BoardRoom<N, R>,
+    sessions: &mut Vec<BoardSession<N>>,
+) -> Option<bool> {
+    let second = sessions.pop()?;
+    let first = sessions.pop()?;
+    let gate = Held::closed();
+    let seat = Mutex::new(Some(second));
+    let front = run_both(threads, rt, alloc, room, first, &seat, &gate)?;
+    let second = seat.into_inner()?;
+    Some(sees(second, &front) && gate.passed.load(Ordering::SeqCst))
+}
+
 fn watches<N: RoomName<Board> + Send + Sync, R: Wait + Drop + Send + Sync, T: Threads>(
     threads: &T,
     rt: &R,
@@ -175,13 +191,7 @@ fn watches<N: RoomName<Board> + Send + Sync, R: Wait + Drop + Send + Sync, T: Th
     requires limit { N.limit ≡ parts.limit }
 {
     let (room, mut sessions) = parts.open::<N>().ok()?;
-    let second = sessions.pop()?;
-    let first = sessions.pop()?;
-    let gate = Held::closed();
-    let seat = Mutex::new(Some(second));
-    let front = run_both(threads, rt, alloc, &room, first, &seat, &gate)?;
-    let second = seat.into_inner()?;
-    Some(sees(second, &front) && gate.passed.load(Ordering::SeqCst))
+    watches_in(threads, rt, alloc, &room, &mut sessions)
 }
 
 #[test]

@@ -26,9 +26,8 @@ fn sees<N: RoomName<Board>>(
     Some(look.leave())
 }
 
-/// A flight to Paris comes, and a query for one, and then the flight goes to Rome. The look before that shows the flight as a
-/// grounding, and the looks behind, before and after the front is heard, show none.
-fn moves_the_flight<N: RoomName<Board>, R: Wait + Drop>(
+/// A flight to Paris comes, and a query for one. The look behind shows the flight as a grounding.
+fn asks<N: RoomName<Board>, R: Wait + Drop>(
     rt: &R,
     alloc: Global,
     room: &BoardRoom<N, R>,
@@ -38,8 +37,20 @@ fn moves_the_flight<N: RoomName<Board>, R: Wait + Drop>(
 ) -> Option<BoardSession<N>> {
     let entered = [Reply::Entered(1), Reply::Entered(2)];
     submits(rt, alloc, room, first, &[PARIS, ASKED], &entered, 2)?;
-    let second = sees(second, name, 2, true)?;
+    sees(second, name, 2, true)
+}
+
+/// Then the flight goes to Rome. The looks behind that, before and after the front is heard, show no grounding.
+fn moves_the_flight<N: RoomName<Board>, R: Wait + Drop>(
+    rt: &R,
+    alloc: Global,
+    room: &BoardRoom<N, R>,
+    first: &mut BoardSession<N>,
+    second: BoardSession<N>,
+    name: &Name,
+) -> Option<BoardSession<N>> {
     let moved = [Reply::Entered(3), Reply::Entered(4)];
+    let second = asks(rt, alloc, room, first, second, name)?;
     let front = submits(rt, alloc, room, first, &[NO_PARIS, ROME], &moved, 4)?;
     let mut second = sees(second, name, 4, false)?;
     second.hear(&front);
@@ -47,6 +58,19 @@ fn moves_the_flight<N: RoomName<Board>, R: Wait + Drop>(
 }
 
 /// How many entries the second session has seen at the end.
+fn moves_in<N: RoomName<Board>, R: Wait + Drop>(
+    rt: &R,
+    alloc: Global,
+    room: &BoardRoom<N, R>,
+    sessions: &mut Vec<BoardSession<N>>,
+    name: &Name,
+) -> Option<u64> {
+    let second = sessions.pop()?;
+    let mut first = sessions.pop()?;
+    let second = moves_the_flight(rt, alloc, room, &mut first, second, name)?;
+    Some(second.seen())
+}
+
 fn moves<N: RoomName<Board>, R: Wait + Drop>(
     rt: &R,
     alloc: Global,
@@ -58,10 +82,7 @@ fn moves<N: RoomName<Board>, R: Wait + Drop>(
     requires limit { N.limit ≡ parts.limit }
 {
     let (room, mut sessions) = parts.open::<N>().ok()?;
-    let second = sessions.pop()?;
-    let mut first = sessions.pop()?;
-    let second = moves_the_flight(rt, alloc, &room, &mut first, second, name)?;
-    Some(second.seen())
+    moves_in(rt, alloc, &room, &mut sessions, name)
 }
 
 #[test]

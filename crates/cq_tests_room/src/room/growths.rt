@@ -75,8 +75,32 @@ fn publishes<L: Grown<A>, N: RoomName<L::Content>, R: Wait + Drop, A: Allocator 
     }
 }
 
-/// The second session sees nothing of a submit that was refused a growth. Its empty submit publishes all that was
-/// entered, which both sessions see then.
+/// The second session, which sees nothing of a submit that was refused a growth, and the front of its empty submit, which
+/// publishes all that was entered.
+fn publishes_all<L: Grown<A>, N: RoomName<L::Content>, R: Wait + Drop, A: Allocator + Copy>(
+    rt: &R,
+    alloc: A,
+    room: &GrowingRoom<L, N, R, A>,
+    second: Session<L, N, A>,
+    entries: u64,
+) -> Option<(Session<L, N, A>, Front<L, N>)> {
+    let mut second = sees(second, 0)?;
+    let front = publishes(rt, alloc, room, &mut second, entries)?;
+    Some((second, front))
+}
+
+/// Both sessions see what so many entries left.
+fn both_see<L: Grown<A>, N: RoomName<L::Content>, A: Allocator + Copy>(
+    first: Session<L, N, A>,
+    second: Session<L, N, A>,
+    entries: u64,
+) -> bool {
+    let by_first = sees(first, entries).is_some();
+    let by_second = sees(second, entries).is_some();
+    by_first && by_second
+}
+
+/// The second session publishes what was entered, and both sessions see it then.
 fn goes_on<L: Grown<A>, N: RoomName<L::Content>, R: Wait + Drop, A: Allocator + Copy>(
     rt: &R,
     alloc: A,
@@ -84,29 +108,12 @@ fn goes_on<L: Grown<A>, N: RoomName<L::Content>, R: Wait + Drop, A: Allocator + 
     mut first: Session<L, N, A>,
     second: Session<L, N, A>,
     entries: u64,
-) -> Option<()> {
-    if first.seen() != 0 {
-        return None;
-    }
-    let mut second = sees(second, 0)?;
-    let front = publishes(rt, alloc, room, &mut second, entries)?;
+) -> bool {
+    let Some((second, front)) = publishes_all(rt, alloc, room, second, entries) else {
+        return false;
+    };
     first.hear(&front);
-    let _first = sees(first, entries)?;
-    let _second = sees(second, entries)?;
-    Some(())
-}
-
-/// Both sessions see both edits.
-fn both_see<L: Grown<A>, N: RoomName<L::Content>, A: Allocator + Copy>(
-    first: Session<L, N, A>,
-    second: Session<L, N, A>,
-) -> Option<()> {
-    if first.seen() != 2 {
-        return None;
-    }
-    let _first = sees(first, 2)?;
-    let _second = sees(second, 2)?;
-    Some(())
+    both_see(first, second, entries)
 }
 
 /// What comes of it between two sessions.
@@ -118,12 +125,25 @@ fn between<L: Grown<A>, N: RoomName<L::Content>, R: Wait + Drop, A: Allocator + 
     second: Session<L, N, A>,
 ) -> Met {
     let met = asks(rt, alloc, room, &mut first);
+    let seen = first.seen();
     let agreed = if met == Met::Nothing {
-        both_see(first, second)
+        both_see(first, second, 2) && seen == 2
     } else {
-        goes_on(rt, alloc, room, first, second, met.entries())
+        goes_on(rt, alloc, room, first, second, met.entries()) && seen == 0
     };
-    met.if_right(agreed.is_some())
+    met.if_right(agreed)
+}
+
+/// The same between the two sessions of the list.
+fn between_two<L: Grown<A>, N: RoomName<L::Content>, R: Wait + Drop, A: Allocator + Copy>(
+    rt: &R,
+    alloc: A,
+    room: &GrowingRoom<L, N, R, A>,
+    sessions: &mut Vec<Session<L, N, A>, A>,
+) -> Option<Met> {
+    let second = sessions.pop()?;
+    let first = sessions.pop()?;
+    Some(between(rt, alloc, room, first, second))
 }
 
 fn tried<L: Grown<A>, N: RoomName<L::Content>, R: Wait + Drop, A: Allocator + Copy>(
@@ -139,9 +159,9 @@ fn tried<L: Grown<A>, N: RoomName<L::Content>, R: Wait + Drop, A: Allocator + Co
         Ok(opened) => opened,
         Err(fault) => return Met::Open.if_right(fault == RoomFault::NoMemory),
     };
-    match (sessions.pop(), sessions.pop()) {
-        (Some(second), Some(first)) => between(rt, alloc, &room, first, second),
-        _ => Met::Wrong,
+    match between_two(rt, alloc, &room, &mut sessions) {
+        Some(met) => met,
+        None => Met::Wrong,
     }
 }
 

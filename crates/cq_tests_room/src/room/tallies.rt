@@ -5,7 +5,7 @@ ghost use Rattle.std.specs.Prelude.{◌≡◌, ◌∷◌, []};
 use crate::room::rooms::{TallyRoom, TallySession, looks, submits};
 use crate::tally::{Full, Tally};
 use cq_desk::Reply;
-use cq_room::{Parts, Room, RoomFault, RoomName};
+use cq_room::{Front, Parts, Room, RoomFault, RoomName};
 use std::alloc::Global;
 use std::marker::Brand;
 use std::sync::Wait;
@@ -21,15 +21,52 @@ fn two_sessions<N: RoomName<[u8; 0]>, R: Wait + Drop>(
 ) -> Option<(TallySession<N>, TallySession<N>)> {
     let entered = [Reply::Entered(1), Reply::Entered(2)];
     submits(rt, alloc, room, &mut first, &[1, 2], &entered, 2)?;
+    let (second, front) = answers(rt, alloc, room, second)?;
+    first.hear(&front.copy());
+    let first = is_told(first)?;
+    Some((first, second))
+}
+
+/// The second session, which sees what was submitted and submits too, and the front that it is told.
+fn answers<N: RoomName<[u8; 0]>, R: Wait + Drop>(
+    rt: &R,
+    alloc: Global,
+    room: &TallyRoom<N, R>,
+    second: TallySession<N>,
+) -> Option<(TallySession<N>, Front<Tally, N>)> {
     let mut second = looks(second, &[1, 2], 2)?;
     let full = [Reply::Entered(3), Reply::Not(Full)];
     let front = submits(rt, alloc, room, &mut second, &[3, 4], &full, 3)?;
-    first.hear(&front.copy());
-    if first.number() != 0 || second.number() != 1 || first.seen() != 3 {
+    if second.number() != 1 {
         return None;
     }
-    let first = looks(first, &[1, 2, 3], 3)?;
-    Some((first, second))
+    Some((second, front))
+}
+
+/// The first session, which sees what it has heard of.
+fn is_told<N: RoomName<[u8; 0]>>(first: TallySession<N>) -> Option<TallySession<N>> {
+    if first.number() != 0 || first.seen() != 3 {
+        return None;
+    }
+    looks(first, &[1, 2, 3], 3)
+}
+
+/// The two sessions meet, and are put back where they are to be handed in.
+fn meet<N: RoomName<[u8; 0]>, R: Wait + Drop>(
+    rt: &R,
+    alloc: Global,
+    room: &TallyRoom<N, R>,
+    sessions: &mut Vec<TallySession<N>>,
+    hand_in: bool,
+) -> Option<()> {
+    let second = sessions.pop()?;
+    let first = sessions.pop()?;
+    let (first, second) = two_sessions(rt, alloc, room, first, second)?;
+    if hand_in {
+        sessions.push(first).ok()?;
+        sessions.push(second).ok()?;
+    }
+    Some(())
 }
 
 /// Whether the closed room's journal has so many entries.
@@ -53,14 +90,8 @@ fn runs<N: RoomName<[u8; 0]>, R: Wait + Drop>(
     requires limit { N.limit ≡ parts.limit }
 {
     let (room, mut sessions) = parts.open::<N>().ok()?;
-    let second = sessions.pop()?;
-    let first = sessions.pop()?;
-    let (first, second) = two_sessions(rt, alloc, &room, first, second)?;
-    if hand_in {
-        sessions.push(first).ok()?;
-        sessions.push(second).ok()?;
-    }
-    Some(closes(rt, room, sessions, 3))
+    let meet = meet(rt, alloc, &room, &mut sessions, hand_in).is_some();
+    Some(closes(rt, room, sessions, 3) && meet)
 }
 
 fn opened<R: Wait + Drop>(rt: R, alloc: Global) -> Result<Parts<Tally, R>, RoomFault> {

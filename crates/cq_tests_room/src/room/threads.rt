@@ -69,6 +69,56 @@ fn posts_again<N: RoomName<Board>, R: Wait + Drop>(
     submits(rt, alloc, room, &mut second, &[ANSWER], &taken, 1)
 }
 
+/// The front of the first session's posting, in a thread.
+fn posts<N: RoomName<Board> + Send + Sync, R: Wait + Drop + Send + Sync, T: Threads>(
+    threads: &T,
+    rt: &R,
+    alloc: Global,
+    room: &BoardRoom<N, R>,
+    first: BoardSession<N>,
+) -> Option<Front<Board, N>> {
+    let posting = Posting {
+        rt,
+        alloc,
+        room,
+        first,
+    };
+    let (front, _) = both(threads, posting, Idle);
+    front
+}
+
+/// The front of what the second session does then.
+fn answers<N: RoomName<Board>, R: Wait + Drop>(
+    rt: &R,
+    alloc: Global,
+    room: &BoardRoom<N, R>,
+    second: BoardSession<N>,
+    front: &Front<Board, N>,
+    again: bool,
+) -> Option<Front<Board, N>> {
+    if again {
+        posts_again(rt, alloc, room, second)
+    } else {
+        sees_and_hears(rt, alloc, room, second, front)
+    }
+}
+
+/// How many entries the second session is told of at the end.
+fn told_in<N: RoomName<Board> + Send + Sync, R: Wait + Drop + Send + Sync, T: Threads>(
+    threads: &T,
+    rt: &R,
+    alloc: Global,
+    room: &BoardRoom<N, R>,
+    sessions: &mut Vec<BoardSession<N>>,
+    again: bool,
+) -> Option<u64> {
+    let second = sessions.pop()?;
+    let first = sessions.pop()?;
+    let front = posts(threads, rt, alloc, room, first)?;
+    let last = answers(rt, alloc, room, second, &front, again)?;
+    Some(last.count())
+}
+
 fn told<N: RoomName<Board> + Send + Sync, R: Wait + Drop + Send + Sync, T: Threads>(
     threads: &T,
     rt: &R,
@@ -81,22 +131,7 @@ fn told<N: RoomName<Board> + Send + Sync, R: Wait + Drop + Send + Sync, T: Threa
     requires limit { N.limit ≡ parts.limit }
 {
     let (room, mut sessions) = parts.open::<N>().ok()?;
-    let second = sessions.pop()?;
-    let first = sessions.pop()?;
-    let posting = Posting {
-        rt,
-        alloc,
-        room: &room,
-        first,
-    };
-    let (front, _) = both(threads, posting, Idle);
-    let front = front?;
-    let last = if again {
-        posts_again(rt, alloc, &room, second)?
-    } else {
-        sees_and_hears(rt, alloc, &room, second, &front)?
-    };
-    Some(last.count())
+    told_in(threads, rt, alloc, &room, &mut sessions, again)
 }
 
 #[test]
