@@ -3,7 +3,7 @@
 ghost use Rattle.std.specs.Prelude.{◌≡◌, ◌∷◌, []};
 
 use crate::room::grown::{Grown, both_edits};
-use crate::room::growths::{GrowingRoom, are_stopped_behind, parts_of, sees};
+use crate::room::growths::{are_stopped_behind, parts_of, sees};
 use crate::room::met::{Attempt, Counts, Met, counted, met_by};
 use crate::tally::Tally;
 use cq_board::Board;
