@@ -1,13 +1,24 @@
 //! The boards and rooms of these tests.
 
-use cq_board::{Board, Limits};
+use cq_board::{Board, Edit, Limits, Why};
+use cq_desk::Live;
 use cq_rel::Catalog;
-use cq_room::{Pair, Room, Session};
+use cq_room::{Pair, Room};
 use std::alloc::Global;
 
-pub type BoardRoom<N, R> = Room<Board, N, Pair<Board, N, R>>;
+/// A state that takes the edits of a board, and shows one. What goes on in a room is stated over any such state, since what is known
+/// of sessions over boards themselves is large.
+pub trait Posted: Live<Edit = Edit, Why = Why> {
+    fn as_board(&self) -> &Board;
+}
 
-pub type BoardSession<N> = Session<Board, N>;
+impl Posted for Board {
+    fn as_board(&self) -> &Board {
+        self
+    }
+}
+
+pub type PostedRoom<L, N, R> = Room<L, N, Pair<L, N, R>>;
 
 pub const LIMITS: Limits = Limits {
     pool: 4_096,

@@ -1,10 +1,10 @@
 //! What a session keeps of its replies and looks.
 
-use crate::sessions::boards::BoardSession;
+use crate::sessions::boards::Posted;
 use cq_board::{Board, Why};
 use cq_desk::{End, Reply};
 use cq_report::report;
-use cq_room::{Front, Receipt, RoomName};
+use cq_room::{Front, Receipt, RoomName, Session};
 use std::alloc::{AllocError, Global};
 
 /// A look that is kept: how many entries it showed, and the report on its board.
@@ -67,15 +67,15 @@ impl Record {
     }
 
     /// Looks, and keeps the look where asked to.
-    pub fn looks<N: RoomName<Board>>(
+    pub fn looks<L: Posted, N: RoomName<L::Content>>(
         &mut self,
-        session: BoardSession<N>,
+        session: Session<L, N>,
         keep: bool,
-    ) -> BoardSession<N> {
+    ) -> Session<L, N> {
         match session.watch() {
             Ok(look) => {
                 self.knows(look.count());
-                if keep && self.keep(look.count(), look.state()).is_err() {
+                if keep && self.keep(look.count(), look.state().as_board()).is_err() {
                     self.fails();
                 }
                 look.leave()
@@ -88,20 +88,20 @@ impl Record {
     }
 
     /// Hears a front of another session. It may be an older one.
-    pub fn hears<N: RoomName<Board>>(
+    pub fn hears<L: Posted, N: RoomName<L::Content>>(
         &mut self,
-        session: &mut BoardSession<N>,
-        front: &Front<Board, N>,
+        session: &mut Session<L, N>,
+        front: &Front<L, N>,
     ) {
         session.hear(front);
         self.known = self.known.max(front.count());
     }
 
     /// Takes the replies down, and gives the front on.
-    pub fn takes<N: RoomName<Board>>(
+    pub fn takes<L: Posted, N: RoomName<L::Content>>(
         &mut self,
-        receipt: Receipt<Board, N>,
-    ) -> Option<Front<Board, N>> {
+        receipt: Receipt<L, N>,
+    ) -> Option<Front<L, N>> {
         let Receipt { submitted, front } = receipt;
         let front = front?;
         self.knows(front.count());

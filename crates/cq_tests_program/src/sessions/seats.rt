@@ -1,11 +1,10 @@
 //! What each session does in its thread.
 
 use crate::sessions::asked::{TURNS, WRITERS, edits};
-use crate::sessions::boards::{BoardRoom, BoardSession};
+use crate::sessions::boards::{Posted, PostedRoom};
 use crate::sessions::jobs::Job;
 use crate::sessions::record::Record;
-use cq_board::Board;
-use cq_room::{Front, RoomName};
+use cq_room::{Front, RoomName, Session};
 use std::alloc::Global;
 use std::sync::atomic::{AtomicUsize, Ordering};
 use std::sync::{Mutex, Wait};
@@ -18,13 +17,13 @@ const APART: u64 = 300;
 
 /// What sessions tell each other beside the room.
 #[derive(Drop)]
-pub struct Notice<N: RoomName<Board>> {
-    front: Mutex<Option<Front<Board, N>>>,
+pub struct Notice<L: Posted, N: RoomName<L::Content>> {
+    front: Mutex<Option<Front<L, N>>>,
     done: AtomicUsize,
 }
 
-impl<N: RoomName<Board>> Notice<N> {
-    pub fn empty() -> Notice<N> {
+impl<L: Posted, N: RoomName<L::Content>> Notice<L, N> {
+    pub fn empty() -> Notice<L, N> {
         Notice {
             front: Mutex::new(None),
             done: AtomicUsize::new(0),
@@ -32,12 +31,12 @@ impl<N: RoomName<Board>> Notice<N> {
     }
 
     /// Puts up the front in place of the one that was there.
-    fn put_up<R: Wait>(&self, rt: &R, front: Front<Board, N>) {
+    fn put_up<R: Wait>(&self, rt: &R, front: Front<L, N>) {
         *self.front.lock(rt) = Some(front);
     }
 
     /// A copy of the front that is put up.
-    fn read<R: Wait>(&self, rt: &R) -> Option<Front<Board, N>> {
+    fn read<R: Wait>(&self, rt: &R) -> Option<Front<L, N>> {
         match &*self.front.lock(rt) {
             Some(front) => Some(front.copy()),
             None => None,
@@ -57,21 +56,21 @@ impl<N: RoomName<Board>> Notice<N> {
 
 /// What all threads share.
 #[derive(Drop)]
-pub struct Hall<'a, N: RoomName<Board>, R: Wait + Drop> {
+pub struct Hall<'a, L: Posted, N: RoomName<L::Content>, R: Wait + Drop> {
     pub rt: &'a R,
     pub alloc: Global,
-    pub room: &'a BoardRoom<N, R>,
-    pub notice: &'a Notice<N>,
+    pub room: &'a PostedRoom<L, N, R>,
+    pub notice: &'a Notice<L, N>,
 }
 
-impl<'a, N: RoomName<Board>, R: Wait + Drop> Hall<'a, N, R> {
+impl<'a, L: Posted, N: RoomName<L::Content>, R: Wait + Drop> Hall<'a, L, N, R> {
     /// The front of the submit of that turn, of which there is a record then.
     fn submits(
         &self,
-        session: &mut BoardSession<N>,
+        session: &mut Session<L, N>,
         record: &mut Record,
         turn: usize,
-    ) -> Option<Front<Board, N>> {
+    ) -> Option<Front<L, N>> {
         let writer = session.number();
         let count = 1 + turn.saturating_add(writer) % 5;
         let asked = edits(self.alloc, writer, record.replies.len(), count).ok()?;
@@ -80,7 +79,7 @@ impl<'a, N: RoomName<Board>, R: Wait + Drop> Hall<'a, N, R> {
     }
 
     /// The submit of that turn, whose front is put up.
-    fn writes(&self, session: &mut BoardSession<N>, record: &mut Record, turn: usize) {
+    fn writes(&self, session: &mut Session<L, N>, record: &mut Record, turn: usize) {
         match self.submits(session, record, turn) {
             Some(front) => self.notice.put_up(self.rt, front),
             None => record.fails(),
@@ -88,14 +87,14 @@ impl<'a, N: RoomName<Board>, R: Wait + Drop> Hall<'a, N, R> {
     }
 
     /// Hears the front that is put up.
-    fn hears(&self, session: &mut BoardSession<N>, record: &mut Record) {
+    fn hears(&self, session: &mut Session<L, N>, record: &mut Record) {
         if let Some(front) = self.notice.read(self.rt) {
             record.hears(session, &front);
         }
     }
 
     /// What a writer does. Each twelfth of its looks is kept.
-    fn writer(&self, mut session: BoardSession<N>, record: &mut Record) -> BoardSession<N> {
+    fn writer(&self, mut session: Session<L, N>, record: &mut Record) -> Session<L, N> {
         for turn in 0..TURNS {
             self.writes(&mut session, record, turn);
             self.hears(&mut session, record);
@@ -106,7 +105,7 @@ impl<'a, N: RoomName<Board>, R: Wait + Drop> Hall<'a, N, R> {
     }
 
     /// What a reader does until all writers have come to their end.
-    fn reader(&self, mut session: BoardSession<N>, record: &mut Record) -> BoardSession<N> {
+    fn reader(&self, mut session: Session<L, N>, record: &mut Record) -> Session<L, N> {
         for _ in 0..MOST_LOOKS {
             let over = self.notice.is_over();
             self.hears(&mut session, record);
@@ -122,12 +121,17 @@ impl<'a, N: RoomName<Board>, R: Wait + Drop> Hall<'a, N, R> {
 
 /// A session that is to run in a thread.
 #[derive(Drop)]
-pub struct Seat<'a, N: RoomName<Board>, R: Wait + Drop> {
-    pub hall: &'a Hall<'a, N, R>,
-    pub session: BoardSession<N>,
+pub struct Seat<'a, L: Posted, N: RoomName<L::Content>, R: Wait + Drop> {
+    pub hall: &'a Hall<'a, L, N, R>,
+    pub session: Session<L, N>,
 }
 
-impl<'a, N: RoomName<Board> + Send + Sync, R: Wait + Drop + Send + Sync> Job for Seat<'a, N, R> {
+impl<
+    'a,
+    L: Posted + Send + Sync,
+    N: RoomName<L::Content> + Send + Sync,
+    R: Wait + Drop + Send + Sync,
+> Job for Seat<'a, L, N, R> {
     type Told = Record;
 
     /// The record of the session, which goes with its thread.

@@ -2,13 +2,13 @@
 
 ghost use Rattle.std.specs.Prelude.{◌≡◌, ◌∷◌, []};
 
-use crate::sessions::boards::{BoardRoom, BoardSession, LIMITS, board};
+use crate::sessions::boards::{LIMITS, Posted, PostedRoom, board};
 use crate::sessions::jobs::run_all;
 use crate::sessions::judged::{Finding, judge};
 use crate::sessions::record::Record;
 use crate::sessions::seats::{Hall, Notice, Seat};
 use cq_board::Board;
-use cq_room::{Parts, Room, RoomName};
+use cq_room::{Parts, Room, RoomName, Session, Watched};
 use std::alloc::{AllocError, Global};
 use std::marker::Brand;
 use std::mem::drop;
@@ -16,10 +16,10 @@ use std::sync::Wait;
 use std::thread::Threads;
 
 /// A seat for each session.
-fn seats<'a, N: RoomName<Board>, R: Wait + Drop>(
-    hall: &'a Hall<'a, N, R>,
-    sessions: Vec<BoardSession<N>>,
-) -> Result<Vec<Seat<'a, N, R>>, AllocError> {
+fn seats<'a, L: Posted, N: RoomName<L::Content>, R: Wait + Drop>(
+    hall: &'a Hall<'a, L, N, R>,
+    sessions: Vec<Session<L, N>>,
+) -> Result<Vec<Seat<'a, L, N, R>>, AllocError> {
     let mut seats = Vec::new(hall.alloc);
     for session in sessions {
         seats.push(Seat { hall, session })?;
@@ -28,12 +28,17 @@ fn seats<'a, N: RoomName<Board>, R: Wait + Drop>(
 }
 
 /// The records of the sessions, each of which ran in a thread of its own.
-fn run_in<N: RoomName<Board> + Send + Sync, R: Wait + Drop + Send + Sync, T: Threads + Sync>(
+fn run_in<
+    L: Posted + Send + Sync,
+    N: RoomName<L::Content> + Send + Sync,
+    R: Wait + Drop + Send + Sync,
+    T: Threads + Sync,
+>(
     threads: &T,
     rt: &R,
     alloc: Global,
-    room: &BoardRoom<N, R>,
-    sessions: Vec<BoardSession<N>>,
+    room: &PostedRoom<L, N, R>,
+    sessions: Vec<Session<L, N>>,
 ) -> Result<Vec<Record>, AllocError> {
     let notice = Notice::empty();
     let hall = Hall {
@@ -46,12 +51,15 @@ fn run_in<N: RoomName<Board> + Send + Sync, R: Wait + Drop + Send + Sync, T: Thr
 }
 
 /// What is found where the room is closed.
-fn closes<N: RoomName<Board>, R: Wait + Drop>(
-    rt: &R,
+fn closes<L: Posted, N: RoomName<L::Content>, P: Watched<L, N>>(
+    rt: &P::Leave,
     alloc: Global,
-    room: BoardRoom<N, R>,
+    room: Room<L, N, P>,
     records: &[Record],
-) -> Finding {
+) -> Finding
+where
+    P::Leave: Wait,
+{
     let desk = room.close(rt, Vec::new(alloc));
     let finding = judge(alloc, desk.journal(), records);
     drop(desk);
