@@ -1,7 +1,8 @@
 //! Boards, and edits that are read from lines.
 
 use cq_atom::{Name, Value};
-use cq_board::{Board, Edit, EditKind, Limits};
+use cq_board::{Board, Edit, EditKind, Limits, Why};
+use cq_desk::Live;
 use cq_rel::Catalog;
 use cq_text::{CommandKind, Form, read_command};
 use std::alloc::{AllocError, Allocator};
@@ -67,13 +68,36 @@ pub fn board<A: Allocator + Copy>(
     Board::begin(alloc, catalog, Limits { pool, journal: 9 })
 }
 
-/// Whether the query is matched, with the flight 122 as its one grounding, or waits, with none.
-pub fn is_grounded(board: &Board, name: &Name, grounded: bool) -> bool {
-    board.is_matched(name) == Some(grounded)
-        && match board.groundings(name) {
-            Some(found) => {
-                found.has(&[Value::num(122)]) == grounded && found.count() == usize::from(grounded)
+/// What is asked of a board. What drives a desk or a room over one is generic in the state, since what is known of a desk
+/// or of a session over boards themselves would be too much.
+pub trait BoardLike: Live<Edit = Edit, Why = Why> {
+    /// How many queries are there.
+    fn queries(&self) -> usize;
+
+    /// How many rows the relation has.
+    fn rows(&self, relation: &str) -> Option<usize>;
+
+    /// Whether the query is matched, with the flight 122 as its one grounding, or waits, with none.
+    fn is_grounded(&self, name: &Name, grounded: bool) -> bool;
+}
+
+impl BoardLike for Board {
+    fn queries(&self) -> usize {
+        self.len()
+    }
+
+    fn rows(&self, relation: &str) -> Option<usize> {
+        self.tables().count(relation)
+    }
+
+    fn is_grounded(&self, name: &Name, grounded: bool) -> bool {
+        self.is_matched(name) == Some(grounded)
+            && match self.groundings(name) {
+                Some(found) => {
+                    found.has(&[Value::num(122)]) == grounded
+                        && found.count() == usize::from(grounded)
+                }
+                None => false,
             }
-            None => false,
-        }
+    }
 }

@@ -13,7 +13,7 @@ pub struct Tally<A: Allocator = Global> {
 }
 
 /// There are three bytes.
-#[derive(Clone, Copy, Debug, PartialEq, Eq)]
+#[derive(Clone, Copy, PartialEq, Eq)]
 pub struct Full;
 
 impl<A: Allocator + Copy> Tally<A> {

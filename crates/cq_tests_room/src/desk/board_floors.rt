@@ -1,12 +1,10 @@
 //! Floors over a board.
 
-use crate::lines::{ANSWER, ASKED, FLIGHTS, NO_PARIS, PARIS, ROME, board, edit, is_grounded};
+use crate::lines::{ANSWER, ASKED, BoardLike, FLIGHTS, NO_PARIS, PARIS, ROME, board, edit};
 use cq_atom::Name;
 use cq_board::{Board, Edit, Why};
 use cq_desk::{Answer, Event, Floor, FloorFault, StepFault, looks_never_fall};
 use std::alloc::{AllocError, Global};
-
-type BoardFloor = Floor<Board, Global>;
 
 /// What is done on a floor.
 #[derive(Clone, Copy)]
@@ -30,7 +28,7 @@ fn floor(
     relations: &[(&str, usize)],
     pool: usize,
     journal: usize,
-) -> Result<BoardFloor, FloorFault> {
+) -> Result<Floor<Board>, FloorFault> {
     Floor::begin(alloc, board(alloc, relations, pool)?, journal, 1)
 }
 
@@ -46,7 +44,7 @@ fn event(alloc: Global, turn: Turn) -> Result<Event<Edit>, AllocError> {
     }
 }
 
-fn told(alloc: Global, floor: &mut BoardFloor, turn: Turn) -> Told {
+fn told<L: BoardLike>(alloc: Global, floor: &mut Floor<L>, turn: Turn) -> Told {
     match event(alloc, turn) {
         Ok(event) => floor.step(event),
         Err(_) => Err(StepFault::NoMemory),
@@ -54,7 +52,7 @@ fn told(alloc: Global, floor: &mut BoardFloor, turn: Turn) -> Told {
 }
 
 /// The place of the first step that is answered otherwise.
-fn other_step(alloc: Global, floor: &mut BoardFloor, steps: &[Step]) -> Option<usize> {
+fn other_step<L: BoardLike>(alloc: Global, floor: &mut Floor<L>, steps: &[Step]) -> Option<usize> {
     for (place, (turn, wanted)) in steps.iter().enumerate() {
         if told(alloc, floor, *turn) != *wanted {
             return Some(place);
@@ -117,7 +115,7 @@ fn limits(rt: HostRuntime) {
 }
 
 /// The working board and the published one, and looks by their own call.
-fn shows_boards(alloc: Global, floor: &mut BoardFloor) -> bool {
+fn shows_boards(alloc: Global, floor: &mut Floor<Board>) -> bool {
     other_step(alloc, floor, &STEPS[1..2]).is_none()
         && floor.working_board().len() == 1
         && floor.published_board().len() == 0
@@ -153,11 +151,11 @@ const FLIGHT_GONE: [Step; 2] = [
     (Turn::Look(0), Ok(Answer::Looked(4))),
 ];
 
-fn publishes_groundings(alloc: Global, floor: &mut BoardFloor, name: &Name) -> bool {
+fn publishes_groundings<L: BoardLike>(alloc: Global, floor: &mut Floor<L>, name: &Name) -> bool {
     other_step(alloc, floor, FLIGHT_GOES.as_slice()).is_none()
-        && is_grounded(floor.board(), name, true)
+        && floor.board().is_grounded(name, true)
         && other_step(alloc, floor, FLIGHT_GONE.as_slice()).is_none()
-        && is_grounded(floor.board(), name, false)
+        && floor.board().is_grounded(name, false)
 }
 
 #[test]

@@ -1,21 +1,21 @@
 //! Desks over a board.
 
-use crate::lines::{ASKED, FLIGHTS, NO_PARIS, PARIS, ROME, board, edits, is_grounded};
+use crate::lines::{ASKED, BoardLike, FLIGHTS, NO_PARIS, PARIS, ROME, board, edits};
 use cq_atom::Name;
 use cq_board::{Board, Why};
 use cq_desk::{Desk, End, NoMemory, Plain, Reply};
 use std::alloc::Global;
 
-type BoardDesk = Desk<Board, Plain<Board>>;
+type BoardDesk<L> = Desk<L, Plain<L>>;
 
-fn over(alloc: Global, board: Board) -> Result<BoardDesk, NoMemory> {
-    let working = board.copy()?;
-    let publisher = Plain::begin(alloc, board)?;
+fn over<L: BoardLike>(alloc: Global, state: L) -> Result<BoardDesk<L>, NoMemory> {
+    let working = state.copy()?;
+    let publisher = Plain::begin(alloc, state)?;
     Ok(Desk::begin(alloc, working, publisher, 9))
 }
 
 /// A desk over a board with these relations, for two queries.
-fn desk(alloc: Global, relations: &[(&str, usize)]) -> Result<BoardDesk, NoMemory> {
+fn desk(alloc: Global, relations: &[(&str, usize)]) -> Result<BoardDesk<Board>, NoMemory> {
     over(alloc, board(alloc, relations, 2)?)
 }
 
@@ -44,15 +44,18 @@ const GOES: Asked = (
 );
 
 /// Whether a submit of the lines is answered so.
-fn submits(alloc: Global, desk: &mut BoardDesk, asked: Asked) -> Result<bool, NoMemory> {
+fn submits<L: BoardLike>(
+    alloc: Global,
+    desk: &mut BoardDesk<L>,
+    asked: Asked,
+) -> Result<bool, NoMemory> {
     let (lines, replies, count) = asked;
     let submitted = desk.submit(0, edits(alloc, lines)?, &())?;
     Ok(submitted.replies.as_slice() == replies && submitted.end == End::Published(count))
 }
 
-fn have_two_rows(desk: &BoardDesk) -> bool {
-    desk.working().tables().count("R") == Some(2)
-        && desk.publisher().published().tables().count("R") == Some(2)
+fn have_two_rows<L: BoardLike>(desk: &BoardDesk<L>) -> bool {
+    desk.working().rows("R") == Some(2) && desk.publisher().published().rows("R") == Some(2)
 }
 
 #[test]
@@ -67,12 +70,16 @@ fn refused_edit_in_the_middle(rt: HostRuntime) {
 }
 
 /// Whether the published board has the query grounded or not.
-fn shows(desk: &BoardDesk, name: &Name, grounded: bool) -> bool {
-    is_grounded(desk.publisher().published(), name, grounded)
+fn shows<L: BoardLike>(desk: &BoardDesk<L>, name: &Name, grounded: bool) -> bool {
+    desk.publisher().published().is_grounded(name, grounded)
 }
 
 /// The look before shows the flight as a grounding, and the look behind shows none.
-fn moves_the_flight(alloc: Global, desk: &mut BoardDesk, name: &Name) -> Result<bool, NoMemory> {
+fn moves_the_flight<L: BoardLike>(
+    alloc: Global,
+    desk: &mut BoardDesk<L>,
+    name: &Name,
+) -> Result<bool, NoMemory> {
     Ok(
         submits(alloc, desk, COMES)?
             && shows(desk, name, true)

@@ -2,7 +2,7 @@
 
 use crate::desk::growths::is_borne;
 use crate::tally::{Full, Tally};
-use cq_desk::{Answer, Event, Floor, FloorFault, NoMemory, StepFault};
+use cq_desk::{Answer, Event, Floor, FloorFault, Live, NoMemory, StepFault};
 use cq_tests_growths::{Outcome, Tried, refusals};
 use std::alloc::{Allocator, Global};
 
@@ -55,7 +55,10 @@ fn event(turn: Turn) -> Event<u8> {
 type Asked = (Turn, Told);
 
 /// The place of the first that is answered otherwise.
-fn other_answer(floor: &mut TallyFloor, asked: &[Asked]) -> Option<usize> {
+fn other_answer<L: Live<Edit = u8, Why = Full>>(
+    floor: &mut Floor<L>,
+    asked: &[Asked],
+) -> Option<usize> {
     for (place, (turn, wanted)) in asked.iter().enumerate() {
         if floor.step(event(*turn)) != *wanted {
             return Some(place);
@@ -77,7 +80,7 @@ fn stands<A: Allocator + Copy>(floor: &TallyFloor<A>, working: &[u8], published:
 }
 
 /// Whether the two sessions have seen so many entries.
-fn have_seen(floor: &TallyFloor, first: u64, second: u64) -> bool {
+fn have_seen<L: Live>(floor: &Floor<L>, first: u64, second: u64) -> bool {
     floor.seen(0) == Some(first) && floor.seen(1) == Some(second) && floor.seen(2).is_none()
 }
 

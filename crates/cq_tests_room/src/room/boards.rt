@@ -1,15 +1,13 @@
 //! Rooms over a board.
 
-use crate::lines::{board, edits};
+use crate::lines::{BoardLike, board, edits};
 use cq_board::{Board, Why};
 use cq_desk::{End, Reply};
 use cq_room::{Front, Pair, Parts, Receipt, Room, RoomName, Session};
 use std::alloc::Global;
 use std::sync::Wait;
 
-pub type BoardRoom<N, R> = Room<Board, N, Pair<Board, N, R>>;
-
-pub type BoardSession<N> = Session<Board, N>;
+pub type BoardRoom<L, N, R> = Room<L, N, Pair<L, N, R>>;
 
 /// The parts of a room for two sessions, over a board with these relations that may hold nine queries.
 pub fn opened<R: Wait + Drop>(
@@ -22,11 +20,11 @@ pub fn opened<R: Wait + Drop>(
 }
 
 /// The front, where these are the replies and so many entries are published.
-pub fn published<N: RoomName<Board>>(
-    receipt: Receipt<Board, N>,
+pub fn published<L: BoardLike, N: RoomName<L::Content>>(
+    receipt: Receipt<L, N>,
     replies: &[Reply<Why>],
     count: u64,
-) -> Option<Front<Board, N>> {
+) -> Option<Front<L, N>> {
     let Receipt { submitted, front } = receipt;
     let front = front?;
     if submitted.replies.as_slice() == replies
@@ -40,28 +38,28 @@ pub fn published<N: RoomName<Board>>(
 }
 
 /// The front of a submit of the lines, where it has these replies and so many entries are published.
-pub fn submits<N: RoomName<Board>, R: Wait + Drop>(
+pub fn submits<L: BoardLike, N: RoomName<L::Content>, R: Wait + Drop>(
     rt: &R,
     alloc: Global,
-    room: &BoardRoom<N, R>,
-    session: &mut BoardSession<N>,
+    room: &BoardRoom<L, N, R>,
+    session: &mut Session<L, N>,
     lines: &[&str],
     replies: &[Reply<Why>],
     count: u64,
-) -> Option<Front<Board, N>> {
+) -> Option<Front<L, N>> {
     let asked = edits(alloc, lines).ok()?;
     let receipt = session.submit(rt, room, asked).ok()?;
     published(receipt, replies, count)
 }
 
 /// The session after a look that so many entries left, in which so many queries are pending.
-pub fn looks<N: RoomName<Board>>(
-    session: BoardSession<N>,
+pub fn looks<L: BoardLike, N: RoomName<L::Content>>(
+    session: Session<L, N>,
     count: u64,
     pending: usize,
-) -> Option<BoardSession<N>> {
+) -> Option<Session<L, N>> {
     let look = session.watch().ok()?;
-    if look.count() != count || look.state().len() != pending {
+    if look.count() != count || look.state().queries() != pending {
         return None;
     }
     Some(look.leave())

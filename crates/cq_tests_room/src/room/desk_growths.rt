@@ -3,11 +3,11 @@
 ghost use Rattle.std.specs.Prelude.{◌≡◌, ◌∷◌, []};
 
 use crate::room::grown::{Grown, both_edits};
-use crate::room::growths::{are_stopped_behind, parts_of, sees};
+use crate::room::growths::{are_stopped_behind, is_of_nothing, parts_of, sees};
 use crate::room::met::{Attempt, Counts, Met, counted, met_by};
 use crate::tally::Tally;
 use cq_board::Board;
-use cq_desk::{Desk, End, Refused};
+use cq_desk::{Desk, Refused};
 use cq_room::{Pair, Parts, RoomFault, RoomName, Session, Watched};
 use std::alloc::Allocator;
 use std::marker::Brand;
@@ -50,19 +50,24 @@ fn shows<L: Grown<A>, N: RoomName<L::Content>, R: Wait + Drop, A: Allocator + Co
     }
 }
 
+/// What an answer to the edit of that number means.
+fn entered<W: Drop>(answer: Result<u64, Refused<W>>, number: u64) -> Met {
+    match answer {
+        Ok(entry) => Met::Nothing.if_right(entry == number),
+        Err(Refused::NoMemory) => Met::Enter,
+        Err(_) => Met::Wrong,
+    }
+}
+
 /// What comes of entering the edit of that number.
 fn enters<L: Grown<A>, N: RoomName<L::Content>, R: Wait + Drop, A: Allocator + Copy>(
     alloc: A,
     desk: &mut GrowingDesk<L, N, R, A>,
     number: u64,
 ) -> Met {
-    let Some(edit) = L::edit(alloc, number) else {
-        return Met::Setup;
-    };
-    match desk.enter(0, edit) {
-        Ok(entry) => Met::Nothing.if_right(entry == number),
-        Err(Refused::NoMemory) => Met::Enter,
-        Err(_) => Met::Wrong,
+    match L::edit(alloc, number) {
+        Some(edit) => entered(desk.enter(0, edit), number),
+        None => Met::Setup,
     }
 }
 
@@ -115,9 +120,7 @@ fn submits_nothing<L: Grown<A>, N: RoomName<L::Content>, R: Wait + Drop, A: Allo
     entries: u64,
 ) -> bool {
     match desk.submit(0, Vec::new(alloc), rt) {
-        Ok(submitted) => {
-            submitted.replies.is_empty() && submitted.end == End::Published(entries)
-        }
+        Ok(submitted) => is_of_nothing(&submitted, entries),
         Err(_) => false,
     }
 }
@@ -225,6 +228,15 @@ fn attempted<L: Grown<A>, R: Wait + Drop + Copy, A: Allocator + Copy>(
     }
 }
 
+/// The calls on a desk over a board, whose edits post queries.
+fn attempted_on_board<R: Wait + Drop + Copy, A: Allocator + Copy>(
+    rt: R,
+    alloc: A,
+    calls: Calls,
+) -> Met {
+    attempted::<Board<A>, R, A>(rt, alloc, calls)
+}
+
 /// Two bytes are entered and published.
 struct EnteredBytes;
 
@@ -248,7 +260,7 @@ struct EnteredQueries;
 
 impl Attempt for EnteredQueries {
     fn attempt<R: Wait + Drop + Copy, A: Allocator + Copy>(rt: R, alloc: A) -> Met {
-        attempted::<Board<A>, R, A>(rt, alloc, Calls::EnterAndPublish)
+        attempted_on_board(rt, alloc, Calls::EnterAndPublish)
     }
 }
 
@@ -257,7 +269,7 @@ struct SubmittedQueries;
 
 impl Attempt for SubmittedQueries {
     fn attempt<R: Wait + Drop + Copy, A: Allocator + Copy>(rt: R, alloc: A) -> Met {
-        attempted::<Board<A>, R, A>(rt, alloc, Calls::Submit)
+        attempted_on_board(rt, alloc, Calls::Submit)
     }
 }
 

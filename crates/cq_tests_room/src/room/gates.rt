@@ -2,12 +2,12 @@
 
 ghost use Rattle.std.specs.Prelude.{◌≡◌, ◌∷◌, []};
 
-use crate::lines::{ANSWER, edits};
-use crate::room::boards::{BoardRoom, BoardSession, looks, opened, published};
+use crate::lines::{ANSWER, BoardLike, edits};
+use crate::room::boards::{BoardRoom, looks, opened, published};
 use crate::room::jobs::{Job, both};
 use cq_board::Board;
 use cq_desk::Reply;
-use cq_room::{Front, Gate, Parts, RoomName};
+use cq_room::{Front, Gate, Parts, RoomName, Session};
 use std::alloc::Global;
 use std::hint::spin_loop;
 use std::marker::Brand;
@@ -57,31 +57,36 @@ impl Gate for Held {
 
 /// The first session posts past the gate.
 #[derive(Drop)]
-struct Posting<'a, N: RoomName<Board>, R: Wait + Drop> {
+struct Posting<'a, L: BoardLike, N: RoomName<L::Content>, R: Wait + Drop> {
     rt: &'a R,
     alloc: Global,
-    room: &'a BoardRoom<N, R>,
-    first: BoardSession<N>,
+    room: &'a BoardRoom<L, N, R>,
+    first: Session<L, N>,
     gate: &'a Held,
 }
 
 /// The front of the posting of `a` past the gate.
-fn posts_past<N: RoomName<Board>, R: Wait + Drop>(
+fn posts_past<L: BoardLike, N: RoomName<L::Content>, R: Wait + Drop>(
     rt: &R,
     alloc: Global,
-    room: &BoardRoom<N, R>,
-    session: &mut BoardSession<N>,
+    room: &BoardRoom<L, N, R>,
+    session: &mut Session<L, N>,
     gate: &Held,
-) -> Option<Front<Board, N>> {
+) -> Option<Front<L, N>> {
     let asked = edits(alloc, &[ANSWER]).ok()?;
     let receipt = session.submit_past(rt, room, asked, gate).ok()?;
     published(receipt, &[Reply::Entered(1)], 1)
 }
 
-impl<'a, N: RoomName<Board> + Send + Sync, R: Wait + Drop + Send + Sync> Job for Posting<'a, N, R> {
-    type Told = Option<Front<Board, N>>;
+impl<
+    'a,
+    L: BoardLike + Send + Sync,
+    N: RoomName<L::Content> + Send + Sync,
+    R: Wait + Drop + Send + Sync,
+> Job for Posting<'a, L, N, R> {
+    type Told = Option<Front<L, N>>;
 
-    fn run(self) -> Option<Front<Board, N>> {
+    fn run(self) -> Option<Front<L, N>> {
         let Posting {
             rt,
             alloc,
@@ -95,24 +100,29 @@ impl<'a, N: RoomName<Board> + Send + Sync, R: Wait + Drop + Send + Sync> Job for
 
 /// The second session looks while the gate holds, and opens it. It is taken from its seat for the look.
 #[derive(Drop)]
-struct Looking<'a, N: RoomName<Board>, R: Wait + Drop> {
+struct Looking<'a, L: BoardLike, N: RoomName<L::Content>, R: Wait + Drop> {
     rt: &'a R,
-    seat: &'a Mutex<Option<BoardSession<N>>>,
+    seat: &'a Mutex<Option<Session<L, N>>>,
     gate: &'a Held,
 }
 
 /// The session after a look while the gate holds. The gate opens then.
-fn looks_meanwhile<N: RoomName<Board>>(
-    session: BoardSession<N>,
+fn looks_meanwhile<L: BoardLike, N: RoomName<L::Content>>(
+    session: Session<L, N>,
     gate: &Held,
-) -> Option<BoardSession<N>> {
+) -> Option<Session<L, N>> {
     let reached = is_told(&gate.reached);
     let session = looks(session, 0, 0);
     gate.open.store(reached, Ordering::SeqCst);
     session
 }
 
-impl<'a, N: RoomName<Board> + Send + Sync, R: Wait + Drop + Send + Sync> Job for Looking<'a, N, R> {
+impl<
+    'a,
+    L: BoardLike + Send + Sync,
+    N: RoomName<L::Content> + Send + Sync,
+    R: Wait + Drop + Send + Sync,
+> Job for Looking<'a, L, N, R> {
     type Told = ();
 
     fn run(self) {
@@ -127,31 +137,41 @@ impl<'a, N: RoomName<Board> + Send + Sync, R: Wait + Drop + Send + Sync> Job for
 
 /// The front of the posting, beside another job. That one stands as a parameter, since two types that hold a session are
 /// more than the check of one call takes.
-fn posts_beside<N: RoomName<Board> + Send + Sync, R: Wait + Drop + Send + Sync, J: Job, T: Threads>(
-    threads: &T,
-    posting: Posting<'_, N, R>,
-    other: J,
-) -> Option<Front<Board, N>> {
+fn posts_beside<
+    L: BoardLike + Send + Sync,
+    N: RoomName<L::Content> + Send + Sync,
+    R: Wait + Drop + Send + Sync,
+    J: Job,
+    T: Threads,
+>(threads: &T, posting: Posting<'_, L, N, R>, other: J) -> Option<Front<L, N>> {
     let (front, _) = both(threads, posting, other);
     front
 }
 
 /// Whether the second session sees what the first one posted, once it has heard of it.
-fn sees<N: RoomName<Board>>(mut session: BoardSession<N>, front: &Front<Board, N>) -> bool {
+fn sees<L: BoardLike, N: RoomName<L::Content>>(
+    mut session: Session<L, N>,
+    front: &Front<L, N>,
+) -> bool {
     session.hear(front);
     looks(session, 1, 1).is_some()
 }
 
 /// The front of the first session's posting, where the second one looks from its seat.
-fn run_both<N: RoomName<Board> + Send + Sync, R: Wait + Drop + Send + Sync, T: Threads>(
+fn run_both<
+    L: BoardLike + Send + Sync,
+    N: RoomName<L::Content> + Send + Sync,
+    R: Wait + Drop + Send + Sync,
+    T: Threads,
+>(
     threads: &T,
     rt: &R,
     alloc: Global,
-    room: &BoardRoom<N, R>,
-    first: BoardSession<N>,
-    seat: &Mutex<Option<BoardSession<N>>>,
+    room: &BoardRoom<L, N, R>,
+    first: Session<L, N>,
+    seat: &Mutex<Option<Session<L, N>>>,
     gate: &Held,
-) -> Option<Front<Board, N>> {
+) -> Option<Front<L, N>> {
     let looking = Looking { rt, seat, gate };
     let posting = Posting {
         rt,
@@ -164,12 +184,17 @@ fn run_both<N: RoomName<Board> + Send + Sync, R: Wait + Drop + Send + Sync, T: T
 }
 
 /// Whether the second session opened the gate, and saw nothing before it opened.
-fn watches_in<N: RoomName<Board> + Send + Sync, R: Wait + Drop + Send + Sync, T: Threads>(
+fn watches_in<
+    L: BoardLike + Send + Sync,
+    N: RoomName<L::Content> + Send + Sync,
+    R: Wait + Drop + Send + Sync,
+    T: Threads,
+>(
     threads: &T,
     rt: &R,
     alloc: Global,
-    room: &BoardRoom<N, R>,
-    sessions: &mut Vec<BoardSession<N>>,
+    room: &BoardRoom<L, N, R>,
+    sessions: &mut Vec<Session<L, N>>,
 ) -> Option<bool> {
     let second = sessions.pop()?;
     let first = sessions.pop()?;
@@ -180,12 +205,12 @@ fn watches_in<N: RoomName<Board> + Send + Sync, R: Wait + Drop + Send + Sync, T:
     Some(sees(second, &front) && gate.passed.load(Ordering::SeqCst))
 }
 
-fn watches<N: RoomName<Board> + Send + Sync, R: Wait + Drop + Send + Sync, T: Threads>(
-    threads: &T,
-    rt: &R,
-    alloc: Global,
-    parts: Parts<Board, R>,
-) -> Option<bool>
+fn watches<
+    L: BoardLike + Send + Sync,
+    N: RoomName<L::Content> + Send + Sync,
+    R: Wait + Drop + Send + Sync,
+    T: Threads,
+>(threads: &T, rt: &R, alloc: Global, parts: Parts<L, R>) -> Option<bool>
     requires book { parts.book ≡ N.book }
     requires opening { N.opening ≡ parts.opening ∷ [] }
     requires limit { N.limit ≡ parts.limit }
@@ -199,7 +224,7 @@ fn watch_past_a_gate(rt: HostRuntime) {
     let handle = &rt;
     match opened(handle, rt.alloc(), &[]) {
         Some(parts) => {
-            let passed = watches::<Brand, _, _>(&rt, &handle, rt.alloc(), parts);
+            let passed = watches::<Board, Brand, _, _>(&rt, &handle, rt.alloc(), parts);
             assert!(rt; passed == Some(true));
         }
         None => assert!(rt; false),

@@ -2,53 +2,53 @@
 
 ghost use Rattle.std.specs.Prelude.{◌≡◌, ◌∷◌, []};
 
-use crate::lines::{ASKED, FLIGHTS, NO_PARIS, PARIS, ROME, is_grounded};
-use crate::room::boards::{BoardRoom, BoardSession, opened, submits};
+use crate::lines::{ASKED, BoardLike, FLIGHTS, NO_PARIS, PARIS, ROME};
+use crate::room::boards::{BoardRoom, opened, submits};
 use cq_atom::Name;
 use cq_board::Board;
 use cq_desk::Reply;
-use cq_room::{Parts, RoomName};
+use cq_room::{Parts, RoomName, Session};
 use std::alloc::Global;
 use std::marker::Brand;
 use std::sync::Wait;
 
 /// The session after a look that so many entries left, in which the query is grounded or not.
-fn sees<N: RoomName<Board>>(
-    session: BoardSession<N>,
+fn sees<L: BoardLike, N: RoomName<L::Content>>(
+    session: Session<L, N>,
     name: &Name,
     count: u64,
     grounded: bool,
-) -> Option<BoardSession<N>> {
+) -> Option<Session<L, N>> {
     let look = session.watch().ok()?;
-    if look.count() != count || !is_grounded(look.state(), name, grounded) {
+    if look.count() != count || !look.state().is_grounded(name, grounded) {
         return None;
     }
     Some(look.leave())
 }
 
 /// A flight to Paris comes, and a query for one. The look behind shows the flight as a grounding.
-fn asks<N: RoomName<Board>, R: Wait + Drop>(
+fn asks<L: BoardLike, N: RoomName<L::Content>, R: Wait + Drop>(
     rt: &R,
     alloc: Global,
-    room: &BoardRoom<N, R>,
-    first: &mut BoardSession<N>,
-    second: BoardSession<N>,
+    room: &BoardRoom<L, N, R>,
+    first: &mut Session<L, N>,
+    second: Session<L, N>,
     name: &Name,
-) -> Option<BoardSession<N>> {
+) -> Option<Session<L, N>> {
     let entered = [Reply::Entered(1), Reply::Entered(2)];
     submits(rt, alloc, room, first, &[PARIS, ASKED], &entered, 2)?;
     sees(second, name, 2, true)
 }
 
 /// Then the flight goes to Rome. The looks behind that, before and after the front is heard, show no grounding.
-fn moves_the_flight<N: RoomName<Board>, R: Wait + Drop>(
+fn moves_the_flight<L: BoardLike, N: RoomName<L::Content>, R: Wait + Drop>(
     rt: &R,
     alloc: Global,
-    room: &BoardRoom<N, R>,
-    first: &mut BoardSession<N>,
-    second: BoardSession<N>,
+    room: &BoardRoom<L, N, R>,
+    first: &mut Session<L, N>,
+    second: Session<L, N>,
     name: &Name,
-) -> Option<BoardSession<N>> {
+) -> Option<Session<L, N>> {
     let moved = [Reply::Entered(3), Reply::Entered(4)];
     let second = asks(rt, alloc, room, first, second, name)?;
     let front = submits(rt, alloc, room, first, &[NO_PARIS, ROME], &moved, 4)?;
@@ -58,11 +58,11 @@ fn moves_the_flight<N: RoomName<Board>, R: Wait + Drop>(
 }
 
 /// How many entries the second session has seen at the end.
-fn moves_in<N: RoomName<Board>, R: Wait + Drop>(
+fn moves_in<L: BoardLike, N: RoomName<L::Content>, R: Wait + Drop>(
     rt: &R,
     alloc: Global,
-    room: &BoardRoom<N, R>,
-    sessions: &mut Vec<BoardSession<N>>,
+    room: &BoardRoom<L, N, R>,
+    sessions: &mut Vec<Session<L, N>>,
     name: &Name,
 ) -> Option<u64> {
     let second = sessions.pop()?;
@@ -71,10 +71,10 @@ fn moves_in<N: RoomName<Board>, R: Wait + Drop>(
     Some(second.seen())
 }
 
-fn moves<N: RoomName<Board>, R: Wait + Drop>(
+fn moves<L: BoardLike, N: RoomName<L::Content>, R: Wait + Drop>(
     rt: &R,
     alloc: Global,
-    parts: Parts<Board, R>,
+    parts: Parts<L, R>,
     name: &Name,
 ) -> Option<u64>
     requires book { parts.book ≡ N.book }
@@ -93,7 +93,7 @@ fn published_groundings(rt: HostRuntime) {
         Name::new(rt.alloc(), "k"),
     ) {
         (Some(parts), Ok(name)) => {
-            let seen = moves::<Brand, _>(&handle, rt.alloc(), parts, &name);
+            let seen = moves::<Board, Brand, _>(&handle, rt.alloc(), parts, &name);
             assert!(rt; seen == Some(4));
         }
         _ => assert!(rt; false),

@@ -7,7 +7,7 @@ use crate::room::grown::{Grown, both_edits};
 use crate::room::met::{Attempt, Counts, Met, counted, met_by};
 use crate::tally::Tally;
 use cq_board::Board;
-use cq_desk::End;
+use cq_desk::{End, Submitted};
 use cq_room::{Front, Pair, Parts, Receipt, Room, RoomFault, RoomName, Session};
 use std::alloc::Allocator;
 use std::marker::Brand;
@@ -54,7 +54,26 @@ pub fn sees<L: Grown<A>, N: RoomName<L::Content>, A: Allocator + Copy>(
     Some(look.leave())
 }
 
+/// Whether an empty submit is published, with so many entries.
+pub fn is_of_nothing<W, A: Allocator>(submitted: &Submitted<W, A>, entries: u64) -> bool {
+    submitted.replies.is_empty() && submitted.end == End::Published(entries)
+}
+
 /// The front of an empty submit, by which so many entries are published.
+fn front_of<L: Grown<A>, N: RoomName<L::Content>, A: Allocator + Copy>(
+    receipt: Receipt<L, N, A>,
+    entries: u64,
+) -> Option<Front<L, N>> {
+    let Receipt { submitted, front } = receipt;
+    let front = front?;
+    if is_of_nothing(&submitted, entries) && front.count() == entries {
+        Some(front)
+    } else {
+        None
+    }
+}
+
+/// The front of an empty submit of the session.
 fn publishes<L: Grown<A>, N: RoomName<L::Content>, R: Wait + Drop, A: Allocator + Copy>(
     rt: &R,
     alloc: A,
@@ -63,16 +82,7 @@ fn publishes<L: Grown<A>, N: RoomName<L::Content>, R: Wait + Drop, A: Allocator 
     entries: u64,
 ) -> Option<Front<L, N>> {
     let receipt = session.submit(rt, room, Vec::new(alloc)).ok()?;
-    let Receipt { submitted, front } = receipt;
-    let front = front?;
-    if submitted.replies.is_empty()
-        && submitted.end == End::Published(entries)
-        && front.count() == entries
-    {
-        Some(front)
-    } else {
-        None
-    }
+    front_of(receipt, entries)
 }
 
 /// The second session, which sees nothing of a submit that was refused a growth, and the front of its empty submit, which

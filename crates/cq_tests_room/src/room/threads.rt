@@ -2,12 +2,12 @@
 
 ghost use Rattle.std.specs.Prelude.{◌≡◌, ◌∷◌, []};
 
-use crate::lines::ANSWER;
-use crate::room::boards::{BoardRoom, BoardSession, looks, opened, submits};
+use crate::lines::{ANSWER, BoardLike};
+use crate::room::boards::{BoardRoom, looks, opened, submits};
 use crate::room::jobs::{Idle, Job, both};
 use cq_board::{Board, Why};
 use cq_desk::Reply;
-use cq_room::{Front, Parts, RoomName};
+use cq_room::{Front, Parts, RoomName, Session};
 use std::alloc::Global;
 use std::marker::Brand;
 use std::sync::Wait;
@@ -15,17 +15,22 @@ use std::thread::Threads;
 
 /// The first session posts.
 #[derive(Drop)]
-struct Posting<'a, N: RoomName<Board>, R: Wait + Drop> {
+struct Posting<'a, L: BoardLike, N: RoomName<L::Content>, R: Wait + Drop> {
     rt: &'a R,
     alloc: Global,
-    room: &'a BoardRoom<N, R>,
-    first: BoardSession<N>,
+    room: &'a BoardRoom<L, N, R>,
+    first: Session<L, N>,
 }
 
-impl<'a, N: RoomName<Board> + Send + Sync, R: Wait + Drop + Send + Sync> Job for Posting<'a, N, R> {
-    type Told = Option<Front<Board, N>>;
+impl<
+    'a,
+    L: BoardLike + Send + Sync,
+    N: RoomName<L::Content> + Send + Sync,
+    R: Wait + Drop + Send + Sync,
+> Job for Posting<'a, L, N, R> {
+    type Told = Option<Front<L, N>>;
 
-    fn run(self) -> Option<Front<Board, N>> {
+    fn run(self) -> Option<Front<L, N>> {
         let Posting {
             rt,
             alloc,
@@ -45,13 +50,13 @@ impl<'a, N: RoomName<Board> + Send + Sync, R: Wait + Drop + Send + Sync> Job for
 }
 
 /// The second session looks before it hears the front and afterwards, and then submits nothing.
-fn sees_and_hears<N: RoomName<Board>, R: Wait + Drop>(
+fn sees_and_hears<L: BoardLike, N: RoomName<L::Content>, R: Wait + Drop>(
     rt: &R,
     alloc: Global,
-    room: &BoardRoom<N, R>,
-    second: BoardSession<N>,
-    front: &Front<Board, N>,
-) -> Option<Front<Board, N>> {
+    room: &BoardRoom<L, N, R>,
+    second: Session<L, N>,
+    front: &Front<L, N>,
+) -> Option<Front<L, N>> {
     let mut second = looks(second, 1, 1)?;
     second.hear(front);
     let mut second = looks(second, 1, 1)?;
@@ -59,24 +64,29 @@ fn sees_and_hears<N: RoomName<Board>, R: Wait + Drop>(
 }
 
 /// The second session posts the same query before it has seen or heard of anything.
-fn posts_again<N: RoomName<Board>, R: Wait + Drop>(
+fn posts_again<L: BoardLike, N: RoomName<L::Content>, R: Wait + Drop>(
     rt: &R,
     alloc: Global,
-    room: &BoardRoom<N, R>,
-    mut second: BoardSession<N>,
-) -> Option<Front<Board, N>> {
+    room: &BoardRoom<L, N, R>,
+    mut second: Session<L, N>,
+) -> Option<Front<L, N>> {
     let taken = [Reply::Not(Why::NameTaken)];
     submits(rt, alloc, room, &mut second, &[ANSWER], &taken, 1)
 }
 
 /// The front of the first session's posting, in a thread.
-fn posts<N: RoomName<Board> + Send + Sync, R: Wait + Drop + Send + Sync, T: Threads>(
+fn posts<
+    L: BoardLike + Send + Sync,
+    N: RoomName<L::Content> + Send + Sync,
+    R: Wait + Drop + Send + Sync,
+    T: Threads,
+>(
     threads: &T,
     rt: &R,
     alloc: Global,
-    room: &BoardRoom<N, R>,
-    first: BoardSession<N>,
-) -> Option<Front<Board, N>> {
+    room: &BoardRoom<L, N, R>,
+    first: Session<L, N>,
+) -> Option<Front<L, N>> {
     let posting = Posting {
         rt,
         alloc,
@@ -88,14 +98,14 @@ fn posts<N: RoomName<Board> + Send + Sync, R: Wait + Drop + Send + Sync, T: Thre
 }
 
 /// The front of what the second session does then.
-fn answers<N: RoomName<Board>, R: Wait + Drop>(
+fn answers<L: BoardLike, N: RoomName<L::Content>, R: Wait + Drop>(
     rt: &R,
     alloc: Global,
-    room: &BoardRoom<N, R>,
-    second: BoardSession<N>,
-    front: &Front<Board, N>,
+    room: &BoardRoom<L, N, R>,
+    second: Session<L, N>,
+    front: &Front<L, N>,
     again: bool,
-) -> Option<Front<Board, N>> {
+) -> Option<Front<L, N>> {
     if again {
         posts_again(rt, alloc, room, second)
     } else {
@@ -104,12 +114,17 @@ fn answers<N: RoomName<Board>, R: Wait + Drop>(
 }
 
 /// How many entries the second session is told of at the end.
-fn told_in<N: RoomName<Board> + Send + Sync, R: Wait + Drop + Send + Sync, T: Threads>(
+fn told_in<
+    L: BoardLike + Send + Sync,
+    N: RoomName<L::Content> + Send + Sync,
+    R: Wait + Drop + Send + Sync,
+    T: Threads,
+>(
     threads: &T,
     rt: &R,
     alloc: Global,
-    room: &BoardRoom<N, R>,
-    sessions: &mut Vec<BoardSession<N>>,
+    room: &BoardRoom<L, N, R>,
+    sessions: &mut Vec<Session<L, N>>,
     again: bool,
 ) -> Option<u64> {
     let second = sessions.pop()?;
@@ -119,13 +134,12 @@ fn told_in<N: RoomName<Board> + Send + Sync, R: Wait + Drop + Send + Sync, T: Th
     Some(last.count())
 }
 
-fn told<N: RoomName<Board> + Send + Sync, R: Wait + Drop + Send + Sync, T: Threads>(
-    threads: &T,
-    rt: &R,
-    alloc: Global,
-    parts: Parts<Board, R>,
-    again: bool,
-) -> Option<u64>
+fn told<
+    L: BoardLike + Send + Sync,
+    N: RoomName<L::Content> + Send + Sync,
+    R: Wait + Drop + Send + Sync,
+    T: Threads,
+>(threads: &T, rt: &R, alloc: Global, parts: Parts<L, R>, again: bool) -> Option<u64>
     requires book { parts.book ≡ N.book }
     requires opening { N.opening ≡ parts.opening ∷ [] }
     requires limit { N.limit ≡ parts.limit }
@@ -139,7 +153,7 @@ fn told_and_seen(rt: HostRuntime) {
     let handle = &rt;
     match opened(handle, rt.alloc(), &[]) {
         Some(parts) => {
-            let last = told::<Brand, _, _>(&rt, &handle, rt.alloc(), parts, false);
+            let last = told::<Board, Brand, _, _>(&rt, &handle, rt.alloc(), parts, false);
             assert!(rt; last == Some(1));
         }
         None => assert!(rt; false),
@@ -151,7 +165,7 @@ fn told_and_seen_by_an_equal_edit(rt: HostRuntime) {
     let handle = &rt;
     match opened(handle, rt.alloc(), &[]) {
         Some(parts) => {
-            let last = told::<Brand, _, _>(&rt, &handle, rt.alloc(), parts, true);
+            let last = told::<Board, Brand, _, _>(&rt, &handle, rt.alloc(), parts, true);
             assert!(rt; last == Some(1));
         }
         None => assert!(rt; false),
