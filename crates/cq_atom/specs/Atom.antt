@@ -5,7 +5,7 @@ use Rattle.cq_atom.specs.declared.term.TermKind.{TermKind}
 use Rattle.cq_atom.specs.declared.term.TermKind.TheVariants.{Constant, Variable}
 use Rattle.cq_atom.specs.declared.fault.Bad.{Bad}
 use Rattle.cq_atom.specs.declared.fault.Bad.TheVariants.{BadName, BadArity}
-use Rattle.cq_atom.specs.declared.limits.TheConstants.{MAX_ARITY}
+use Rattle.cq_atom.specs.Limits.{max_arity}
 use Rattle.cq_atom.specs.Text.{is_relation_name, is_variable_name}
 use Rattle.cq_atom.specs.Value.{ValueContent}
 
@@ -42,7 +42,7 @@ atom_of_row r = record { relation = r.relation; terms = map Constant r.values }
 
 -- From 1 to 16 terms or values.
 abbrev pub is_arity : ℕ → Bool
-is_arity n = nat_le 1 n && nat_le n MAX_ARITY
+is_arity n = nat_le 1 n && nat_le n max_arity
 
 -- Why a relation's name over that many terms or values makes nothing: the name is looked at first.
 abbrev pub arity_fault : List ℕ → ℕ → Option Bad

@@ -1,4 +1,5 @@
 pub mod Answer
+pub mod Limits
 pub mod Text
 pub mod Value
 pub mod Atom

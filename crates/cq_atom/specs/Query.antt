@@ -8,7 +8,7 @@ use Rattle.cq_atom.specs.declared.fault.Part.{Part}
 use Rattle.cq_atom.specs.declared.fault.Part.TheVariants.{Posts, Heads, Body}
 use Rattle.cq_atom.specs.declared.fault.Bad.{Bad}
 use Rattle.cq_atom.specs.declared.fault.Bad.TheVariants.{TooMany, NoHead, Unbound}
-use Rattle.cq_atom.specs.declared.limits.TheConstants.{MAX_ATOMS}
+use Rattle.cq_atom.specs.Limits.{max_atoms}
 use Rattle.cq_atom.specs.Atom.{TermContent, AtomRecord, variable_of}
 
 -- Postconditions, heads and body, each a list of atoms.
@@ -62,7 +62,7 @@ or_else None o = o
 or_else (Some b) o = Some b
 
 abbrev pub too_many : Part → List AtomRecord → Option Bad
-too_many part atoms = if nat_le (length atoms) MAX_ATOMS then None else Some (TooMany part)
+too_many part atoms = if nat_le (length atoms) max_atoms then None else Some (TooMany part)
 
 abbrev pub no_head : List AtomRecord → Option Bad
 no_head [] = Some NoHead

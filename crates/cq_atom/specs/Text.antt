@@ -3,7 +3,7 @@ use Rattle.std.specs.Prelude.{ℕ, Bool, false, ◌&&◌, ◌||◌, nat_le, nat_
 use Rattle.std.specs.Char.{is_ascii_alphabetic, is_ascii_alphanumeric, is_ascii_lowercase, is_ascii_uppercase}
 use Rattle.std.specs.List.{list_all}
 use Rattle.std.specs.Str.{is_utf8}
-use Rattle.cq_atom.specs.declared.limits.TheConstants.{MAX_NAME, MAX_TEXT}
+use Rattle.cq_atom.specs.Limits.{max_name, max_text}
 
 -- A letter, a digit or `_`.
 abbrev pub is_word_byte : ℕ → Bool
@@ -15,7 +15,7 @@ begins_with_letter (b ∷ bs) = is_ascii_alphabetic b
 
 -- A name: 1 to 32 word bytes, of which the first is a letter.
 abbrev pub is_name : List ℕ → Bool
-is_name bs = begins_with_letter bs && (nat_le (length bs) MAX_NAME && list_all is_word_byte bs)
+is_name bs = begins_with_letter bs && (nat_le (length bs) max_name && list_all is_word_byte bs)
 
 abbrev pub begins_with_lower : List ℕ → Bool
 begins_with_lower [] = false
@@ -39,4 +39,4 @@ is_plain_byte b = nat_le 32 b && not (nat_eq b 127)
 
 -- A text: 0 to 255 bytes of UTF-8 without U+0000 to U+001F and U+007F.
 abbrev pub is_text : List ℕ → Bool
-is_text bs = is_utf8 bs && (nat_le (length bs) MAX_TEXT && list_all is_plain_byte bs)
+is_text bs = is_utf8 bs && (nat_le (length bs) max_text && list_all is_plain_byte bs)

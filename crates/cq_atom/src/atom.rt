@@ -2,6 +2,7 @@
 
 ghost use Rattle.std.specs.Prelude.{◌≡◌, ◌≤◌, length, IfOk, IsTrue};
 ghost use Rattle.cq_atom.specs.Answer.{Answers};
+ghost use Rattle.cq_atom.specs.Limits.{max_arity};
 ghost use Rattle.cq_atom.specs.Text.{is_relation_name};
 ghost use Rattle.cq_atom.specs.Atom.{AtomRecord, arity_fault};
 ghost use Rattle.cq_atom.specs.Valuation.{under};
@@ -75,7 +76,7 @@ impl<A: Allocator> Atom<A> {
     pub fn terms(&self) -> &[Term<A>]
         ensures value { result.now ≡ self.now.terms }
         ensures some { 1 ≤ length self.now.terms }
-        ensures few { length self.now.terms ≤ MAX_ARITY }
+        ensures few { length self.now.terms ≤ max_arity }
     {
         self.terms.as_slice()
     }

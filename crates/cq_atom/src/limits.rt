@@ -1,4 +1,4 @@
-//! The limits of names, texts, atoms and queries.
+//! The limits of names, texts, atoms and queries. Definitions have them as numerals, in `specs/Limits`.
 
 /// The most bytes of a name.
 pub const MAX_NAME: usize = 32;

@@ -2,12 +2,12 @@
 
 ghost use Rattle.std.specs.Prelude.{◌≡◌, ◌≤◌, length, IfOk, IsTrue};
 ghost use Rattle.cq_atom.specs.Answer.{Answers};
+ghost use Rattle.cq_atom.specs.Limits.{max_arity};
 ghost use Rattle.cq_atom.specs.Text.{is_relation_name};
 ghost use Rattle.cq_atom.specs.Atom.{RowRecord, arity_fault};
 
 use crate::atom::arity_fault;
 use crate::fault::Bad;
-use crate::limits::MAX_ARITY;
 use crate::name::Name;
 use crate::value::Value;
 use std::alloc::{AllocError, Allocator, Global};
@@ -60,7 +60,7 @@ impl<A: Allocator> Row<A> {
     pub fn values(&self) -> &[Value<A>]
         ensures value { result.now ≡ self.now.values }
         ensures some { 1 ≤ length self.now.values }
-        ensures few { length self.now.values ≤ MAX_ARITY }
+        ensures few { length self.now.values ≤ max_arity }
     {
         self.values.as_slice()
     }

@@ -11,7 +11,7 @@ use Rattle.cq_atom.specs.Answer.{Answers}
 use Rattle.cq_atom.specs.Atom.{arity_fault, is_arity}
 use Rattle.cq_atom.specs.declared.fault.Bad.TheVariants as bad
 use Rattle.cq_rel.specs.declared.fault.CatalogFault.TheVariants.{BadName, BadArity, Declared, CatalogFull}
-use Rattle.cq_rel.specs.declared.limits.TheConstants.{MAX_RELATIONS}
+use Rattle.cq_rel.specs.Limits.{max_relations}
 use Rattle.cq_rel.specs.Tables.{Declaration, IsCatalog, declaration, relation_of, declares, declare_fault, arity_in}
 
 distinct-nil : IsDistinct bytes_eq (map relation_of [])
@@ -35,7 +35,7 @@ map-push : (xs : List Declaration) (d : Declaration) → map relation_of (xs ++ 
 map-push [] d = refl
 map-push (x ∷ xs) d = ap (λ ys. relation_of x ∷ ys) (map-push xs d)
 
-pub IsCatalog-push : (catalog : List Declaration) (relation : List ℕ) (arity : ℕ) → IsCatalog catalog → arity_fault relation arity ≡ None → arity_in catalog relation ≡ None → length catalog < MAX_RELATIONS → IsCatalog (catalog ++ declaration relation arity ∷ [])
+pub IsCatalog-push : (catalog : List Declaration) (relation : List ℕ) (arity : ℕ) → IsCatalog catalog → arity_fault relation arity ≡ None → arity_in catalog relation ≡ None → length catalog < max_relations → IsCatalog (catalog ++ declaration relation arity ∷ [])
 IsCatalog-push catalog relation arity is good new room = record {
   good = All-push (λ (d : Declaration). arity_fault d.relation d.arity ≡ None) catalog (declaration relation arity) is.good good;
   distinct = rw (map-push catalog (declaration relation arity)) (IsDistinct-push nat_list_eq_equiv (map relation_of catalog) relation is.distinct (none-declares catalog relation new));
@@ -57,8 +57,8 @@ both_good false a p q = absurd cc
 -- what has no fault can be declared
 pub IsCatalog-declared : (catalog : List Declaration) (relation : List ℕ) (arity : ℕ) → IsCatalog catalog → declare_fault catalog relation arity ≡ None → IsCatalog (catalog ++ declaration relation arity ∷ [])
 IsCatalog-declared catalog relation arity is e =
-    let steps = allowed_step (is_relation_name relation) (is_arity arity) (arity_in catalog relation) (nat_lt (length catalog) MAX_RELATIONS) e in
-    IsCatalog-push catalog relation arity is (both_good (is_relation_name relation) (is_arity arity) steps.0 steps.1) steps.2 (ltb-true (length catalog) MAX_RELATIONS steps.3)
+    let steps = allowed_step (is_relation_name relation) (is_arity arity) (arity_in catalog relation) (nat_lt (length catalog) max_relations) e in
+    IsCatalog-push catalog relation arity is (both_good (is_relation_name relation) (is_arity arity) steps.0 steps.1) steps.2 (ltb-true (length catalog) max_relations steps.3)
 
 -- a name that was made has the bytes that it was made of
 pub name-made : (b : Bool) (relation name : List ℕ) → Answers bad.NoMemory (if b then None else Some bad.BadName) relation (Ok name) → name ≡ relation

@@ -16,7 +16,7 @@ use Rattle.cq_rel.specs.declared.fault.CatalogFault.{CatalogFault}
 use Rattle.cq_rel.specs.declared.fault.CatalogFault.TheVariants.{BadName, BadArity, Declared, CatalogFull}
 use Rattle.cq_rel.specs.declared.fault.RowFault.{RowFault}
 use Rattle.cq_rel.specs.declared.fault.RowFault.TheVariants.{UnknownRelation, Arity, RowPresent, RowAbsent}
-use Rattle.cq_rel.specs.declared.limits.TheConstants.{MAX_RELATIONS}
+use Rattle.cq_rel.specs.Limits.{max_relations}
 
 -- One declared relation: its name, and how many values its rows have.
 pub record Declaration : Type 0 where
@@ -44,7 +44,7 @@ arity_in (d ∷ ds) relation = if declares relation d then Some d.arity else ari
 pub record IsCatalog (catalog : List Declaration) : Type 0 where
   pub good : All (λ (d : Declaration). arity_fault d.relation d.arity ≡ None) catalog
   pub distinct : IsDistinct bytes_eq (map relation_of catalog)
-  pub few : length catalog ≤ MAX_RELATIONS
+  pub few : length catalog ≤ max_relations
 
 -- Why a relation cannot be declared: the first of these that applies.
 abbrev pub declare_fault : List Declaration → List ℕ → ℕ → Option CatalogFault
@@ -53,7 +53,7 @@ declare_fault catalog relation arity =
     else (if not (is_arity arity) then Some BadArity
     else elim (arity_in catalog relation) [
       | Some n ↦ Some Declared
-      | None ↦ (if nat_lt (length catalog) MAX_RELATIONS then None else Some CatalogFull)
+      | None ↦ (if nat_lt (length catalog) max_relations then None else Some CatalogFull)
     ])
 
 -- The order of values, of which `is_before` is the strict part: numbers come before texts, numbers go by size, texts by bytes.

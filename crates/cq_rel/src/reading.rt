@@ -2,13 +2,14 @@
 
 ghost use Rattle.std.specs.Prelude.{◌≡◌, ◌<◌, ◌≤◌, ◌+◌, ◌^◌, None, Some, map, IfOk, IfErr, IfSome, MatchResult};
 ghost use Rattle.std.specs.Io.KnownBytes.{IsAtEnd};
+ghost use Rattle.cq_text.specs.Limits.{max_reads};
 ghost use Rattle.cq_text.specs.Device.{FailedAtTurn, ReadWhole};
 ghost use Rattle.cq_rel.specs.Csv.{IfOfCall, IfOfDevice, IfOfRecord, IsOfDevice, call_fault, csv_records, records_fault, row_of_record};
 
 use crate::fault::CsvFault;
 use crate::records::rows_of;
 use cq_atom::{MAX_ARITY, Row, is_relation_text};
-use cq_text::{MAX_READS, Source, WholeFault, read_whole};
+use cq_text::{Source, WholeFault, read_whole};
 use std::alloc::{Allocator, Global};
 
 /// All bytes that the source has left.
@@ -19,7 +20,7 @@ fn read_bytes<A: Allocator, R: Source>(alloc: A, source: &mut R) -> Result<Vec<u
     ensures call { IfErr result (λ fault. IfOfCall fault ⊥) }
     ensures record { IfErr result (λ fault. IfOfRecord fault ⊥) }
     ensures turn { IfErr result (λ fault. IfOfDevice fault (λ turn. FailedAtTurn turn (R.reads_made source.old) (R.reads_made source.new) (R.failures_met source.old) (R.failures_met source.new))) }
-    ensures reads { R.reads_made source.new ≤ R.reads_made source.old + MAX_READS }
+    ensures reads { R.reads_made source.new ≤ R.reads_made source.old + max_reads }
     ensures failures { MatchResult result (λ _. R.failures_met source.new ≡ R.failures_met source.old) (λ fault. (IsOfDevice fault → ⊥) → R.failures_met source.new ≡ R.failures_met source.old) }
 {
     match read_whole(alloc, source) {
@@ -81,7 +82,7 @@ pub fn read_csv<A: Allocator + Copy, R: Source>(
 
     // Whose fault it was.
     ensures turn { IfErr result (λ fault. IfOfDevice fault (λ turn. FailedAtTurn turn (R.reads_made source.old) (R.reads_made source.new) (R.failures_met source.old) (R.failures_met source.new))) }
-    ensures reads { R.reads_made source.new ≤ R.reads_made source.old + MAX_READS }
+    ensures reads { R.reads_made source.new ≤ R.reads_made source.old + max_reads }
     ensures read_failures { MatchResult result (λ _. R.failures_met source.new ≡ R.failures_met source.old) (λ fault. (IsOfDevice fault → ⊥) → R.failures_met source.new ≡ R.failures_met source.old) }
 {
     if let Some(fault) = call_fault(relation, arity) {

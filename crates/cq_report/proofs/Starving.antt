@@ -2,7 +2,7 @@
 use Rattle.std.proofs.Common.{◌≡◌, ◌==◌, ◌≤◌, ℕ, Bool, true, false, List, [], ◌∷◌, ◌++◌, length, Option, refl, sym, ap, subst, ◌∙◌, append_assoc, arith}
 use Rattle.std.specs.Io.KnownBytes.{Consumes}
 use Rattle.std.proofs.KnownBytes.{Appends-nil, Consumes-nil}
-use Rattle.cq_text.specs.declared.limits.TheConstants.{MAX_PIECE}
+use Rattle.cq_text.specs.Limits.{max_piece}
 use Rattle.cq_report.specs.declared.output.Output.{Output}
 use Rattle.cq_report.specs.declared.fault.RunFault.{RunFault}
 use Rattle.cq_report.specs.declared.fault.RunFault.TheVariants as faults
@@ -93,7 +93,7 @@ module _ {W A : Type 0} (taken : W → Option (List ℕ)) (failures : W → ℕ)
   StarvesOn-behind a b c r s k l done rest piece on cut p first opening bytes h = Starved-behind taken failures first opening b c s l bytes done rest piece cut (on first opening bytes h) p
 
   -- memory was wanting behind what was served
-  pub RanOut-behind : (opening : State) (left left' : Option (List ℕ)) (first now now' : Output W A) (state : State) (line bytes done rest piece : List ℕ) → done ++ rest ≡ piece → Consumes left left' (bytes ++ piece) → length piece ≤ MAX_PIECE
+  pub RanOut-behind : (opening : State) (left left' : Option (List ℕ)) (first now now' : Output W A) (state : State) (line bytes done rest piece : List ℕ) → done ++ rest ≡ piece → Consumes left left' (bytes ++ piece) → length piece ≤ max_piece
       → Served taken failures first opening now state line (bytes ++ done) → Puts taken failures now now' [] → RanOut taken failures opening left left' first now'
   RanOut-behind opening left left' first now now' state line bytes done rest piece cut read short s p = record {
     bytes = bytes;
@@ -104,7 +104,7 @@ module _ {W A : Type 0} (taken : W → Option (List ℕ)) (failures : W → ℕ)
   }
 
   -- memory was wanting in the piece that was served next
-  pub RanOut-on : (opening : State) (left left' : Option (List ℕ)) (first now now' : Output W A) (state : State) (line bytes piece : List ℕ) → Consumes left left' (bytes ++ piece) → length piece ≤ MAX_PIECE
+  pub RanOut-on : (opening : State) (left left' : Option (List ℕ)) (first now now' : Output W A) (state : State) (line bytes piece : List ℕ) → Consumes left left' (bytes ++ piece) → length piece ≤ max_piece
       → Served taken failures first opening now state line bytes → StarvesOn taken failures now now' state line piece → RanOut taken failures opening left left' first now'
   RanOut-on opening left left' first now now' state line bytes piece read short s on = record {
     bytes = bytes;

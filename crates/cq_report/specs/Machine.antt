@@ -13,7 +13,7 @@ use Rattle.cq_desk.specs.declared.event.Event.{Event}
 use Rattle.cq_desk.specs.declared.event.Event.TheVariants as events
 use Rattle.cq_desk.specs.Machine.{opening_machine, answer_to, published_content}
 use Rattle.cq_desk.specs.Standing.{StandingRecord, stepped}
-use Rattle.cq_report.specs.declared.limits.TheConstants.{POOL_LIMIT, JOURNAL_LIMIT}
+use Rattle.cq_report.specs.Limits.{pool_limit, journal_limit}
 use Rattle.cq_report.specs.declared.numbering.Numbering.{Numbering}
 use Rattle.cq_report.specs.declared.numbering.Numbering.TheVariants.{Plain, Numbered}
 use Rattle.cq_report.specs.declared.stage.Stage.{Stage}
@@ -43,7 +43,7 @@ pub record State : Type 0 where
 
 -- At first nothing is declared, and the limits are those of a script that names none.
 abbrev pub begin_setup : SetupRecord
-begin_setup = record { catalog = []; limits = record { pool = POOL_LIMIT; journal = JOURNAL_LIMIT } }
+begin_setup = record { catalog = []; limits = record { pool = pool_limit; journal = journal_limit } }
 
 abbrev pub begin_stage : Staged
 begin_stage = Setup begin_setup

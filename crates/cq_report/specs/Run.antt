@@ -8,7 +8,7 @@ use Rattle.cq_report.specs.Lines.{lines_of, whole_lines}
 use Rattle.cq_report.specs.Reading.{Reading}
 use Rattle.cq_report.specs.Output.{AreReadings, output}
 use Rattle.cq_text.specs.Device.{TakesFront}
-use Rattle.cq_text.specs.declared.limits.TheConstants.{MAX_PIECE}
+use Rattle.cq_text.specs.Limits.{max_piece}
 
 -- What is known of a fault of reading, by the turn that it tells.
 abbrev pub IfRead : RunFault → (ℕ → Type 0) → Type 0
@@ -88,7 +88,7 @@ pub record WroteFirstLines (numbering : Numbering) (left left' taken taken' : Op
   pub bytes : List ℕ
   pub piece : List ℕ
   pub read : Consumes left left' (bytes ++ piece)
-  pub short : length piece ≤ MAX_PIECE
+  pub short : length piece ≤ max_piece
   pub more : List (List ℕ)
   pub behind : List (List ℕ)
   pub whole : whole_lines (bytes ++ piece) ≡ (whole_lines bytes ++ more) ++ behind

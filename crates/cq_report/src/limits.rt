@@ -1,4 +1,4 @@
-//! The limits of a script that names none.
+//! The limits of a script that names none. Definitions have them as numerals, in `specs/Limits`.
 
 /// The most pending queries.
 pub const POOL_LIMIT: usize = 1_000;

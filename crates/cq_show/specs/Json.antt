@@ -14,7 +14,7 @@ use Rattle.cq_match.specs.Graph.{edges_to, is_crowd}
 use Rattle.cq_board.specs.Pool.{PendingQuery, PoolRecord}
 use Rattle.cq_board.specs.Edges.{edges_of}
 use Rattle.cq_board.specs.Board.{is_matched_at, name_at, name_or_none}
-use Rattle.cq_show.specs.declared.limits.TheConstants.{MOST_KEPT}
+use Rattle.cq_show.specs.Limits.{most_kept}
 use Rattle.cq_show.specs.Graph.{state_word}
 
 -- An array of these.
@@ -39,7 +39,7 @@ count n = number (decimal n)
 
 -- A number is a number where all readers keep it, and else its decimal form as a text. A text is a text.
 abbrev pub value_json : ValueContent → Json
-value_json (Number n) = if nat_le (unsigned_abs n) MOST_KEPT then number (signed_decimal n) else string (signed_decimal n)
+value_json (Number n) = if nat_le (unsigned_abs n) most_kept then number (signed_decimal n) else string (signed_decimal n)
 value_json (Text text) = string text
 
 -- A declared relation: its arity, and how many rows it has.

@@ -1,3 +1,4 @@
+pub mod Limits
 pub mod Explain
 pub mod Graph
 pub mod Json

@@ -1,4 +1,4 @@
-//! Limits.
+//! Limits. Definitions have them as numerals, in `specs/Limits`.
 
 /// All readers of JSON keep whole numbers from minus this to this, which is 2 to the power of 53, as they are. Many read
 /// others as the nearest number that they can hold.

@@ -14,7 +14,7 @@ use Rattle.cq_atom.specs.Query.{QueryRecord}
 use Rattle.cq_text.specs.declared.fault.Kind.TheVariants.{Shape}
 use Rattle.cq_text.specs.declared.fault.TextFault.{TextFault}
 use Rattle.cq_text.specs.declared.command.CommandKind.TheVariants.{Blank, Relation, Limits, Post, Withdraw, Insert, Delete, Publish, Show, Board}
-use Rattle.cq_text.specs.declared.limits.TheConstants.{MAX_COUNT, MAX_FORM}
+use Rattle.cq_text.specs.Limits.{max_count, max_form}
 use Rattle.cq_text.specs.declared.token.Sign.{Sign}
 use Rattle.cq_text.specs.declared.token.Sign.TheVariants.{OpenBrace, CloseBrace, OpenParen, CloseParen, Comma, Arrow}
 use Rattle.cq_text.specs.declared.token.Close.{Close}
@@ -258,19 +258,19 @@ relation_again_at form a w n e u short some few =
 board_again : (a : Ahead) (named : Form) → ahead a ≡ Literal (Number (pos (number_of_form named))) ∷ [] → board_at a ≡ Ok (Board named)
 unfolding board_at
 board_again a forms.One e =
-    let k = count_again MAX_FORM a (pos 1) [] e (omega arith) (omega arith) in
+    let k = count_again max_form a (pos 1) [] e (omega arith) (omega arith) in
     let f = end_is k.0 k.2 in
     rw (k.1, f.1) refl
 board_again a forms.Two e =
-    let k = count_again MAX_FORM a (pos 2) [] e (omega arith) (omega arith) in
+    let k = count_again max_form a (pos 2) [] e (omega arith) (omega arith) in
     let f = end_is k.0 k.2 in
     rw (k.1, f.1) refl
 
-limits_again : (a : Ahead) (m n : ℤ) → ahead a ≡ Literal (Number m) ∷ Literal (Number n) ∷ [] → 1 ≤ count_of m → count_of m ≤ MAX_COUNT → 1 ≤ count_of n → count_of n ≤ MAX_COUNT → limits_at a ≡ Ok (Limits (count_of m) (count_of n))
+limits_again : (a : Ahead) (m n : ℤ) → ahead a ≡ Literal (Number m) ∷ Literal (Number n) ∷ [] → 1 ≤ count_of m → count_of m ≤ max_count → 1 ≤ count_of n → count_of n ≤ max_count → limits_at a ≡ Ok (Limits (count_of m) (count_of n))
 unfolding limits_at
 limits_again a m n e some few more fewer =
-    let j = count_again MAX_COUNT a m (Literal (Number n) ∷ []) e some few in
-    let k = count_again MAX_COUNT j.0 n [] j.2 more fewer in
+    let j = count_again max_count a m (Literal (Number n) ∷ []) e some few in
+    let k = count_again max_count j.0 n [] j.2 more fewer in
     let f = end_is k.0 k.2 in
     rw (j.1, k.1, f.1) refl
 
@@ -370,7 +370,7 @@ command_again form a (Limits p j) f =
     let one = f.sentence.3 in
     let two = f.sentence.4 in
     let l = next_is a (Word (codes "limits")) (Literal (Number m) ∷ Literal (Number n) ∷ []) f.sentence.2 refl in
-    let r = limits_again l.rest m n l.left (subst (λ (k : ℕ). 1 ≤ k) one f.fits.0) (subst (λ (k : ℕ). k ≤ MAX_COUNT) one f.fits.1) (subst (λ (k : ℕ). 1 ≤ k) two f.fits.2) (subst (λ (k : ℕ). k ≤ MAX_COUNT) two f.fits.3) in
+    let r = limits_again l.rest m n l.left (subst (λ (k : ℕ). 1 ≤ k) one f.fits.0) (subst (λ (k : ℕ). k ≤ max_count) one f.fits.1) (subst (λ (k : ℕ). 1 ≤ k) two f.fits.2) (subst (λ (k : ℕ). k ≤ max_count) two f.fits.3) in
     rw (l.reads, l.is, r) (ap (λ (k : ℕ). Ok (whole (Limits k (count_of n)))) (sym one) ∙ ap (λ (k : ℕ). Ok (whole (Limits p k))) (sym two))
 command_again form a (Post w query) f =
     let rest = f.sentence.0 in

@@ -17,7 +17,7 @@ use Rattle.cq_text.specs.Token.{TokenContent, LexemeContent, flaw}
 use Rattle.cq_text.specs.declared.form.Form.{Form}
 use Rattle.cq_text.specs.declared.form.Form.TheVariants.{One, Two}
 use Rattle.cq_text.specs.Forms.{most_terms, most_atoms}
-use Rattle.cq_atom.specs.declared.limits.TheConstants.{MAX_ARITY, MAX_ATOMS}
+use Rattle.cq_atom.specs.Limits.{max_arity, max_atoms}
 
 -- no item is read where there is no room for it
 abbrev pub NeedsRoom : {A : Type 0} → Item A → Type 0
@@ -90,20 +90,20 @@ pub step_room : {A : Type 0} (item : Item A) (most k : ℕ) (a : Ahead) (r : A �
 step_room item most k a r n le h = elim (cases_lt k most) [ inl lt ↦ lt | inr ge ↦ absurd (n a r (ap (λ (b : Bool). item b a) (sym (le-ltb k most ge)) ∙ h)) ]
 
 -- no form allows more terms than an atom may have
-pub few_terms_of : (form : Form) (n : ℕ) → n ≤ most_terms form → n ≤ MAX_ARITY
+pub few_terms_of : (form : Form) (n : ℕ) → n ≤ most_terms form → n ≤ max_arity
 few_terms_of One n le = omega arith
 few_terms_of Two n le = le
 
 -- nor more atoms than a part of a query
-pub few_atoms_of : (form : Form) (n : ℕ) → n ≤ most_atoms form → n ≤ MAX_ATOMS
+pub few_atoms_of : (form : Form) (n : ℕ) → n ≤ most_atoms form → n ≤ max_atoms
 few_atoms_of One n le = omega arith
 few_atoms_of Two n le = le
 
 pub some_arity : (form : Form) (n : ℕ) → n < most_terms form → is_arity (n + 1) ≡ true
 some_arity form n lt =
     let one : 1 ≤ n + 1 = omega arith in
-    let few : n + 1 ≤ MAX_ARITY = few_terms_of form (n + 1) (omega arith) in
-    rw (le-leb 1 (n + 1) one, le-leb (n + 1) MAX_ARITY few) refl
+    let few : n + 1 ≤ max_arity = few_terms_of form (n + 1) (omega arith) in
+    rw (le-leb 1 (n + 1) one, le-leb (n + 1) max_arity few) refl
 
 with_nothing : {A : Type 0} (r : Result (List A × Ahead) TextFault) → with_front [] r ≡ r
 with_nothing (Ok x) = refl

@@ -3,7 +3,7 @@ use Rattle.std.proofs.Common.{◌≡◌, ℕ, suc, ◌+◌, ◌≤◌, Bool, tru
 use Rattle.std.specs.Prelude.{IsTrue, not, nat_le, nat_lt}
 use Rattle.std.specs.List.{AllByRecursion, position, position_or_len}
 use Rattle.std.proofs.lemmas.Bool.Decides.{nat_tests}
-use Rattle.cq_atom.specs.declared.limits.TheConstants.{MAX_ATOMS}
+use Rattle.cq_atom.specs.Limits.{max_atoms}
 use Rattle.cq_atom.specs.declared.fault.Part.{Part}
 use Rattle.cq_atom.specs.declared.fault.Part.TheVariants.{Posts, Heads, Body}
 use Rattle.cq_atom.specs.declared.fault.Bad.{Bad}
@@ -47,10 +47,10 @@ neither : (a b : Option Bad) → or_else a b ≡ None → (a ≡ None) × (b ≡
 neither None b e = (refl, e)
 neither (Some x) b e = absurd (let never : Some x ≡ None = e in cc)
 
-few : (part : Part) (atoms : List AtomRecord) → too_many part atoms ≡ None → length atoms ≤ MAX_ATOMS
-few part atoms e = by_case (nat_le (length atoms) MAX_ATOMS) refl e
+few : (part : Part) (atoms : List AtomRecord) → too_many part atoms ≡ None → length atoms ≤ max_atoms
+few part atoms e = by_case (nat_le (length atoms) max_atoms) refl e
   where
-    by_case : (t : Bool) → nat_le (length atoms) MAX_ATOMS ≡ t → (if nat_le (length atoms) MAX_ATOMS then None else Some (TooMany part)) ≡ None → length atoms ≤ MAX_ATOMS
+    by_case : (t : Bool) → nat_le (length atoms) max_atoms ≡ t → (if nat_le (length atoms) max_atoms then None else Some (TooMany part)) ≡ None → length atoms ≤ max_atoms
     by_case true f none = grind (arith, nat_tests)
     by_case false f none = absurd (let k = rw f at none in cc)
 
@@ -59,9 +59,9 @@ some [] e = absurd cc
 some (a ∷ heads) e = omega arith
 
 pub record Fits (q : QueryRecord) : Type 0 where
-  pub posts : length q.posts ≤ MAX_ATOMS
-  pub heads : length q.heads ≤ MAX_ATOMS
-  pub body : length q.body ≤ MAX_ATOMS
+  pub posts : length q.posts ≤ max_atoms
+  pub heads : length q.heads ≤ max_atoms
+  pub body : length q.body ≤ max_atoms
   pub offered : 1 ≤ length q.heads
   pub restricted : IsRestricted q
 

@@ -10,7 +10,7 @@ use Rattle.std.proofs.lemmas.List.{length-append}
 use Rattle.std.proofs.lemmas.List.Elements.{All-head, All-tail}
 use Rattle.cq_atom.specs.declared.value.Content.TheVariants.{Number, Text}
 use Rattle.cq_atom.specs.declared.term.TermKind.TheVariants.{Constant, Variable}
-use Rattle.cq_atom.specs.declared.limits.TheConstants.{MAX_TEXT}
+use Rattle.cq_atom.specs.Limits.{max_text}
 use Rattle.cq_atom.specs.Text.{is_plain_byte, is_name, begins_with_lower, begins_with_upper, is_text}
 use Rattle.cq_atom.specs.Value.{ValueContent, IsValue}
 use Rattle.cq_atom.specs.Atom.{TermContent, AtomRecord, RowRecord}
@@ -37,8 +37,8 @@ length_escaped (b ∷ s) = let first = short_byte b in let others = length_escap
 
 length_text : (s : List ℕ) → IsTrue (is_text s) → length s ≤ 255
 length_text s h =
-    let p = and_parts (is_utf8 s) (nat_le (length s) MAX_TEXT && list_all is_plain_byte s) h in
-    let q = and_parts (nat_le (length s) MAX_TEXT) (list_all is_plain_byte s) p.1 in
+    let p = and_parts (is_utf8 s) (nat_le (length s) max_text && list_all is_plain_byte s) h in
+    let q = and_parts (nat_le (length s) max_text) (list_all is_plain_byte s) p.1 in
     grind (arith, nat_tests, q.0)
 
 length_value : (v : ValueContent) → IsValue v → length (printed_value v) ≤ 512

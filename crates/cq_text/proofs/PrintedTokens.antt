@@ -10,7 +10,7 @@ use Rattle.std.proofs.lemmas.Bool.Decides.{nat_tests}
 use Rattle.std.proofs.lemmas.Fmt.{digits_decimal, digits_value-decimal, first_decimal, decimal_nonempty, decimal_digit}
 use Rattle.std.proofs.lemmas.Str.Parse.{IsNumeralModel, numerals_by_fold}
 use Rattle.cq_atom.specs.Text.{is_word_byte, is_name, begins_with_letter, is_text}
-use Rattle.cq_atom.specs.declared.limits.TheConstants.{MAX_NAME}
+use Rattle.cq_atom.specs.Limits.{max_name}
 use Rattle.cq_text.specs.declared.token.Sign.TheVariants.{OpenBrace, CloseBrace, OpenParen, CloseParen, Comma, Arrow}
 use Rattle.cq_atom.specs.declared.value.Content.TheVariants.{Number, Text}
 use Rattle.cq_text.specs.declared.token.Sign.{Sign}
@@ -143,15 +143,15 @@ and_parts false b e = absurd (let never : false ≡ true = e in cc)
 pub spells_name : (w : List ℕ) → IsTrue (is_name w) → Spells Ended w (Word w ∷ [])
 spells_name [] h = absurd cc
 spells_name (b ∷ w) h =
-    let p = and_parts (is_ascii_alphabetic b) (nat_le (length (b ∷ w)) MAX_NAME && list_all is_word_byte (b ∷ w)) h in
-    let q = and_parts (nat_le (length (b ∷ w)) MAX_NAME) (list_all is_word_byte (b ∷ w)) p.1 in
+    let p = and_parts (is_ascii_alphabetic b) (nat_le (length (b ∷ w)) max_name && list_all is_word_byte (b ∷ w)) h in
+    let q = and_parts (nat_le (length (b ∷ w)) max_name) (list_all is_word_byte (b ∷ w)) p.1 in
     let r = and_parts (is_word_byte b) (list_all is_word_byte w) q.1 in
     spells_letters b w p.0 r.1
 
-pub short_name : (w : List ℕ) → IsTrue (is_name w) → length w ≤ MAX_NAME
+pub short_name : (w : List ℕ) → IsTrue (is_name w) → length w ≤ max_name
 short_name w h =
-    let p = and_parts (begins_with_letter w) (nat_le (length w) MAX_NAME && list_all is_word_byte w) h in
-    let q = and_parts (nat_le (length w) MAX_NAME) (list_all is_word_byte w) p.1 in
+    let p = and_parts (begins_with_letter w) (nat_le (length w) max_name && list_all is_word_byte w) h in
+    let q = and_parts (nat_le (length w) max_name) (list_all is_word_byte w) p.1 in
     grind (arith, nat_tests, q.0)
 
 -- ---- quoted texts

@@ -8,7 +8,7 @@ use Rattle.cq_atom.specs.declared.fault.Part.TheVariants.{Posts, Heads}
 use Rattle.cq_atom.specs.Atom.{AtomRecord, TermContent}
 use Rattle.cq_atom.specs.Query.{is_bound, binds_all, unbound_term, first_unbound, query_fault}
 use Rattle.cq_text.specs.Steps.Binding.{binds_both}
-use Rattle.cq_atom.specs.declared.limits.TheConstants.{MAX_ATOMS}
+use Rattle.cq_atom.specs.Limits.{max_atoms}
 
 -- some term of the atom is a variable that the body lacks
 abbrev pub has_unbound : List AtomRecord → AtomRecord → Bool
@@ -68,8 +68,8 @@ lacks_none false false e = (refl, refl)
 lacks_none true b e = absurd cc
 lacks_none false true e = absurd cc
 
-pub no_refusal : (posts heads body : List AtomRecord) → length posts ≤ MAX_ATOMS → 1 ≤ length heads → length heads ≤ MAX_ATOMS → length body ≤ MAX_ATOMS → binds_both body posts heads ≡ true → query_fault posts heads body ≡ None
+pub no_refusal : (posts heads body : List AtomRecord) → length posts ≤ max_atoms → 1 ≤ length heads → length heads ≤ max_atoms → length body ≤ max_atoms → binds_both body posts heads ≡ true → query_fault posts heads body ≡ None
 no_refusal posts [] body p some h b e = let never : ⊥ = omega arith in absurd never
 no_refusal posts (x ∷ heads) body p some h b e =
     let n = lacks_none (have_unbound body posts) (have_unbound body (x ∷ heads)) (sym (bound_both body posts (x ∷ heads)) ∙ e) in
-    rw (le-leb (length posts) MAX_ATOMS p, le-leb (length (x ∷ heads)) MAX_ATOMS h, le-leb (length body) MAX_ATOMS b) (rw (first_none Posts body 0 posts n.0) (first_none Heads body 0 (x ∷ heads) n.1))
+    rw (le-leb (length posts) max_atoms p, le-leb (length (x ∷ heads)) max_atoms h, le-leb (length body) max_atoms b) (rw (first_none Posts body 0 posts n.0) (first_none Heads body 0 (x ∷ heads) n.1))

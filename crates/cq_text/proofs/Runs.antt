@@ -12,7 +12,7 @@ use Rattle.cq_atom.specs.Query.{QueryRecord}
 use Rattle.cq_text.specs.declared.fault.Kind.{Kind}
 use Rattle.cq_text.specs.declared.fault.Kind.TheVariants.{Shape, Limit}
 use Rattle.cq_text.specs.declared.fault.TextFault.{TextFault}
-use Rattle.cq_text.specs.declared.limits.TheConstants.{MAX_COUNT, MAX_FORM}
+use Rattle.cq_text.specs.Limits.{max_count, max_form}
 use Rattle.cq_text.specs.declared.command.CommandKind.TheVariants.{Post, Publish, Show}
 use Rattle.cq_text.specs.declared.command.CommandWord.{CommandWord}
 use Rattle.cq_text.specs.declared.command.CommandWord.TheVariants as words
@@ -662,19 +662,19 @@ run_relation form a =
     ∙ bind_same (count_at (most_terms form) l.1) _ _ (λ n. run_end form (place 0 0 (Some (most_terms form))) n.1)))
     ∙ sym (simp bind_assoc)
 
-run_board : (form : Form) → (a : Ahead) → run form (number ∷ []) (place 0 0 (Some MAX_FORM)) a ≡ (board_at a >>= λ c. Ok tt)
+run_board : (form : Form) → (a : Ahead) → run form (number ∷ []) (place 0 0 (Some max_form)) a ≡ (board_at a >>= λ c. Ok tt)
 unfolding board_at
 run_board form a =
-    run_count form [] 0 0 MAX_FORM a (low_at_first form)
-    ∙ bind_same (count_at MAX_FORM a) _ _ (λ n. run_end form (place 0 0 (Some MAX_FORM)) n.1)
+    run_count form [] 0 0 max_form a (low_at_first form)
+    ∙ bind_same (count_at max_form a) _ _ (λ n. run_end form (place 0 0 (Some max_form)) n.1)
     ∙ sym (simp bind_assoc)
 
-run_limits : (form : Form) → (a : Ahead) → run form (number ∷ number ∷ []) (place 0 0 (Some MAX_COUNT)) a ≡ (limits_at a >>= λ c. Ok tt)
+run_limits : (form : Form) → (a : Ahead) → run form (number ∷ number ∷ []) (place 0 0 (Some max_count)) a ≡ (limits_at a >>= λ c. Ok tt)
 unfolding limits_at
 run_limits form a =
-    run_count form (number ∷ []) 0 0 MAX_COUNT a (low_at_first form)
-    ∙ bind_same (count_at MAX_COUNT a) _ _ (λ m. run_count form [] 0 0 MAX_COUNT m.1 (low_at_first form)
-    ∙ bind_same (count_at MAX_COUNT m.1) _ _ (λ n. run_end form (place 0 0 (Some MAX_COUNT)) n.1))
+    run_count form (number ∷ []) 0 0 max_count a (low_at_first form)
+    ∙ bind_same (count_at max_count a) _ _ (λ m. run_count form [] 0 0 max_count m.1 (low_at_first form)
+    ∙ bind_same (count_at max_count m.1) _ _ (λ n. run_end form (place 0 0 (Some max_count)) n.1))
     ∙ sym (simp bind_assoc)
 
 run_withdraw : (form : Form) → (a : Ahead) → run form (name ∷ []) opening a ≡ (withdraw_at a >>= λ c. Ok tt)
@@ -705,8 +705,8 @@ opened form w at a e = ap (λ (b : Bool). on_token (take_token (command ∷ []) 
 
 meet_word : (form : Form) → (word : CommandWord) (at : ℕ) (a : Ahead) → AtWord form (bytes_of word) at a
 meet_word form words.Relation at a = opened form (codes "relation") at a refl ∙ run_whole form (upper ∷ number ∷ []) (place 0 0 (Some (most_terms form))) a (relation_at form a) (run_relation form a)
-meet_word form words.Board at a = opened form (codes "board") at a refl ∙ run_whole form (number ∷ []) (place 0 0 (Some MAX_FORM)) a (board_at a) (run_board form a)
-meet_word form words.Limits at a = opened form (codes "limits") at a refl ∙ run_whole form (number ∷ number ∷ []) (place 0 0 (Some MAX_COUNT)) a (limits_at a) (run_limits form a)
+meet_word form words.Board at a = opened form (codes "board") at a refl ∙ run_whole form (number ∷ []) (place 0 0 (Some max_form)) a (board_at a) (run_board form a)
+meet_word form words.Limits at a = opened form (codes "limits") at a refl ∙ run_whole form (number ∷ number ∷ []) (place 0 0 (Some max_count)) a (limits_at a) (run_limits form a)
 meet_word form words.Post at a = opened form (codes "post") at a refl ∙ run_post form a
 meet_word form words.Withdraw at a = opened form (codes "withdraw") at a refl ∙ run_whole form (name ∷ []) opening a (withdraw_at a) (run_withdraw form a)
 meet_word form words.Insert at a = opened form (codes "insert") at a refl ∙ run_whole form row_symbols opening a (insert_at form a) (run_insert form a)

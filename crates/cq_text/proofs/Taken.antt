@@ -13,7 +13,7 @@ use Rattle.cq_text.specs.declared.fault.Kind.{Kind}
 use Rattle.cq_text.specs.declared.fault.Kind.TheVariants.{Shape, Limit}
 use Rattle.cq_text.specs.declared.fault.TextFault.{TextFault}
 use Rattle.cq_text.specs.declared.command.CommandKind.TheVariants.{Relation, Limits, Post, Withdraw, Insert, Delete, Publish, Show, Board}
-use Rattle.cq_text.specs.declared.limits.TheConstants.{MAX_COUNT, MAX_FORM}
+use Rattle.cq_text.specs.Limits.{max_count, max_form}
 use Rattle.cq_text.specs.declared.command.CommandWord.{CommandWord}
 use Rattle.cq_text.specs.declared.command.CommandWord.TheVariants as words
 use Rattle.cq_text.specs.declared.token.Sign.{Sign}
@@ -598,9 +598,9 @@ number_named (pos (suc (suc (suc m)))) k e some few = absurd (let never : ⊥ = 
 board_read : (form : Form) → (l : LexemeContent) (a : Ahead) (c : CommandContent) → l.token ≡ Word (codes "board") → board_at a ≡ Ok c → WholeRead form (l ∷ a.lexemes) c
 unfolding board_at
 board_read form l a c is e =
-    let n = bind_ok (count_at MAX_FORM a) _ c e in
+    let n = bind_ok (count_at max_form a) _ c e in
     let f = bind_ok (end_at n.0.1) _ c n.2 in
-    let k = count_ok MAX_FORM a n.0 n.1 in
+    let k = count_ok max_form a n.0 n.1 in
     let named = number_named k.number n.0.0 k.count k.some k.few in
     let tokens : l.token ∷ ahead a ≡ Word (codes "board") ∷ Literal (Number (pos (number_of_form (form_numbered n.0.0)))) ∷ [] =
     ap (λ (t : TokenContent). t ∷ ahead a) is ∙ ap (λ (ts : List TokenContent). Word (codes "board") ∷ ts) (k.parts ∙ ap (λ (ts : List TokenContent). Literal (Number k.number) ∷ ts) (end_ok n.0.1 f.0 f.1) ∙ ap (λ (m : ℤ). Literal (Number m) ∷ []) named)
@@ -611,11 +611,11 @@ board_read form l a c is e =
 limits_read : (form : Form) → (l : LexemeContent) (a : Ahead) (c : CommandContent) → l.token ≡ Word (codes "limits") → limits_at a ≡ Ok c → WholeRead form (l ∷ a.lexemes) c
 unfolding limits_at
 limits_read form l a c is e =
-    let m = bind_ok (count_at MAX_COUNT a) _ c e in
-    let n = bind_ok (count_at MAX_COUNT m.0.1) _ c m.2 in
+    let m = bind_ok (count_at max_count a) _ c e in
+    let n = bind_ok (count_at max_count m.0.1) _ c m.2 in
     let f = bind_ok (end_at n.0.1) _ c n.2 in
-    let pool = count_ok MAX_COUNT a m.0 m.1 in
-    let journal = count_ok MAX_COUNT m.0.1 n.0 n.1 in
+    let pool = count_ok max_count a m.0 m.1 in
+    let journal = count_ok max_count m.0.1 n.0 n.1 in
     let rest : ahead m.0.1 ≡ Literal (Number journal.number) ∷ [] = journal.parts ∙ ap (λ (ts : List TokenContent). Literal (Number journal.number) ∷ ts) (end_ok n.0.1 f.0 f.1) in
     let tokens : l.token ∷ ahead a ≡ Word (codes "limits") ∷ Literal (Number pool.number) ∷ Literal (Number journal.number) ∷ [] =
     ap (λ (t : TokenContent). t ∷ ahead a) is ∙ ap (λ (ts : List TokenContent). Word (codes "limits") ∷ ts) (pool.parts ∙ ap (λ (ts : List TokenContent). Literal (Number pool.number) ∷ ts) rest)

@@ -1,7 +1,7 @@
 -- A device whose calls are counted, as contracts see it (this project's profile).
 use Rattle.std.specs.Prelude.{◌≡◌, ℕ, ◌+◌, List, ◌++◌, Option, ◌⊎◌}
 use Rattle.std.specs.Io.KnownBytes.{Appends, Consumes, IsAtEnd}
-use Rattle.cq_text.specs.declared.limits.TheConstants.{MAX_READS}
+use Rattle.cq_text.specs.Limits.{max_reads}
 use Rattle.cq_text.specs.declared.fault.WholeFault.{WholeFault}
 use Rattle.cq_text.specs.declared.fault.WholeFault.TheVariants.{Read, NoMemory}
 
@@ -27,7 +27,7 @@ pub record ReadWhole (left left' : Option (List ℕ)) (bytes : List ℕ) : Type 
 abbrev pub FailedAtTurn : (turn reads reads' failures failures' : ℕ) → Type 0
 FailedAtTurn turn reads reads' failures failures' =
     ((reads' ≡ reads + turn) × (failures' ≡ failures + 1))
-    ⊎ ((turn ≡ MAX_READS + 1) × (reads' ≡ reads + MAX_READS) × (failures' ≡ failures))
+    ⊎ ((turn ≡ max_reads + 1) × (reads' ≡ reads + max_reads) × (failures' ≡ failures))
 
 -- What is known of the turn of a fault of reading.
 abbrev pub IfAtTurn : WholeFault → (ℕ → Type 0) → Type 0

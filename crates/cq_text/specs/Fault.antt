@@ -1,14 +1,14 @@
 -- The first fault of a text. (this project's profile)
 use Rattle.std.specs.Prelude.{◌≡◌, ℕ, ℤ, ◌+◌, ◌<◌, ◌≤◌, List, [], ◌∷◌, ◌++◌, length, fold, codes, Bool, true, false, not, ◌||◌, ◌&&◌, nat_lt, nat_le, Option, Some, None, ◌⊎◌, IsTrue, if◌then◌else◌}
 use Rattle.std.specs.Str.{bytes_eq}
-use Rattle.cq_atom.specs.declared.limits.TheConstants.{MAX_NAME}
+use Rattle.cq_atom.specs.Limits.{max_name}
 use Rattle.cq_atom.specs.declared.value.Content.TheVariants.{Number, Text}
 use Rattle.cq_atom.specs.declared.term.TermKind.TheVariants.{Variable}
 use Rattle.cq_atom.specs.Text.{begins_with_lower}
 use Rattle.cq_atom.specs.Value.{ValueContent}
 use Rattle.cq_atom.specs.Atom.{AtomRecord, RowRecord}
 use Rattle.cq_atom.specs.Query.{QueryRecord, is_bound}
-use Rattle.cq_text.specs.declared.limits.TheConstants.{MAX_COUNT, MAX_FORM}
+use Rattle.cq_text.specs.Limits.{max_count, max_form}
 use Rattle.cq_text.specs.declared.fault.Kind.{Kind}
 use Rattle.cq_text.specs.declared.fault.Kind.TheVariants.{Shape, Limit, Unbound}
 use Rattle.cq_text.specs.declared.command.CommandKind.TheVariants.{Post}
@@ -56,7 +56,7 @@ opening = record { commas = 0; atoms = 0; most = None }
 
 -- The numbers behind these words are counts with a range.
 abbrev pub most_behind : (form : Form) → List ℕ → Option ℕ → Option ℕ
-most_behind form w most = if bytes_eq w (codes "relation") then Some (most_terms form) else (if bytes_eq w (codes "limits") then Some MAX_COUNT else (if bytes_eq w (codes "board") then Some MAX_FORM else most))
+most_behind form w most = if bytes_eq w (codes "relation") then Some (most_terms form) else (if bytes_eq w (codes "limits") then Some max_count else (if bytes_eq w (codes "board") then Some max_form else most))
 
 abbrev pub behind_token : (form : Form) → Place → TokenContent → Place
 behind_token form p (Mark Comma) = record { commas = p.commas + 1; atoms = p.atoms; most = None }
@@ -81,7 +81,7 @@ is_out_of_range (Some most) (Text t) = false
 
 -- A long identifier, a term too many, the first token of an atom too many, a count out of its range.
 abbrev pub is_over : (form : Form) → Place → TokenContent → Bool
-is_over form p (Word w) = nat_lt MAX_NAME (length w) || nat_le (most_terms form) p.commas || nat_le (most_atoms form) p.atoms
+is_over form p (Word w) = nat_lt max_name (length w) || nat_le (most_terms form) p.commas || nat_le (most_atoms form) p.atoms
 is_over form p (Literal v) = nat_le (most_terms form) p.commas || is_out_of_range p.most v
 is_over form p (Mark s) = false
 is_over form p (Bad kind) = false

@@ -2,14 +2,14 @@
 -- (the form `{posts} heads <- body` and the range restriction: Gupta et al., SIGMOD 2011; all else: this project's profile)
 use Rattle.std.specs.Prelude.{◌≡◌, ℕ, ℤ, pos, negsuc, ◌≤◌, List, [], ◌∷◌, ◌++◌, length, codes, ◌⊎◌, IsTrue}
 use Rattle.std.specs.List.{AllByRecursion}
-use Rattle.cq_atom.specs.declared.limits.TheConstants.{MAX_NAME}
+use Rattle.cq_atom.specs.Limits.{max_name}
 use Rattle.cq_atom.specs.declared.value.Content.TheVariants.{Number, Text}
 use Rattle.cq_atom.specs.declared.term.TermKind.TheVariants.{Constant, Variable}
 use Rattle.cq_atom.specs.Text.{begins_with_upper, begins_with_lower}
 use Rattle.cq_atom.specs.Value.{ValueContent}
 use Rattle.cq_atom.specs.Atom.{TermContent, AtomRecord, RowRecord}
 use Rattle.cq_atom.specs.Query.{QueryRecord, is_bound}
-use Rattle.cq_text.specs.declared.limits.TheConstants.{MAX_COUNT}
+use Rattle.cq_text.specs.Limits.{max_count}
 use Rattle.cq_text.specs.declared.command.CommandKind.{CommandKind}
 use Rattle.cq_text.specs.declared.command.CommandKind.TheVariants.{Blank, Relation, Board, Limits, Post, Withdraw, Insert, Delete, Publish, Show}
 use Rattle.cq_text.specs.declared.token.Sign.TheVariants.{OpenBrace, CloseBrace, OpenParen, CloseParen, Comma, Arrow}
@@ -85,7 +85,7 @@ IsSentence ts Show = ts ≡ Word (codes "show") ∷ []
 
 -- An identifier is no longer than a name.
 abbrev pub IsShort : TokenContent → Type 0
-IsShort (Word w) = length w ≤ MAX_NAME
+IsShort (Word w) = length w ≤ max_name
 IsShort (Mark s) = Unit {0}
 IsShort (Literal v) = Unit {0}
 IsShort (Bad kind) = Unit {0}
@@ -102,7 +102,7 @@ abbrev pub FitsCommand : (form : Form) → CommandContent → Type 0
 FitsCommand form Blank = Unit {0}
 FitsCommand form (Relation name arity) = (1 ≤ arity) × (arity ≤ most_terms form)
 FitsCommand form (Board other) = Unit {0}
-FitsCommand form (Limits pool journal) = (1 ≤ pool) × (pool ≤ MAX_COUNT) × (1 ≤ journal) × (journal ≤ MAX_COUNT)
+FitsCommand form (Limits pool journal) = (1 ≤ pool) × (pool ≤ max_count) × (1 ≤ journal) × (journal ≤ max_count)
 FitsCommand form (Post name query) = FitsQuery form query
 FitsCommand form (Withdraw name) = Unit {0}
 FitsCommand form (Insert row) = length row.values ≤ most_terms form

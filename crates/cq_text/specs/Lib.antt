@@ -1,3 +1,4 @@
+pub mod Limits
 pub mod Token
 pub mod Lexing
 pub mod Field

@@ -1,4 +1,4 @@
-//! The limits of texts.
+//! The limits of texts. Definitions have them as numerals, in `specs/Limits`.
 
 /// The most bytes of a line or of a query's text in any form.
 pub const MAX_BYTES: usize = 524_288;

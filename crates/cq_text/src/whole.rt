@@ -1,6 +1,7 @@
 //! Reads all that a source has.
 
 ghost use Rattle.std.specs.Prelude.{◌≡◌, ◌<◌, ◌≤◌, ◌+◌, ◌^◌, [], length, OnOk, IfOk, IfErr, MatchResult};
+ghost use Rattle.cq_text.specs.Limits.{max_reads};
 ghost use Rattle.cq_text.specs.Device.{FailedAtTurn, IfAtTurn, IsAtTurn, ReadWhole};
 
 use crate::fault::WholeFault;
@@ -21,7 +22,7 @@ fn read_pieces<A: Allocator, R: Source>(
     requires failures { R.failures_met source.old < 2 ^ 62 }
     ensures whole { OnOk result (ReadWhole (R.left source.old) (R.left source.new) bytes.new.items) }
     ensures turn { IfErr result (λ fault. IfAtTurn fault (λ turn. FailedAtTurn turn (R.reads_made source.old) (R.reads_made source.new) (R.failures_met source.old) (R.failures_met source.new))) }
-    ensures reads { R.reads_made source.new ≤ R.reads_made source.old + MAX_READS }
+    ensures reads { R.reads_made source.new ≤ R.reads_made source.old + max_reads }
     ensures failures { MatchResult result (λ _. R.failures_met source.new ≡ R.failures_met source.old) (λ fault. (IsAtTurn fault → ⊥) → R.failures_met source.new ≡ R.failures_met source.old) }
 {
     for i in 0..MAX_READS {
@@ -59,7 +60,7 @@ pub fn read_whole<A: Allocator, R: Source>(
 
     // Whose fault it was.
     ensures turn { IfErr result (λ fault. IfAtTurn fault (λ turn. FailedAtTurn turn (R.reads_made source.old) (R.reads_made source.new) (R.failures_met source.old) (R.failures_met source.new))) }
-    ensures reads { R.reads_made source.new ≤ R.reads_made source.old + MAX_READS }
+    ensures reads { R.reads_made source.new ≤ R.reads_made source.old + max_reads }
     ensures failures { MatchResult result (λ _. R.failures_met source.new ≡ R.failures_met source.old) (λ fault. (IsAtTurn fault → ⊥) → R.failures_met source.new ≡ R.failures_met source.old) }
 {
     let mut bytes = Vec::new(alloc);

@@ -1,7 +1,7 @@
 -- What a replay leaves behind, from the state that it began in.
 use Rattle.std.specs.Prelude.{◌≡◌, ◌≤◌, ℕ, List, [], ◌++◌, length, Option}
 use Rattle.std.specs.Io.KnownBytes.{Consumes, IsAtEnd}
-use Rattle.cq_text.specs.declared.limits.TheConstants.{MAX_PIECE}
+use Rattle.cq_text.specs.Limits.{max_piece}
 use Rattle.cq_report.specs.declared.output.Output.{Output}
 use Rattle.cq_report.specs.declared.fault.RunFault.{RunFault}
 use Rattle.cq_report.specs.Machine.{State}
@@ -35,5 +35,5 @@ pub record RanOut {W A : Type 0} (taken : W → Option (List ℕ)) (failures : W
   pub bytes : List ℕ
   pub piece : List ℕ
   pub read : Consumes left left' (bytes ++ piece)
-  pub short : length piece ≤ MAX_PIECE
+  pub short : length piece ≤ max_piece
   pub starved : Starved taken failures first opening now bytes piece

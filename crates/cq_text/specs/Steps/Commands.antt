@@ -3,7 +3,7 @@ use Rattle.std.specs.Prelude.{ℕ, ℤ, List, ◌&&◌, nat_le, ◌==◌, Option
 use Rattle.cq_atom.specs.Value.{number_of}
 use Rattle.cq_text.specs.declared.fault.Kind.TheVariants.{Shape, Limit}
 use Rattle.cq_text.specs.declared.fault.TextFault.{TextFault}
-use Rattle.cq_text.specs.declared.limits.TheConstants.{MAX_COUNT, MAX_FORM}
+use Rattle.cq_text.specs.Limits.{max_count, max_form}
 use Rattle.cq_text.specs.declared.command.CommandKind.TheVariants.{Relation, Board, Limits, Post, Withdraw, Insert, Delete, Publish, Show}
 use Rattle.cq_text.specs.declared.command.CommandWord.{CommandWord}
 use Rattle.cq_text.specs.declared.token.Token.TheVariants.{Mark, Word, Literal, Bad, Finish}
@@ -71,14 +71,14 @@ form_numbered number = if number == 2 then Two else One
 
 unfoldable pub board_at : Ahead → Result CommandContent TextFault
 board_at a = do
-  number ← count_at MAX_FORM a
+  number ← count_at max_form a
   rest ← end_at number.1
   Ok (Board (form_numbered number.0))
 
 unfoldable pub limits_at : Ahead → Result CommandContent TextFault
 limits_at a = do
-  pool ← count_at MAX_COUNT a
-  journal ← count_at MAX_COUNT pool.1
+  pool ← count_at max_count a
+  journal ← count_at max_count pool.1
   rest ← end_at journal.1
   Ok (Limits pool.0 journal.0)
 

@@ -1,6 +1,6 @@
 -- What is ahead of a reader, what a lexeme is to the grammar, and the steps from lexeme to lexeme: what each gives, and what it leaves.
 use Rattle.std.specs.Prelude.{◌≡◌, ℕ, List, [], ◌∷◌, length, Bool, true, false, nat_lt, nat_eq, Option, Some, None, Result, Ok, Err, if◌then◌else◌}
-use Rattle.cq_atom.specs.declared.limits.TheConstants.{MAX_NAME}
+use Rattle.cq_atom.specs.Limits.{max_name}
 use Rattle.cq_atom.specs.declared.value.Content.TheVariants.{Text}
 use Rattle.cq_atom.specs.declared.term.TermKind.TheVariants.{Constant, Variable}
 use Rattle.cq_atom.specs.Text.{begins_with_upper, begins_with_lower}
@@ -78,7 +78,7 @@ is_finish (Literal v) = false
 is_finish (Bad kind) = false
 
 abbrev pub short_word : List ℕ → ℕ → Result (List ℕ) TextFault
-short_word w at = if nat_lt MAX_NAME (length w) then fault Limit at else Ok w
+short_word w at = if nat_lt max_name (length w) then fault Limit at else Ok w
 
 -- The identifier that a token is.
 abbrev pub word_in : TokenContent → Option (List ℕ)

@@ -2,7 +2,7 @@
 use Rattle.std.specs.Prelude.{◌≡◌, ◌≤◌, length, IsTrue, None}
 use Rattle.std.specs.List.{All}
 use Rattle.cq_atom.specs.declared.term.TermKind.TheVariants.{Constant, Variable}
-use Rattle.cq_atom.specs.declared.limits.TheConstants.{MAX_ARITY}
+use Rattle.cq_atom.specs.Limits.{max_arity}
 use Rattle.cq_atom.specs.Text.{is_variable_name, is_relation_name}
 use Rattle.cq_atom.specs.Value.{IsValue}
 use Rattle.cq_atom.specs.Atom.{TermContent, AtomRecord, RowRecord}
@@ -17,14 +17,14 @@ IsSoundTerm (Variable name) = IsTrue (is_variable_name name)
 pub record IsSoundAtom (a : AtomRecord) : Type 0 where
   pub relation : IsTrue (is_relation_name a.relation)
   pub some : 1 ≤ length a.terms
-  pub few : length a.terms ≤ MAX_ARITY
+  pub few : length a.terms ≤ max_arity
   pub terms : All IsSoundTerm a.terms
 
 -- A row that has a relation's name and 1 to 8 values.
 pub record IsSoundRow (r : RowRecord) : Type 0 where
   pub relation : IsTrue (is_relation_name r.relation)
   pub some : 1 ≤ length r.values
-  pub few : length r.values ≤ MAX_ARITY
+  pub few : length r.values ≤ max_arity
   pub values : All IsValue r.values
 
 -- Atoms that make a query.

@@ -6,7 +6,7 @@ ghost use Rattle.cq_atom.specs.Atom.{is_arity};
 ghost use Rattle.cq_text.specs.Steps.Lists.{value_at, values_at, row_record, row_at, next_unbound_at, atom_record, term_at, terms_at, applied_at, atom_at, atoms_at, atoms_if_any_at, unbound_at, first_unbound_from, query_record, unbound_fault, bound_query, query_at};
 ghost use Rattle.cq_text.specs.Steps.Lexemes.{Gives, Fails};
 ghost use Rattle.cq_text.specs.Steps.Binding.{binds_both};
-ghost use Rattle.cq_atom.specs.declared.limits.TheConstants.{MAX_ATOMS};
+ghost use Rattle.cq_atom.specs.Limits.{max_atoms};
 
 use crate::binding::{binds_both, is_unbound};
 use crate::fault::{Kind, TextFault};
@@ -55,10 +55,10 @@ fn new_query<A: Allocator + Copy>(
     heads: Vec<Atom<A>, A>,
     body: Vec<Atom<A>, A>,
 ) -> Result<Query<A>, TextFault>
-    requires posts { length posts.items ≤ MAX_ATOMS }
+    requires posts { length posts.items ≤ max_atoms }
     requires some { 1 ≤ length heads.items }
-    requires heads { length heads.items ≤ MAX_ATOMS }
-    requires body { length body.items ≤ MAX_ATOMS }
+    requires heads { length heads.items ≤ max_atoms }
+    requires body { length body.items ≤ max_atoms }
     requires bound { IsTrue (binds_both body.items posts.items heads.items) }
     ensures { Gives (λ query. query) result (Ok (query_record posts.items heads.items body.items)) }
 {
@@ -134,7 +134,7 @@ impl<'a, A: Allocator + Copy> Reader<'a, A> {
     fn atoms(&mut self, form: Form, close: Close) -> Result<Vec<Atom<A>, A>, TextFault>
         ensures atoms { Gives (λ v. (v.items, self.new)) result (atoms_at form close self.old) }
         ensures some { IfOk result (λ v. 1 ≤ length v.items) }
-        ensures few { IfOk result (λ v. length v.items ≤ MAX_ATOMS) }
+        ensures few { IfOk result (λ v. length v.items ≤ max_atoms) }
     {
         let mut atoms = Vec::new(self.alloc);
         'atoms: loop {
@@ -150,7 +150,7 @@ impl<'a, A: Allocator + Copy> Reader<'a, A> {
     #[tactic(auto, unfolding(crate::specs::Steps::Lists::atoms_if_any_at, crate::specs::Steps::Lexemes::passes_at))]
     fn atoms_if_any(&mut self, form: Form, close: Close) -> Result<Vec<Atom<A>, A>, TextFault>
         ensures atoms { Gives (λ v. (v.items, self.new)) result (atoms_if_any_at form close self.old) }
-        ensures few { IfOk result (λ v. length v.items ≤ MAX_ATOMS) }
+        ensures few { IfOk result (λ v. length v.items ≤ max_atoms) }
     {
         if self.passes(close)? {
             return Ok(Vec::new(self.alloc));
@@ -260,10 +260,10 @@ impl<'a, A: Allocator + Copy> Reader<'a, A> {
         heads: Vec<Atom<A>, A>,
         body: Vec<Atom<A>, A>,
     ) -> Result<Query<A>, TextFault>
-        requires posts { length posts.items ≤ MAX_ATOMS }
+        requires posts { length posts.items ≤ max_atoms }
         requires some { 1 ≤ length heads.items }
-        requires heads { length heads.items ≤ MAX_ATOMS }
-        requires body { length body.items ≤ MAX_ATOMS }
+        requires heads { length heads.items ≤ max_atoms }
+        requires body { length body.items ≤ max_atoms }
         ensures { Gives (λ query. query) result (bound_query posts.items heads.items body.items self.old) }
     {
         if binds_both(&body, &posts, &heads) {
