@@ -2,6 +2,8 @@ pub mod Turns
 pub mod Sheets
 pub mod Clients
 pub mod Settings
+pub mod Told
+pub mod Faults
 pub mod Rooms
 pub mod Jobs
 pub mod Pages

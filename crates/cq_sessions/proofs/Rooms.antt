@@ -16,39 +16,49 @@ use Rattle.cq_report.specs.Lines.{lines_of}
 use Rattle.cq_report.specs.declared.numbering.Numbering.TheVariants.{Plain}
 use Rattle.cq_report.specs.Machine.{SetupRecord, begin_state, form_of}
 use Rattle.cq_sessions.specs.Script.{Sheet, form_line, declaration_line, limits_line, entries_from, replies_from, sheets_from}
-use Rattle.cq_sessions.specs.Sessions.{IfWritten, FileServed, FilesServed, SetupServed, Ran, knowns_before, pool_of, setup_sheet}
-use Rattle.cq_sessions.specs.Steps.Sheets.{SheetRecord, BytesServed, LeavesEach, asks, filled, whole, IsEven}
+use Rattle.cq_sessions.specs.Sessions.{IfWritten, SetupServed, Ran, knowns_before, pool_of, setup_sheet}
+use Rattle.cq_sessions.specs.Steps.Sheets.{SheetRecord, BytesServed, LeavesEach, asks, filled, numbers_of, whole, IsEven}
 use Rattle.cq_sessions.specs.Steps.Settings.{SetTo, RestBegins}
-use Rattle.cq_sessions.specs.Steps.Rooms.{AreDone, FirstServes, AllServed, PutEntries, RoomServed, run_fault}
+use Rattle.cq_sessions.specs.Steps.Rooms.{AreDone, LeavesFile, FilesDone, FirstServes, AllServed, PutEntries, RoomServed, numbers_told, run_fault}
+use Rattle.cq_sessions.proofs.Told.{entries-told, served-stands}
 
 -- ---- what threads left
 
+one_more : (form : Form) (opening : PoolRecord) (limit : ℕ) (knowns : List (List Edit)) (files : List (List ℕ)) (sheets : List SheetRecord) (knowns' : List (List Edit)) (k : List Edit) (f : List ℕ) (sheet : SheetRecord) (k' : List Edit) → LeavesFile form opening limit k f sheet k' → FilesDone form opening limit knowns files sheets knowns'
+    → FilesDone form opening limit (k ∷ knowns) (f ∷ files) (sheet ∷ sheets) (k' ∷ knowns')
+one_more form opening limit knowns files sheets knowns' k f sheet k' one rest = record {
+  owns = one.own ∷ rest.owns;
+  numbered = ap (λ (z : List ℕ). z ∷ map (λ sheet. sheet.numbers) sheets) one.numbered ∙ ap (λ (z : List (List ℕ)). numbers_of one.own ∷ z) rest.numbered;
+  served = (one.served, rest.served);
+}
+
 module _ {C A S : Type 0} (form : Form) (opening : PoolRecord) (limit : ℕ) (known : C → List Edit) (form_at : S → Form) (client : S → C) (file : S → List ℕ) where
   abbrev pub leaves : S → Result (Done C A) ServeFault → Type 0
-  leaves seat left = IfOk left (λ done. FileServed (form_at seat) opening limit (known (client seat)) (file seat) done.sheet.replies (known done.client))
+  leaves seat left = IfOk left (λ done. LeavesFile (form_at seat) opening limit (known (client seat)) (file seat) done.sheet (known done.client))
 
-  one_served : (seat : S) (done : Done C A) (c : C) (sheet : SheetRecord) → form_at seat ≡ form → c ≡ done.client → sheet ≡ done.sheet → leaves seat (Ok done) → FileServed form opening limit (known (client seat)) (file seat) sheet.replies (known c)
+  one_served : (seat : S) (done : Done C A) (c : C) (sheet : SheetRecord) → form_at seat ≡ form → c ≡ done.client → sheet ≡ done.sheet → leaves seat (Ok done) → LeavesFile form opening limit (known (client seat)) (file seat) sheet (known c)
   one_served seat done c sheet at is same left =
-      subst (λ (z : SheetRecord). FileServed form opening limit (known (client seat)) (file seat) z.replies (known c)) (sym same)
-      (subst (λ (z : C). FileServed form opening limit (known (client seat)) (file seat) done.sheet.replies (known z)) (sym is)
-      (subst (λ (z : Form). FileServed z opening limit (known (client seat)) (file seat) done.sheet.replies (known done.client)) at left))
+      subst (λ (z : SheetRecord). LeavesFile form opening limit (known (client seat)) (file seat) z (known c)) (sym same)
+      (subst (λ (z : C). LeavesFile form opening limit (known (client seat)) (file seat) done.sheet (known z)) (sym is)
+      (subst (λ (z : Form). LeavesFile z opening limit (known (client seat)) (file seat) done.sheet (known done.client)) at left))
 
-  pub files_served : {D : Type 0} (seats : List S) (ds : List D) (lefts : List (Result (Done C A) ServeFault)) (clients : List C) (sheets : List SheetRecord) → map form_at seats ≡ map (λ _. form) ds
+  pub files_done : {D : Type 0} (seats : List S) (ds : List D) (lefts : List (Result (Done C A) ServeFault)) (clients : List C) (sheets : List SheetRecord) → map form_at seats ≡ map (λ _. form) ds
       → LeavesEach leaves seats lefts → length seats ≤ length lefts → AreDone lefts clients sheets
-      → FilesServed form opening limit (map (λ seat. known (client seat)) seats) (map file seats) (map (λ sheet. sheet.replies) sheets) (map known clients)
-  files_served [] ds [] [] [] forms each many done = tt
-  files_served [] ds [] [] (sheet ∷ sheets) forms each many done = absurd done
-  files_served [] ds [] (c ∷ clients) sheets forms each many done = absurd done
-  files_served [] ds (left ∷ lefts) clients sheets forms each many done = absurd each
-  files_served (seat ∷ seats) ds [] clients sheets forms each many done = absurd (omega (arith, many))
-  files_served (seat ∷ seats) [] (left ∷ lefts) clients sheets forms each many done = cc
-  files_served (seat ∷ seats) (x ∷ ds) (Ok d ∷ lefts) [] sheets forms each many done = absurd done
-  files_served (seat ∷ seats) (x ∷ ds) (Ok d ∷ lefts) (c ∷ clients) [] forms each many done = absurd done
-  files_served (seat ∷ seats) (x ∷ ds) (Ok d ∷ lefts) (c ∷ clients) (sheet ∷ sheets) forms each many done =
+      → FilesDone form opening limit (map (λ seat. known (client seat)) seats) (map file seats) sheets (map known clients)
+  files_done [] ds [] [] [] forms each many done = record { owns = []; numbered = refl; served = tt }
+  files_done [] ds [] [] (sheet ∷ sheets) forms each many done = absurd done
+  files_done [] ds [] (c ∷ clients) sheets forms each many done = absurd done
+  files_done [] ds (left ∷ lefts) clients sheets forms each many done = absurd each
+  files_done (seat ∷ seats) ds [] clients sheets forms each many done = absurd (omega (arith, many))
+  files_done (seat ∷ seats) [] (left ∷ lefts) clients sheets forms each many done = absurd (cc forms)
+  files_done (seat ∷ seats) (x ∷ ds) (Ok d ∷ lefts) [] sheets forms each many done = absurd done
+  files_done (seat ∷ seats) (x ∷ ds) (Ok d ∷ lefts) (c ∷ clients) [] forms each many done = absurd done
+  files_done (seat ∷ seats) (x ∷ ds) (Ok d ∷ lefts) (c ∷ clients) (sheet ∷ sheets) forms each many done =
       let at : form_at seat ≡ form = cc in
       let others : map form_at seats ≡ map (λ _. form) ds = cc in
-      (one_served seat d c sheet at done.0 done.1 each.0, files_served seats ds lefts clients sheets others each.1 (omega (arith, many)) done.2)
-  files_served (seat ∷ seats) (x ∷ ds) (Err fault ∷ lefts) clients sheets forms each many done = absurd done
+      one_more form opening limit (map (λ seat. known (client seat)) seats) (map file seats) sheets (map known clients) (known (client seat)) (file seat) sheet (known c) (one_served seat d c sheet at done.0 done.1 each.0)
+      (files_done seats ds lefts clients sheets others each.1 (omega (arith, many)) done.2)
+  files_done (seat ∷ seats) (x ∷ ds) (Err fault ∷ lefts) clients sheets forms each many done = absurd done
 
 module _ {C A : Type 0} where
   pub done_on : (lefts : List (Result (Done C A) ServeFault)) (clients : List C) (sheets : List SheetRecord) (left : Result (Done C A) ServeFault) (done : Done C A) → left ≡ Ok done → AreDone lefts clients sheets
@@ -78,14 +88,14 @@ length_map f [] = refl
 length_map f (x ∷ xs) = let e = length_map f xs in omega (arith, e)
 
 -- SETUP is served by the first of newcomers, and the others are newcomers still
-pub record FirstServed (form : Form) (opening : PoolRecord) (limit : ℕ) (sheet : SheetRecord) (replies : Sheet) (bytes : List ℕ) (knowns : List (List Edit)) (files : List (List ℕ)) : Type 0 where
+pub record FirstServed (form : Form) (opening : PoolRecord) (limit : ℕ) (sheet sheet' : SheetRecord) (bytes : List ℕ) (knowns : List (List Edit)) (files : List (List ℕ)) : Type 0 where
   pub known : List Edit
-  pub served : BytesServed form opening limit [] sheet known replies bytes
+  pub served : BytesServed form opening limit [] sheet known sheet'.replies sheet'.numbers bytes
   pub before : knowns ≡ knowns_before known files
 
-module _ (form : Form) (opening : PoolRecord) (limit : ℕ) (sheet : SheetRecord) (replies : Sheet) (bytes : List ℕ) where
-  first_of_all : {F : Type 0} (knowns knowns' : List (List Edit)) (f : F → List ℕ) (file : F) (files : List F) → FirstServes form opening limit ([] ∷ knowns) sheet knowns' replies bytes → knowns ≡ map (λ _. []) files
-      → FirstServed form opening limit sheet replies bytes knowns' (f file ∷ map f files)
+module _ (form : Form) (opening : PoolRecord) (limit : ℕ) (sheet sheet' : SheetRecord) (bytes : List ℕ) where
+  first_of_all : {F : Type 0} (knowns knowns' : List (List Edit)) (f : F → List ℕ) (file : F) (files : List F) → FirstServes form opening limit ([] ∷ knowns) sheet knowns' sheet' bytes → knowns ≡ map (λ _. []) files
+      → FirstServed form opening limit sheet sheet' bytes knowns' (f file ∷ map f files)
   first_of_all knowns [] f file files served others = absurd served
   first_of_all knowns (known ∷ knowns') f file files served others = record {
     known = known;
@@ -93,20 +103,20 @@ module _ (form : Form) (opening : PoolRecord) (limit : ℕ) (sheet : SheetRecord
     before = ap (λ (z : List (List Edit)). known ∷ z) (served.1 ∙ others ∙ sym (map_map (λ _. []) f files));
   }
 
-  pub first_served : {F : Type 0} (knowns knowns' : List (List Edit)) (f : F → List ℕ) (files : List F) → 0 < length files → knowns ≡ map (λ _. []) files → FirstServes form opening limit knowns sheet knowns' replies bytes
-      → FirstServed form opening limit sheet replies bytes knowns' (map f files)
+  pub first_served : {F : Type 0} (knowns knowns' : List (List Edit)) (f : F → List ℕ) (files : List F) → 0 < length files → knowns ≡ map (λ _. []) files → FirstServes form opening limit knowns sheet knowns' sheet' bytes
+      → FirstServed form opening limit sheet sheet' bytes knowns' (map f files)
   first_served knowns knowns' f [] some are served = absurd (omega (arith, some))
   first_served knowns knowns' f (file ∷ files) some are served =
-      first_of_all (map (λ _. []) files) knowns' f file files (subst (λ (z : List (List Edit)). FirstServes form opening limit z sheet knowns' replies bytes) are served) refl
+      first_of_all (map (λ _. []) files) knowns' f file files (subst (λ (z : List (List Edit)). FirstServes form opening limit z sheet knowns' sheet' bytes) are served) refl
 
-  pub all_served : {F : Type 0} (knowns knowns' : List (List Edit)) (f : F → List ℕ) (files : List F) (sheets : List Sheet) (ends : List (List Edit)) → 0 < length files → knowns ≡ map (λ _. []) files
-      → FirstServes form opening limit knowns sheet knowns' replies bytes → FilesServed form opening limit knowns' (map f files) sheets ends → AllServed form opening limit sheet bytes replies (map f files) sheets ends
+  pub all_served : {F : Type 0} (knowns knowns' : List (List Edit)) (f : F → List ℕ) (files : List F) (sheets : List SheetRecord) (ends : List (List Edit)) → 0 < length files → knowns ≡ map (λ _. []) files
+      → FirstServes form opening limit knowns sheet knowns' sheet' bytes → FilesDone form opening limit knowns' (map f files) sheets ends → AllServed form opening limit sheet bytes sheet' (map f files) sheets ends
   all_served knowns knowns' f files sheets ends some are first served =
       let one = first_served knowns knowns' f files some are first in
       record {
         known = one.known;
         setup = one.served;
-        served = subst (λ (z : List (List Edit)). FilesServed form opening limit z (map f files) sheets ends) one.before served;
+        done = subst (λ (z : List (List Edit)). FilesDone form opening limit z (map f files) sheets ends) one.before served;
       }
 
 -- ---- all of it
@@ -125,9 +135,9 @@ set_even bytes rest heading setup sheet so = subst IsEven (sym so.told) (told_ev
 pub set_asked : (bytes rest : List ℕ) (heading : Option Form) (setup : SetupRecord) (sheet : SheetRecord) → SetTo bytes rest heading setup sheet → sheet.asked ≡ []
 set_asked bytes rest heading setup sheet so = ap (λ (z : SheetRecord). z.asked) so.told
 
-setup_served : (bytes rest : List ℕ) (heading : Option Form) (setup : SetupRecord) (sheet : SheetRecord) (replies : Sheet) (known : List Edit) → SetTo bytes rest heading setup sheet → RestBegins (form_of heading) rest
-    → BytesServed (form_of heading) (pool_of setup) setup.limits.journal [] sheet known replies rest → SetupServed bytes heading setup replies known
-setup_served bytes rest heading setup sheet replies known so begins b = record {
+setup_served : (bytes rest : List ℕ) (heading : Option Form) (setup : SetupRecord) (sheet : SheetRecord) (replies : Sheet) (numbers : List ℕ) (known : List Edit) → SetTo bytes rest heading setup sheet → RestBegins (form_of heading) rest
+    → (b : BytesServed (form_of heading) (pool_of setup) setup.limits.journal [] sheet known replies numbers rest) → SetupServed bytes heading setup b.own replies known
+setup_served bytes rest heading setup sheet replies numbers known so begins b = record {
   first = so.lines;
   rest = lines_of rest;
   cut = so.cut;
@@ -142,18 +152,24 @@ setup_served bytes rest heading setup sheet replies known so begins b = record {
   served = b.served;
 }
 
+-- SETUP's lines told no number
+setup_numbers : (bytes rest : List ℕ) (heading : Option Form) (setup : SetupRecord) (sheet : SheetRecord) (own : List (ℕ × Edit)) (numbers : List ℕ) → SetTo bytes rest heading setup sheet → numbers ≡ sheet.numbers ++ numbers_of own → numbers ≡ numbers_of own
+setup_numbers bytes rest heading setup sheet own numbers so is = is ∙ ap (λ (z : SheetRecord). z.numbers ++ numbers_of own) so.told
+
 -- a room that is closed, with all that came of it
-pub room_served : (form : Form) (opening opening1 : PoolRecord) (limit limit1 : ℕ) (sheet : SheetRecord) (rest : List ℕ) (replies : Sheet) (files : List (List ℕ)) (sheets : List Sheet) (knowns : List (List Edit)) (page page1 page2 : List ℕ) → opening1 ≡ opening → limit1 ≡ limit
-    → AllServed form opening1 limit1 sheet rest replies files sheets knowns → PutEntries knowns page page1 → page2 ≡ page1 ++ (codes "publish\nshow\n" ++ replies_from (codes "setup") 1 replies ++ sheets_from 0 sheets)
+pub room_served : (form : Form) (opening opening1 : PoolRecord) (limit limit1 : ℕ) (sheet : SheetRecord) (rest : List ℕ) (sheet' : SheetRecord) (files : List (List ℕ)) (sheets : List SheetRecord) (knowns : List (List Edit)) (page page1 page2 : List ℕ) → opening1 ≡ opening → limit1 ≡ limit
+    → AllServed form opening1 limit1 sheet rest sheet' files sheets knowns → PutEntries knowns (numbers_told sheet'.numbers (map (λ sheet. sheet.numbers) sheets)) page page1
+    → page2 ≡ page1 ++ (codes "publish\nshow\n" ++ replies_from (codes "setup") 1 sheet'.replies ++ sheets_from 0 (map (λ sheet. sheet.replies) sheets))
     → RoomServed form opening limit sheet rest files page page2
-room_served form opening opening1 limit limit1 sheet rest replies files sheets knowns page page1 page2 is same served put behind = record {
-  replies = replies;
+room_served form opening opening1 limit limit1 sheet rest sheet' files sheets knowns page page1 page2 is same served put behind = record {
+  sheet' = sheet';
   sheets = sheets;
   knowns = knowns;
-  served = subst (λ (z : ℕ). AllServed form opening z sheet rest replies files sheets knowns) same (subst (λ (z : PoolRecord). AllServed form z limit1 sheet rest replies files sheets knowns) is served);
+  served = subst (λ (z : ℕ). AllServed form opening z sheet rest sheet' files sheets knowns) same (subst (λ (z : PoolRecord). AllServed form z limit1 sheet rest sheet' files sheets knowns) is served);
   journal = put.journal;
   begins = put.begins;
-  put = behind ∙ ap (λ (z : List ℕ). z ++ (codes "publish\nshow\n" ++ replies_from (codes "setup") 1 replies ++ sheets_from 0 sheets)) put.put ∙ simp append_assoc;
+  told = put.told;
+  put = behind ∙ ap (λ (z : List ℕ). z ++ (codes "publish\nshow\n" ++ replies_from (codes "setup") 1 sheet'.replies ++ sheets_from 0 (map (λ sheet. sheet.replies) sheets))) put.put ∙ simp append_assoc;
 }
 
 -- newcomers know of nothing
@@ -171,22 +187,28 @@ pub ran : (bytes rest : List ℕ) (heading : Option Form) (setup : SetupRecord) 
     → page ≡ [] → page' ≡ page ++ (form_line (form_of heading) ++ flat_map declaration_line setup.catalog ++ limits_line setup.limits) → RoomServed (form_of heading) opening limit sheet rest files page' text → Ran bytes files text
 ran bytes rest heading setup sheet opening limit files page page' text so begins is same empty put room =
     let form = form_of heading in
-    let served : AllServed form (pool_of setup) setup.limits.journal sheet rest room.replies files room.sheets room.knowns =
-    subst (λ (z : ℕ). AllServed form (pool_of setup) z sheet rest room.replies files room.sheets room.knowns) same
-    (subst (λ (z : PoolRecord). AllServed form z limit sheet rest room.replies files room.sheets room.knowns) is room.served) in
-    let behind = entries_from 1 room.journal ++ codes "publish\nshow\n" ++ replies_from (codes "setup") 1 room.replies ++ sheets_from 0 room.sheets in
+    let served : AllServed form (pool_of setup) setup.limits.journal sheet rest room.sheet' files room.sheets room.knowns =
+    subst (λ (z : ℕ). AllServed form (pool_of setup) z sheet rest room.sheet' files room.sheets room.knowns) same
+    (subst (λ (z : PoolRecord). AllServed form z limit sheet rest room.sheet' files room.sheets room.knowns) is room.served) in
+    let sheets = map (λ (sheet : SheetRecord). sheet.replies) room.sheets in
+    let behind = entries_from 1 room.journal ++ codes "publish\nshow\n" ++ replies_from (codes "setup") 1 room.sheet'.replies ++ sheets_from 0 sheets in
     let set_up = form_line form ++ flat_map declaration_line setup.catalog ++ limits_line setup.limits in
     let first : page' ≡ set_up = put ∙ ap (λ (z : List ℕ). z ++ set_up) empty in
     record {
       heading = heading;
       set = setup;
-      sheet = room.replies;
+      own = served.setup.own;
+      sheet = room.sheet'.replies;
       known = served.known;
-      setup_served = setup_served bytes rest heading setup sheet room.replies served.known so begins served.setup;
-      sheets = room.sheets;
+      setup_served = setup_served bytes rest heading setup sheet room.sheet'.replies room.sheet'.numbers served.known so begins served.setup;
+      owns = served.done.owns;
+      sheets = sheets;
       knowns = room.knowns;
-      files_served = served.served;
+      files_served = served.done.served;
       journal = room.journal;
+      entries = entries-told (pool_of setup) setup.limits.journal form served.known served.setup.own files served.done.owns sheets room.knowns room.journal room.sheet'.numbers (map (λ (sheet : SheetRecord). sheet.numbers) room.sheets)
+          (served-stands (pool_of setup) setup.limits.journal served.setup.lines [] [] [] served.setup.own served.setup.told served.known served.setup.served).0 served.done.served room.begins room.told
+          (setup_numbers bytes rest heading setup sheet served.setup.own room.sheet'.numbers so served.setup.numbered) served.done.numbered;
       begins = room.begins;
       is = room.put ∙ ap (λ (z : List ℕ). z ++ behind) first ∙ simp append_assoc;
     }

@@ -13,7 +13,7 @@ use Rattle.cq_report.specs.Output.{AreReadFrom, state_after}
 use Rattle.cq_sessions.specs.Script.{Sheet}
 use Rattle.cq_sessions.specs.Sessions.{is_of_setup, in_setup, IsSetBy, BeginsBoard, setup_sheet, told_or_none}
 use Rattle.cq_report.specs.Lines.{HasNoEnd}
-use Rattle.cq_sessions.specs.Steps.Sheets.{SheetRecord}
+use Rattle.cq_sessions.specs.Steps.Sheets.{SheetRecord, blank}
 use Rattle.cq_sessions.specs.Steps.Settings.{Sets, Stays, SetsLine, IsBehind, SetTo, RestBegins}
 use Rattle.cq_report.proofs.CallerLemmas.{lines_of_ended, lines_of_open}
 use Rattle.cq_sessions.proofs.Turns.{map-snoc}
@@ -39,7 +39,7 @@ setup_sheet-snoc : (state : State) (front : List Reading) (heading : Option Form
 setup_sheet-snoc state [] heading setup reading set = ap (λ (s : State). told_or_none (reply s reading) ∷ []) set
 setup_sheet-snoc state (r ∷ front) heading setup reading set = ap (λ (z : Sheet). told_or_none (reply state r) ∷ z) (setup_sheet-snoc (next state r) front heading setup reading set.1)
 
-pub set_begin : (bytes : List ℕ) (heading : Option Form) (setup : SetupRecord) (sheet : SheetRecord) → heading ≡ None → setup ≡ begin_setup → sheet ≡ record { replies = []; batch = []; asked = [] } → SetTo bytes bytes heading setup sheet
+pub set_begin : (bytes : List ℕ) (heading : Option Form) (setup : SetupRecord) (sheet : SheetRecord) → heading ≡ None → setup ≡ begin_setup → sheet ≡ blank → SetTo bytes bytes heading setup sheet
 set_begin bytes heading setup sheet fresh is empty = record { lines = []; cut = refl; front = []; are = tt; set = rw (fresh, is) refl; told = empty }
 
 set_on : (bytes rest rest' line : List ℕ) (heading heading' : Option Form) (setup setup' : SetupRecord) (sheet sheet' : SheetRecord) → lines_of rest ≡ line ∷ lines_of rest' → SetTo bytes rest heading setup sheet → SetsLine heading setup sheet heading' setup' sheet' line → SetTo bytes rest' heading' setup' sheet'
@@ -50,7 +50,7 @@ set_on bytes rest rest' line heading heading' setup setup' sheet sheet' cut so l
   are = AreReadFrom-snoc (begin_state Plain) so.lines so.front line l.reading so.are (subst (λ (s : State). IsReading (form_in s) line l.reading) (sym (set_state (begin_state Plain) so.front heading setup so.set)) l.is);
   set = IsSetBy-snoc (begin_state Plain) so.front heading heading' setup setup' l.reading so.set l.sets.of_setup (rw (l.sets.stage, l.settles) refl);
   told = l.sets.told ∙ ap (λ (z : SheetRecord). record z { batch = z.batch ++ Told (told_or_none (reply (in_setup heading setup) l.reading)) ∷ [] }) so.told
-      ∙ ap (λ (z : List (Line (List ℕ))). record { replies = []; batch = z; asked = [] })
+      ∙ ap (λ (z : List (Line (List ℕ))). record blank { batch = z })
       (sym (map-snoc Told (setup_sheet (begin_state Plain) so.front) (told_or_none (reply (in_setup heading setup) l.reading))) ∙ ap (map Told) (sym (setup_sheet-snoc (begin_state Plain) so.front heading setup l.reading so.set)));
 }
 

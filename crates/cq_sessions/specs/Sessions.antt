@@ -1,5 +1,5 @@
 -- How SETUP and files are served over one board, each file by a session of its own. (this project's profile)
-use Rattle.std.specs.Prelude.{◌≡◌, ℕ, Bool, true, false, List, [], ◌∷◌, ◌++◌, Option, Some, None, length, map, codes, All}
+use Rattle.std.specs.Prelude.{◌≡◌, ℕ, ◌+◌, ◌==◌, Bool, true, false, List, [], ◌∷◌, ◌++◌, Option, Some, None, length, map, codes, All, slice_index_or, if◌then◌else◌}
 use Rattle.std.specs.Io.KnownBytes.{Appends}
 use mathlib.Core.List.{IsPrefix}
 use Rattle.cq_text.specs.Device.{TakesFront}
@@ -39,46 +39,55 @@ pub record Submitted (opening : PoolRecord) (limit : ℕ) (known known' asked : 
   pub told : rs ≡ replies_at pool_after why opening limit before asked
   pub now : known' ≡ before ++ accepted asked rs
 
+-- The edits whose replies say that they were entered, each with the number that it was told.
+abbrev pub entered : List Edit → List (Reply Why) → List (ℕ × Edit)
+entered [] rs = []
+entered (edit ∷ asked) [] = []
+entered (edit ∷ asked) (replies.Entered number ∷ rs) = (number, edit) ∷ entered asked rs
+entered (edit ∷ asked) (replies.JournalFull ∷ rs) = entered asked rs
+entered (edit ∷ asked) (replies.Not reason ∷ rs) = entered asked rs
+
 -- The end of a file submits the edits that wait, where any do.
 abbrev pub EndsFile : PoolRecord → ℕ → (known asked : List Edit) → List (Reply Why) → (known' : List Edit) → Type 0
 EndsFile opening limit known [] rs known' = known' ≡ known
 EndsFile opening limit known (edit ∷ asked) rs known' = Submitted opening limit known known' (edit ∷ asked) rs
 
--- Lines are served by a session that knows of the entries `known`, while the edits `asked` wait and will be answered `rs`; each line has a reply, or none, and in the end the session knows of `known'`.
+-- Lines are served by a session that knows of the entries `known`, while the edits `asked` wait and will be answered `rs`; each line has a reply, or none, and in the end the session knows of `known'`. Of the edits that waited
+-- and those of the lines, `own` are those that were entered, in order, with the numbers that they were told.
 -- A setup's line comes too late; an edit waits; a publish submits what waits, and tells how many entries are published then; a look shows no fewer entries than the session knew of, and tells how many.
-abbrev pub Served : PoolRecord → ℕ → List Reading → (known asked : List Edit) → List (Reply Why) → Sheet → (known' : List Edit) → Type 0
-Served opening limit [] known asked rs [] known' = EndsFile opening limit known asked rs known'
-Served opening limit [] known asked rs (told ∷ sheet) known' = ⊥
-Served opening limit (line ∷ lines) known asked rs [] known' = ⊥
-Served opening limit (Faulty kind offset ∷ lines) known asked rs (told ∷ sheet) known' = (told ≡ Some (fault_line kind offset)) × Served opening limit lines known asked rs sheet known'
-Served opening limit (Reads commands.Blank ∷ lines) known asked rs (told ∷ sheet) known' = (told ≡ None) × Served opening limit lines known asked rs sheet known'
-Served opening limit (Reads (commands.Relation name arity) ∷ lines) known asked rs (told ∷ sheet) known' = (told ≡ Some late_line) × Served opening limit lines known asked rs sheet known'
-Served opening limit (Reads (commands.Board form) ∷ lines) known asked rs (told ∷ sheet) known' = (told ≡ Some late_line) × Served opening limit lines known asked rs sheet known'
-Served opening limit (Reads (commands.Limits pool journal) ∷ lines) known asked rs (told ∷ sheet) known' = (told ≡ Some late_line) × Served opening limit lines known asked rs sheet known'
-Served opening limit (Reads (commands.Post name query) ∷ lines) known asked rs (told ∷ sheet) known' =
-    (r : Reply Why) × (told ≡ Some (edit_reply r)) × Served opening limit lines known (asked ++ edits.Post name query ∷ []) (rs ++ r ∷ []) sheet known'
-Served opening limit (Reads (commands.Withdraw name) ∷ lines) known asked rs (told ∷ sheet) known' =
-    (r : Reply Why) × (told ≡ Some (edit_reply r)) × Served opening limit lines known (asked ++ edits.Withdraw name ∷ []) (rs ++ r ∷ []) sheet known'
-Served opening limit (Reads (commands.Insert row) ∷ lines) known asked rs (told ∷ sheet) known' =
-    (r : Reply Why) × (told ≡ Some (edit_reply r)) × Served opening limit lines known (asked ++ edits.Insert row ∷ []) (rs ++ r ∷ []) sheet known'
-Served opening limit (Reads (commands.Delete row) ∷ lines) known asked rs (told ∷ sheet) known' =
-    (r : Reply Why) × (told ≡ Some (edit_reply r)) × Served opening limit lines known (asked ++ edits.Delete row ∷ []) (rs ++ r ∷ []) sheet known'
-Served opening limit (Reads commands.Publish ∷ lines) known asked rs (told ∷ sheet) known' =
-    (now : List Edit) × Submitted opening limit known now asked rs × (told ≡ Some (published_line (length now))) × Served opening limit lines now [] [] sheet known'
-Served opening limit (Reads commands.Show ∷ lines) known asked rs (told ∷ sheet) known' =
-    (seen : List Edit) × IsPrefix known seen × (told ≡ Some (show_line (length seen))) × Served opening limit lines seen asked rs sheet known'
+abbrev pub Served : PoolRecord → ℕ → List Reading → (known asked : List Edit) → List (Reply Why) → (own : List (ℕ × Edit)) → Sheet → (known' : List Edit) → Type 0
+Served opening limit [] known asked rs own [] known' = (own ≡ entered asked rs) × EndsFile opening limit known asked rs known'
+Served opening limit [] known asked rs own (told ∷ sheet) known' = ⊥
+Served opening limit (line ∷ lines) known asked rs own [] known' = ⊥
+Served opening limit (Faulty kind offset ∷ lines) known asked rs own (told ∷ sheet) known' = (told ≡ Some (fault_line kind offset)) × Served opening limit lines known asked rs own sheet known'
+Served opening limit (Reads commands.Blank ∷ lines) known asked rs own (told ∷ sheet) known' = (told ≡ None) × Served opening limit lines known asked rs own sheet known'
+Served opening limit (Reads (commands.Relation name arity) ∷ lines) known asked rs own (told ∷ sheet) known' = (told ≡ Some late_line) × Served opening limit lines known asked rs own sheet known'
+Served opening limit (Reads (commands.Board form) ∷ lines) known asked rs own (told ∷ sheet) known' = (told ≡ Some late_line) × Served opening limit lines known asked rs own sheet known'
+Served opening limit (Reads (commands.Limits pool journal) ∷ lines) known asked rs own (told ∷ sheet) known' = (told ≡ Some late_line) × Served opening limit lines known asked rs own sheet known'
+Served opening limit (Reads (commands.Post name query) ∷ lines) known asked rs own (told ∷ sheet) known' =
+    (r : Reply Why) × (told ≡ Some (edit_reply r)) × Served opening limit lines known (asked ++ edits.Post name query ∷ []) (rs ++ r ∷ []) own sheet known'
+Served opening limit (Reads (commands.Withdraw name) ∷ lines) known asked rs own (told ∷ sheet) known' =
+    (r : Reply Why) × (told ≡ Some (edit_reply r)) × Served opening limit lines known (asked ++ edits.Withdraw name ∷ []) (rs ++ r ∷ []) own sheet known'
+Served opening limit (Reads (commands.Insert row) ∷ lines) known asked rs own (told ∷ sheet) known' =
+    (r : Reply Why) × (told ≡ Some (edit_reply r)) × Served opening limit lines known (asked ++ edits.Insert row ∷ []) (rs ++ r ∷ []) own sheet known'
+Served opening limit (Reads (commands.Delete row) ∷ lines) known asked rs own (told ∷ sheet) known' =
+    (r : Reply Why) × (told ≡ Some (edit_reply r)) × Served opening limit lines known (asked ++ edits.Delete row ∷ []) (rs ++ r ∷ []) own sheet known'
+Served opening limit (Reads commands.Publish ∷ lines) known asked rs own (told ∷ sheet) known' =
+    (now : List Edit) × (behind : List (ℕ × Edit)) × Submitted opening limit known now asked rs × (own ≡ entered asked rs ++ behind) × (told ≡ Some (published_line (length now))) × Served opening limit lines now [] [] behind sheet known'
+Served opening limit (Reads commands.Show ∷ lines) known asked rs own (told ∷ sheet) known' =
+    (seen : List Edit) × IsPrefix known seen × (told ≡ Some (show_line (length seen))) × Served opening limit lines seen asked rs own sheet known'
 
 -- A file's bytes are served line by line.
-pub record FileServed (form : Form) (opening : PoolRecord) (limit : ℕ) (known : List Edit) (file : List ℕ) (sheet : Sheet) (known' : List Edit) : Type 0 where
+pub record FileServed (form : Form) (opening : PoolRecord) (limit : ℕ) (known : List Edit) (file : List ℕ) (own : List (ℕ × Edit)) (sheet : Sheet) (known' : List Edit) : Type 0 where
   pub lines : List Reading
   pub are : AreReadIn form (lines_of file) lines
-  pub served : Served opening limit lines known [] [] sheet known'
+  pub served : Served opening limit lines known [] [] own sheet known'
 
--- Each file is served; what its session knows of before and behind it stands at the file's place.
-abbrev pub FilesServed : Form → PoolRecord → ℕ → List (List Edit) → List (List ℕ) → List Sheet → List (List Edit) → Type 0
-FilesServed form opening limit [] [] [] [] = Unit {0}
-FilesServed form opening limit (known ∷ knowns) (file ∷ files) (sheet ∷ sheets) (known' ∷ knowns') = FileServed form opening limit known file sheet known' × FilesServed form opening limit knowns files sheets knowns'
-FilesServed form opening limit knowns files sheets knowns' = ⊥
+-- Each file is served; what its session knows of before and behind it, and what it entered, stands at the file's place.
+abbrev pub FilesServed : Form → PoolRecord → ℕ → List (List Edit) → List (List ℕ) → List (List (ℕ × Edit)) → List Sheet → List (List Edit) → Type 0
+FilesServed form opening limit [] [] [] [] [] = Unit {0}
+FilesServed form opening limit (known ∷ knowns) (file ∷ files) (own ∷ owns) (sheet ∷ sheets) (known' ∷ knowns') = FileServed form opening limit known file own sheet known' × FilesServed form opening limit knowns files owns sheets knowns'
+FilesServed form opening limit knowns files owns sheets knowns' = ⊥
 
 -- ---- SETUP
 
@@ -125,7 +134,7 @@ abbrev pub pool_of : SetupRecord → PoolRecord
 pool_of setup = opening_pool setup.catalog setup.limits
 
 -- SETUP is served: lines of a setup first, which settle the form, and all lines behind them, read in it, by session 0, which knows of no entry before.
-pub record SetupServed (file : List ℕ) (heading : Option Form) (setup : SetupRecord) (sheet : Sheet) (known : List Edit) : Type 0 where
+pub record SetupServed (file : List ℕ) (heading : Option Form) (setup : SetupRecord) (own : List (ℕ × Edit)) (sheet : Sheet) (known : List Edit) : Type 0 where
   pub first : List (List ℕ)
   pub rest : List (List ℕ)
   pub cut : lines_of file ≡ first ++ rest
@@ -137,7 +146,7 @@ pub record SetupServed (file : List ℕ) (heading : Option Form) (setup : SetupR
   pub begins : BeginsBoard behind
   pub told : Sheet
   pub whole : sheet ≡ setup_sheet (begin_state Plain) front ++ told
-  pub served : Served (pool_of setup) setup.limits.journal behind [] [] [] told known
+  pub served : Served (pool_of setup) setup.limits.journal behind [] [] [] own told known
 
 -- ---- all of it
 
@@ -146,17 +155,31 @@ abbrev pub knowns_before : List Edit → List (List ℕ) → List (List Edit)
 knowns_before known [] = []
 knowns_before known (file ∷ files) = known ∷ map (λ _. []) files
 
--- The text is the script of a room in which SETUP and then the files were served: its journal begins with all that each session knows of in the end.
+-- The entries of one session, each by its number and its edit; the first of all these entries has that number.
+abbrev pub entered_by : ℕ → ℕ → List (Entry Edit) → List (ℕ × Edit)
+entered_by session number [] = []
+entered_by session number (entry ∷ entries) = (if entry.author == session then (number, entry.edit) ∷ [] else []) ++ entered_by session (number + 1) entries
+
+-- What each session entered: session 0 what SETUP and then its file did, the others what their files did.
+abbrev pub owns_of : List (ℕ × Edit) → List (List (ℕ × Edit)) → List (List (ℕ × Edit))
+owns_of own [] = []
+owns_of own (first ∷ owns) = (own ++ first) ∷ owns
+
+-- The text is the script of a room in which SETUP and then the files were served. Its journal is what the sessions entered, and nothing else: under each session stand the edits of its lines that were told a number, in their order and at these
+-- numbers, and under a number that is no session's stands nothing. It begins with all that each session knows of in the end.
 pub record Ran (setup : List ℕ) (files : List (List ℕ)) (text : List ℕ) : Type 0 where
   pub heading : Option Form
   pub set : SetupRecord
+  pub own : List (ℕ × Edit)
   pub sheet : Sheet
   pub known : List Edit
-  pub setup_served : SetupServed setup heading set sheet known
+  pub setup_served : SetupServed setup heading set own sheet known
+  pub owns : List (List (ℕ × Edit))
   pub sheets : List Sheet
   pub knowns : List (List Edit)
-  pub files_served : FilesServed (form_of heading) (pool_of set) set.limits.journal (knowns_before known files) files sheets knowns
+  pub files_served : FilesServed (form_of heading) (pool_of set) set.limits.journal (knowns_before known files) files owns sheets knowns
   pub journal : List (Entry Edit)
+  pub entries : (session : ℕ) → entered_by session 1 journal ≡ slice_index_or (owns_of own owns) session []
   pub begins : All (λ known. IsPrefix known (journal_edits journal)) knowns
   pub is : text ≡ script_of (form_of heading) set.catalog set.limits journal sheet sheets
 

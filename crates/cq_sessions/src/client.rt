@@ -205,6 +205,7 @@ fn submit_waiting<
 {
     let submission = submit_by(hall, session, sheet.take())?;
     sheet.end(&submission.replies)?;
+    sheet.take_down(&submission.replies)?;
     Ok(submission.published)
 }
 

@@ -1,6 +1,7 @@
 //! Why files are not served.
 
-ghost use Rattle.std.specs.Prelude.{◌≡◌};
+ghost use Rattle.std.specs.Prelude.{◌≡◌, ◌≤◌, ◌⊎◌, Some, IfSome};
+ghost use Rattle.cq_sessions.specs.Steps.Rooms.{rank};
 
 use cq_report::RunFault;
 use cq_room::RoomFault;
@@ -9,7 +10,7 @@ use std::alloc::{AllocError, AllocFailed};
 /// Why SETUP and files were not served. Nothing is written then.
 #[derive(Clone, Copy, Debug, PartialEq, Eq)]
 pub(crate) enum ServeFault {
-    /// A session got no place among the readers, or a look was refused.
+    /// A session got no place among the readers, a look was refused, or the journal held other entries than those that were told.
     Places,
     /// A thread was not started.
     Thread,
@@ -27,7 +28,11 @@ impl ServeFault {
     }
 
     /// Which of two faults is answered: `Places` before `Thread`, and that before want of memory.
-    pub(crate) fn or_before(self, other: Option<ServeFault>) -> ServeFault {
+    pub(crate) fn or_before(self, other: Option<ServeFault>) -> ServeFault
+        ensures one { (result ≡ self) ⊎ (other ≡ Some result) }
+        ensures this { rank result ≤ rank self }
+        ensures that { IfSome other (λ fault. rank result ≤ rank fault) }
+    {
         match (self, other) {
             (ServeFault::Places, _) | (_, Some(ServeFault::Places)) => ServeFault::Places,
             (ServeFault::Thread, _) | (_, Some(ServeFault::Thread)) => ServeFault::Thread,

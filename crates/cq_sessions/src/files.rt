@@ -1,16 +1,16 @@
 //! Sessions from files: a thread for each file, over one board.
 
-ghost use Rattle.std.specs.Prelude.{◌≡◌, ◌<◌, ◌≤◌, ◌+◌, ◌^◌, ◌∷◌, ◌++◌, [], length, map, codes, string_bytes, IfOk, IfErr, IfNone, OnOk, MatchResult};
+ghost use Rattle.std.specs.Prelude.{◌≡◌, ◌<◌, ◌≤◌, ◌+◌, ◌^◌, ◌∷◌, ◌++◌, [], length, map, codes, string_bytes, IfOk, IfErr, OnOk, MatchResult};
 ghost use Rattle.std.specs.List.{flat_map};
 ghost use Rattle.std.specs.Io.KnownBytes.{Appends};
 ghost use Rattle.cq_text.specs.Device.{TakesFront};
 ghost use Rattle.cq_desk.specs.History.{edits_of};
 ghost use Rattle.cq_report.specs.Run.{IsOfSessions, failures_of};
-ghost use Rattle.cq_sessions.specs.Script.{form_line, declaration_line, limits_line, replies_from, sheets_from};
-ghost use Rattle.cq_sessions.specs.Sessions.{FilesServed, Ran, IfWritten, Wrote, WroteFrontOf, pool_of};
+ghost use Rattle.cq_sessions.specs.Script.{form_line, declaration_line, limits_line, entries_from, replies_from, sheets_from};
+ghost use Rattle.cq_sessions.specs.Sessions.{Ran, IfWritten, Wrote, WroteFrontOf, pool_of};
 ghost use Rattle.cq_sessions.specs.Steps.Sheets.{IsEven};
 ghost use Rattle.cq_sessions.specs.Steps.Clients.{IsOpened, TakesEdits, opened_pool};
-ghost use Rattle.cq_sessions.specs.Steps.Rooms.{AreDone, FirstServes, AllServed, PutEntries, RoomServed};
+ghost use Rattle.cq_sessions.specs.Steps.Rooms.{AreDone, AreTold, IsFirstOf, FilesDone, FirstServes, AllServed, PutEntries, RoomServed, numbers_told};
 
 use crate::client::{BoardClient, Client, Hall};
 use crate::fault::ServeFault;
@@ -19,9 +19,10 @@ use crate::seat::{Done, Seat};
 use crate::serving::serve_bytes;
 use crate::setting::{Setting, read_setting};
 use crate::sheet::Sheet;
+use crate::telling::is_told;
 use crate::threads::run_all;
 use cq_board::{Board, Edit, Why};
-use cq_desk::Live;
+use cq_desk::{Entry, Live};
 use cq_report::{RunFault, Setup, form_of};
 use cq_room::{Gate, OpenGate, Parts, Room, RoomName, Session, Watched};
 use cq_text::{Form, Sink, write_all};
@@ -36,7 +37,7 @@ fn first_fault<C, A: Allocator>(
     count: usize,
     lefts: &[Result<Done<C, A>, ServeFault>],
 ) -> Option<ServeFault>
-    ensures { IfNone result (count ≤ length lefts.now) }
+    ensures { IsFirstOf (length lefts.now < count) lefts.now result }
 {
     let mut first = if lefts.len() < count {
         Some(ServeFault::Thread)
@@ -44,9 +45,10 @@ fn first_fault<C, A: Allocator>(
         None
     };
     for left in lefts {
-        if let Err(fault) = left {
-            first = Some(fault.or_before(first));
-        }
+        first = match left {
+            Ok(_) => first,
+            Err(fault) => Some(fault.or_before(first)),
+        };
     }
     first
 }
@@ -118,7 +120,7 @@ fn serve_files<
     gate: &G,
 ) -> Result<Served<C, A>, ServeFault>
     requires { length clients.items ≡ length files.now }
-    ensures { IfOk result (λ served. FilesServed form C.opening C.limit (map C.known clients.items) (map (λ file. file.items) files.now) (map (λ sheet. sheet.replies) served.sheets.items) (map C.known served.clients.items)) }
+    ensures { IfOk result (λ served. FilesDone form C.opening C.limit (map C.known clients.items) (map (λ file. file.items) files.now) served.sheets.items (map C.known served.clients.items)) }
 {
     let count = clients.len();
     let lefts = run_all(rt, alloc, seats(alloc, form, clients, files, gate)?)?;
@@ -139,7 +141,7 @@ fn serve_setup<C: Client<A>, A: Allocator + Copy>(
     requires even { IsEven sheet.old }
     requires asked { sheet.old.asked ≡ [] }
     requires first { 0 < length clients.old.items }
-    ensures { OnOk result (FirstServes form C.opening C.limit (map C.known clients.old.items) sheet.old (map C.known clients.new.items) sheet.new.replies rest.now) }
+    ensures { OnOk result (FirstServes form C.opening C.limit (map C.known clients.old.items) sheet.old (map C.known clients.new.items) sheet.new rest.now) }
 {
     let Some(first) = clients.first_mut() else {
         unreachable!()
@@ -167,7 +169,7 @@ fn serve_all<
     requires asked { sheet.old.asked ≡ [] }
     requires files { 0 < length files.now }
     requires fresh { map C.known clients.items ≡ map (λ _. []) files.now }
-    ensures { IfOk result (λ served. AllServed form C.opening C.limit sheet.old rest.now sheet.new.replies (map (λ file. file.items) files.now) (map (λ sheet. sheet.replies) served.sheets.items) (map C.known served.clients.items)) }
+    ensures { IfOk result (λ served. AllServed form C.opening C.limit sheet.old rest.now sheet.new (map (λ file. file.items) files.now) served.sheets.items (map C.known served.clients.items)) }
 {
     let mut clients = clients;
     serve_setup(alloc, form, &mut clients, sheet, rest)?;
@@ -241,7 +243,7 @@ fn serve_in<
     requires asked { sheet.old.asked ≡ [] }
     requires files { 0 < length files.now }
     requires fresh { map (λ session. edits_of session.history) sessions.items ≡ map (λ _. []) files.now }
-    ensures { IfOk result (λ served. AllServed form (opened_pool N.opening) N.limit sheet.old rest.now sheet.new.replies (map (λ file. file.items) files.now) (map (λ sheet. sheet.replies) served.sheets.items) (map (λ session. edits_of session.history) served.clients.items)) }
+    ensures { IfOk result (λ served. AllServed form (opened_pool N.opening) N.limit sheet.old rest.now sheet.new (map (λ file. file.items) files.now) served.sheets.items (map (λ session. edits_of session.history) served.clients.items)) }
 {
     let clients = clients(alloc, hall, sessions)?;
     let Served { clients, sheets } = serve_all(rt, alloc, form, clients, sheet, rest, files, gate)?;
@@ -251,20 +253,40 @@ fn serve_in<
     })
 }
 
+/// Puts the entries of a journal, where they are those that were told. They always are.
+fn put_told<A: Allocator + Copy>(
+    alloc: A,
+    journal: &[Entry<Edit<A>>],
+    setup: &Sheet<A>,
+    sheets: &[Sheet<A>],
+    page: &mut String<A>,
+) -> Result<(), ServeFault>
+    ensures told { OnOk result (AreTold journal.now (numbers_told setup.now.numbers (map (λ sheet. sheet.numbers) sheets.now))) }
+    ensures put { OnOk result (string_bytes page.new ≡ string_bytes page.old ++ entries_from 1 journal.now) }
+{
+    if !is_told(alloc, journal, setup, sheets)? {
+        return Err(ServeFault::Places);
+    }
+    put_entries(alloc, journal, page)?;
+    Ok(())
+}
+
 /// Closes the room, and puts its entries. The state is a parameter for the reason that `submit_in` has one.
 fn close<A: Allocator + Copy, L: Live<Edit = Edit<A>>, N: RoomName<L::Content>, P: Watched<L, N>>(
     rt: &P::Leave,
     alloc: A,
     room: Room<L, N, P, A>,
     sessions: Vec<Session<L, N, A>, A>,
+    setup: &Sheet<A>,
+    sheets: &[Sheet<A>],
     page: &mut String<A>,
-) -> Result<(), AllocError>
+) -> Result<(), ServeFault>
 where
     P::Leave: Wait,
-    ensures { OnOk result (PutEntries (map (λ session. edits_of session.history) sessions.items) (string_bytes page.old) (string_bytes page.new)) }
+    ensures { OnOk result (PutEntries (map (λ session. edits_of session.history) sessions.items) (numbers_told setup.now.numbers (map (λ sheet. sheet.numbers) sheets.now)) (string_bytes page.old) (string_bytes page.new)) }
 {
     let desk = room.close(rt, sessions);
-    let put = put_entries(alloc, desk.journal(), page);
+    let put = put_told(alloc, desk.journal(), setup, sheets, page);
     mem::drop(desk);
     put
 }
@@ -319,7 +341,7 @@ fn serve_room<
     let Served { clients, sheets } = serve_in(
         threads, alloc, form, &hall, sessions, sheet, rest, files, gate,
     )?;
-    close(rt, alloc, room, clients, page)?;
+    close(rt, alloc, room, clients, sheet, &sheets, page)?;
     put_behind(alloc, sheet, &sheets, page)?;
     Ok(())
 }

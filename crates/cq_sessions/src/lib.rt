@@ -15,6 +15,7 @@ mod seat;
 mod serving;
 mod setting;
 mod sheet;
+mod telling;
 mod threads;
 
 pub use files::{run_sessions, run_sessions_past};

@@ -1,7 +1,7 @@
 //! A file's thread.
 
 ghost use Rattle.std.specs.Prelude.{IfOk};
-ghost use Rattle.cq_sessions.specs.Sessions.{FileServed};
+ghost use Rattle.cq_sessions.specs.Steps.Rooms.{LeavesFile};
 
 use crate::client::Client;
 use crate::fault::ServeFault;
@@ -33,7 +33,7 @@ impl<'a, C: Client<A> + Send, G: Gate, A: Allocator + Copy + Send + Sync> Job
     for Seat<'a, C, G, A> {
     type Left = Result<Done<C, A>, ServeFault>;
 
-    ghost leaves = { λ seat left. IfOk left (λ done. FileServed seat.form C.opening C.limit (C.known seat.client) seat.file.now done.sheet.replies (C.known done.client)) };
+    ghost leaves = { λ seat left. IfOk left (λ done. LeavesFile seat.form C.opening C.limit (C.known seat.client) seat.file.now done.sheet (C.known done.client)) };
 
     fn run(self) -> Result<Done<C, A>, ServeFault> {
         let Seat {

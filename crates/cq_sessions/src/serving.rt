@@ -137,7 +137,7 @@ fn finish<A: Allocator + Copy, C: Client<A>>(
     sheet: &mut Sheet<A>,
 ) -> Result<(), ServeFault>
     requires { IsEven sheet.old }
-    ensures { OnOk result (Ends C.opening C.limit (C.known client.old) sheet.old (C.known client.new) sheet.new.replies) }
+    ensures { OnOk result (Ends C.opening C.limit (C.known client.old) sheet.old (C.known client.new) sheet.new.replies sheet.new.numbers) }
 {
     if sheet.waits() {
         client.submit(sheet)?;
@@ -157,7 +157,7 @@ pub(crate) fn serve_bytes<A: Allocator + Copy, C: Client<A>>(
 ) -> Result<(), ServeFault>
     requires even { IsEven sheet.old }
     requires asked { sheet.old.asked ≡ [] }
-    ensures { OnOk result (BytesServed form C.opening C.limit (C.known client.old) sheet.old (C.known client.new) sheet.new.replies bytes.now) }
+    ensures { OnOk result (BytesServed form C.opening C.limit (C.known client.old) sheet.old (C.known client.new) sheet.new.replies sheet.new.numbers bytes.now) }
 {
     serve_lines(alloc, form, client, sheet, bytes)?;
     finish(client, sheet)

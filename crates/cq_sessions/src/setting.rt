@@ -7,6 +7,7 @@ ghost use Rattle.cq_report.specs.Reading.{Reads, Faulty};
 ghost use Rattle.cq_report.specs.Reply.{fault_line};
 ghost use Rattle.cq_sessions.specs.declared.sheet.Line.TheVariants.{Told};
 ghost use Rattle.cq_text.specs.declared.command.CommandKind.TheVariants as commands;
+ghost use Rattle.cq_sessions.specs.Steps.Sheets.{blank};
 ghost use Rattle.cq_sessions.specs.Steps.Settings.{Sets, Stays, SetsLine, IsBehind, SetTo, RestBegins};
 
 use crate::fault::ServeFault;
@@ -180,7 +181,7 @@ fn set_all<'a, A: Allocator + Copy>(
 ) -> Result<&'a [u8], ServeFault>
     requires heading { heading.old ≡ None }
     requires setup { setup.old ≡ begin_setup }
-    requires sheet { sheet.old ≡ record { replies = []; batch = []; asked = [] } }
+    requires sheet { sheet.old ≡ blank }
     ensures set { IfOk result (λ rest. SetTo bytes.now rest.now heading.new setup.new sheet.new) }
     ensures behind { IfOk result (λ rest. RestBegins (form_of heading.new) rest.now) }
 {

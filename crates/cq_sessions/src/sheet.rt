@@ -2,7 +2,7 @@
 
 ghost use Rattle.std.specs.Prelude.{◌≡◌, ◌<◌, ◌≤◌, ◌∷◌, ◌++◌, ℕ, List, [], length, drop, option_map, map, string_bytes, IfOk, OnOk, MatchBool};
 ghost use Rattle.cq_sessions.specs.Sessions.{edit_reply};
-ghost use Rattle.cq_sessions.specs.Steps.Sheets.{filled, line_map};
+ghost use Rattle.cq_sessions.specs.Steps.Sheets.{blank, filled, line_map, told_in};
 
 use crate::fault::ServeFault;
 use cq_board::{Edit, Why};
@@ -29,6 +29,8 @@ pub(crate) struct Sheet<A: Allocator> {
     replies: Vec<Option<String<A>>, A>,
     batch: Vec<Line<String<A>>, A>,
     gathered: Vec<Edit<A>, A>,
+    /// The numbers of the entries that submits told.
+    numbers: Vec<u64, A>,
 }
 
 impl<A: Allocator> Model for Sheet<A> {
@@ -37,7 +39,7 @@ impl<A: Allocator> Model for Sheet<A> {
 
     ghost Value = { SheetRecord };
 
-    ghost view = { λ s. record { replies = map (option_map string_bytes) s.replies.items; batch = map (line_map string_bytes) s.batch.items; asked = s.gathered.items } };
+    ghost view = { λ s. record { replies = map (option_map string_bytes) s.replies.items; batch = map (line_map string_bytes) s.batch.items; asked = s.gathered.items; numbers = s.numbers.items } };
 }
 
 /// The reply to an edit.
@@ -71,16 +73,49 @@ fn fill<A: Allocator>(
     }
 }
 
+/// Puts the number that a reply tells, if it tells one.
+fn push_number<A: Allocator>(
+    numbers: &mut Vec<u64, A>,
+    reply: &Reply<Why>,
+) -> Result<(), AllocError>
+    ensures { OnOk result (numbers.new.items ≡ numbers.old.items ++ told_in (reply.now ∷ [])) }
+{
+    match reply {
+        Reply::Entered(number) => {
+            numbers.push(*number)?;
+            Ok(())
+        }
+        Reply::JournalFull => Ok(()),
+        Reply::Not(_) => Ok(()),
+    }
+}
+
+/// Puts the numbers that the replies tell.
+fn push_numbers<A: Allocator>(
+    numbers: &mut Vec<u64, A>,
+    replies: &[Reply<Why>],
+) -> Result<(), AllocError>
+    ensures { OnOk result (numbers.new.items ≡ numbers.old.items ++ told_in replies.now) }
+{
+    let mut left = replies;
+    while let Some((reply, behind)) = left.split_first() {
+        push_number(numbers, reply)?;
+        left = behind;
+    }
+    Ok(())
+}
+
 impl<A: Allocator + Copy> Sheet<A> {
     /// No line was served yet.
     pub(crate) fn begin(alloc: A) -> Sheet<A>
-        ensures { result ≡ record { replies = []; batch = []; asked = [] } }
+        ensures { result ≡ blank }
     {
         Sheet {
             alloc,
             replies: Vec::new(alloc),
             batch: Vec::new(alloc),
             gathered: Vec::new(alloc),
+            numbers: Vec::new(alloc),
         }
     }
 
@@ -135,6 +170,20 @@ impl<A: Allocator + Copy> Sheet<A> {
             next = told;
         }
         Ok(())
+    }
+
+    /// Takes down the numbers that the replies tell.
+    pub(crate) fn take_down(&mut self, replies: &[Reply<Why>]) -> Result<(), AllocError>
+        ensures { OnOk result (self.new ≡ record self.old { numbers = self.old.numbers ++ told_in replies.now }) }
+    {
+        push_numbers(&mut self.numbers, replies)
+    }
+
+    /// The numbers of the entries that submits told, in the order in which they were told.
+    pub(crate) fn numbers(&self) -> &[u64]
+        ensures { result.now ≡ self.now.numbers }
+    {
+        &self.numbers
     }
 
     /// The replies to the lines that submits ended, in the order of the lines.

@@ -1,5 +1,5 @@
 -- A session that serves a file, by what it knows.
-use Rattle.std.specs.Prelude.{◌≡◌, ℕ, List, [], ◌∷◌, Option, None, Some, length}
+use Rattle.std.specs.Prelude.{◌≡◌, ℕ, List, [], ◌∷◌, ◌++◌, Option, None, Some, length}
 use Rattle.cq_board.specs.declared.edit.Why.{Why}
 use Rattle.cq_board.specs.Pool.{PoolRecord, opening_pool}
 use Rattle.cq_board.specs.Edits.{Edit, why, pool_after}
@@ -8,7 +8,7 @@ use Rattle.cq_desk.specs.declared.reply.Reply.{Reply}
 use Rattle.cq_room.specs.Sessions.{SessionRecord}
 use Rattle.cq_sessions.specs.Script.{Sheet}
 use Rattle.cq_sessions.specs.Sessions.{Submitted, EndsFile}
-use Rattle.cq_sessions.specs.Steps.Sheets.{SheetRecord, whole}
+use Rattle.cq_sessions.specs.Steps.Sheets.{SheetRecord, told_in, whole}
 
 -- The entries that a session knows of, and none where there is no session.
 abbrev pub known_in : Option (SessionRecord Edit) → List Edit
@@ -44,11 +44,12 @@ pub record Submits (opening : PoolRecord) (limit : ℕ) (known : List Edit) (she
   pub tried : length rs ≡ length sheet.asked
   pub submitted : Submitted opening limit known known' sheet.asked rs
   pub count : published ≡ length known'
-  pub after : sheet' ≡ record { replies = whole sheet rs; batch = []; asked = [] }
+  pub after : sheet' ≡ record { replies = whole sheet rs; batch = []; asked = []; numbers = sheet.numbers ++ told_in rs }
 
 -- The file's end is served, and all its lines have their replies.
-pub record Ends (opening : PoolRecord) (limit : ℕ) (known : List Edit) (sheet : SheetRecord) (known' : List Edit) (replies : Sheet) : Type 0 where
+pub record Ends (opening : PoolRecord) (limit : ℕ) (known : List Edit) (sheet : SheetRecord) (known' : List Edit) (replies : Sheet) (numbers : List ℕ) : Type 0 where
   pub rs : List (Reply Why)
   pub tried : length rs ≡ length sheet.asked
   pub ends : EndsFile opening limit known sheet.asked rs known'
   pub whole_of : replies ≡ whole sheet rs
+  pub numbers_are : numbers ≡ sheet.numbers ++ told_in rs

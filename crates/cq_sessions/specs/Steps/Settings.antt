@@ -9,7 +9,7 @@ use Rattle.cq_report.specs.declared.numbering.Numbering.TheVariants.{Plain}
 use Rattle.cq_report.specs.Machine.{SetupRecord, begin_state, form_of, headed, staged}
 use Rattle.cq_report.specs.Output.{AreReadings}
 use Rattle.cq_sessions.specs.Sessions.{is_of_setup, IsSetBy, BeginsBoard, setup_sheet, told_or_none}
-use Rattle.cq_sessions.specs.Steps.Sheets.{SheetRecord}
+use Rattle.cq_sessions.specs.Steps.Sheets.{SheetRecord, blank}
 
 -- A command of a setup is answered as a replay answers it, where this form is settled before it, if any.
 pub record Sets (heading : Option Form) (setup : SetupRecord) (sheet : SheetRecord) (setup' : SetupRecord) (sheet' : SheetRecord) (reading : Reading) : Type 0 where
@@ -44,7 +44,7 @@ pub record SetTo (bytes rest : List ℕ) (heading : Option Form) (setup : SetupR
   pub front : List Reading
   pub are : AreReadings lines front
   pub set : IsSetBy (begin_state Plain) front heading setup
-  pub told : sheet ≡ record { replies = []; batch = map Told (setup_sheet (begin_state Plain) front); asked = [] }
+  pub told : sheet ≡ record blank { batch = map Told (setup_sheet (begin_state Plain) front) }
 
 -- The rest, read in this form, has no line of a setup first.
 abbrev pub RestBegins : Form → List ℕ → Type 0

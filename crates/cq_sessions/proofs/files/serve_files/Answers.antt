@@ -1,7 +1,7 @@
 use Rattle.std.proofs.Common.{◌≡◌, ◌≤◌, length, map, sym, ap, subst, ◌∙◌, arith}
 use Rattle.std.proofs.lemmas.Result.{IfOk-weaker}
-use Rattle.cq_sessions.specs.Sessions.{FilesServed}
-use Rattle.cq_sessions.proofs.Rooms.{files_served, map_map, length_map}
+use Rattle.cq_sessions.specs.Steps.Rooms.{FilesDone}
+use Rattle.cq_sessions.proofs.Rooms.{files_done, map_map, length_map}
 use Rattle.cq_sessions.proofs.files.serve_files.Goals as goal
 
 pub returns-in-None : goal.returns-in-None
@@ -12,8 +12,8 @@ returns-in-None g c =
     let same : length seats ≡ length c.args.clients.items = sym (length_map (λ seat. seat.client) seats) ∙ ap length given.clients in
     let many : length seats ≤ length lefts = let a = c.in-None.ensures in let b = c.len-count.ensures in let d = ap length c.deref.ensures.value in omega (arith, same, a, b, d) in
     IfOk-weaker c.take_apart.result _ _
-    (λ served done. subst (λ z. FilesServed c.args.form opening limit z (map (λ file. file.items) c.args.files.now) (map (λ sheet. sheet.replies) served.sheets.items) (map known served.clients.items))
+    (λ served done. subst (λ z. FilesDone c.args.form opening limit z (map (λ file. file.items) c.args.files.now) served.sheets.items (map known served.clients.items))
     (sym (map_map known (λ seat. seat.client) seats) ∙ ap (map known) given.clients)
-    (subst (λ z. FilesServed c.args.form opening limit (map (λ seat. known seat.client) seats) z (map (λ sheet. sheet.replies) served.sheets.items) (map known served.clients.items)) given.files
-    (files_served c.args.form opening limit known (λ seat. seat.form) (λ seat. seat.client) (λ seat. seat.file.now) seats c.args.clients.items lefts served.clients.items served.sheets.items given.forms c.in_ok-lefts.ensures many done)))
+    (subst (λ z. FilesDone c.args.form opening limit (map (λ seat. known seat.client) seats) z served.sheets.items (map known served.clients.items)) given.files
+    (files_done c.args.form opening limit known (λ seat. seat.form) (λ seat. seat.client) (λ seat. seat.file.now) seats c.args.clients.items lefts served.clients.items served.sheets.items given.forms c.in_ok-lefts.ensures many done)))
     c.take_apart.ensures

@@ -12,7 +12,7 @@ serve_in-requires-clause-fresh g c κs live = ap (map (λ session. edits_of sess
 pub returns : goal.returns
 returns g c =
     let served = c.in_ok-clients.field-0 in
-    room_served c.args.form c.args.parts.opening (opened_pool g.N.RoomName.opening) c.args.parts.limit g.N.RoomName.limit c.args.sheet.now c.args.rest.now c.serve_in.new.sheet.replies (map (λ file. file.items) c.args.files.now)
-    (map (λ sheet. sheet.replies) served.sheets.items) (map (λ session. edits_of session.history) served.clients.items) (string_bytes c.args.page.now) (string_bytes c.close.new.page) (string_bytes c.put_behind.new.page)
+    room_served c.args.form c.args.parts.opening (opened_pool g.N.RoomName.opening) c.args.parts.limit g.N.RoomName.limit c.args.sheet.now c.args.rest.now c.serve_in.new.sheet (map (λ file. file.items) c.args.files.now)
+    served.sheets.items (map (λ session. edits_of session.history) served.clients.items) (string_bytes c.args.page.now) (string_bytes c.close.new.page) (string_bytes c.put_behind.new.page)
     (ap opened_pool c.requires.opening) c.requires.limit c.in_ok-clients.ensures c.in_ok-close.ensures
     (c.in_ok-put_behind.ensures ∙ ap (λ z. string_bytes c.close.new.page ++ (codes "publish\nshow\n" ++ replies_from (codes "setup") 1 c.serve_in.new.sheet.replies ++ sheets_from 0 (map (λ sheet. sheet.replies) z))) c.deref.ensures.value)

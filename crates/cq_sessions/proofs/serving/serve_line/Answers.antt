@@ -16,5 +16,5 @@ returns-in-Err-At g c =
     (λ is. record {
       reading = Faulty kind offset;
       is = the_fault c.args.form c.args.line.now _ kind offset c.in-Err-At.field-0-is c.in-Err-At.ensures.fault;
-      onward = told_onward g.C.Client.opening g.C.Client.limit _ _ c.args.sheet.now c.tell.new.sheet (Faulty kind offset) (Some (fault_line kind offset)) (λ rs lines behind last s. (refl, s)) c.requires is;
+      onward = told_onward g.C.Client.opening g.C.Client.limit _ _ c.args.sheet.now c.tell.new.sheet (Faulty kind offset) (Some (fault_line kind offset)) (λ rs lines own behind last s. (refl, s)) c.requires is;
     }) (c.tell.ensures (fault_line kind offset) c.fault_line.ensures)

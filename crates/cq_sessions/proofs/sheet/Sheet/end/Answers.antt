@@ -11,6 +11,7 @@ loop-line-preserved g c = let at = c.loop-line in let inv = at.invariant in let 
       (drop at.next c.args.replies.now) (drop c.in_ok-reply.told c.args.replies.now) _ c.in_ok-push.ensures.items steps (c.in_ok-reply.ensures.fills _) inv.filled;
   batch = inv.batch;
   asked = inv.asked;
+  numbers = inv.numbers;
   next = c.in_ok-reply.ensures.bound;
   counted = shorter _ _ _ _ _ inv.counted c.in-Some.ensures.steps.1 steps;
 }

@@ -8,6 +8,7 @@ invariant-loop-line g l = record {
   filled : map (option_map string_bytes) l.self-inside.replies.items ++ filled (map (line_map string_bytes) (into_iter_items l.line-iterator)) (drop l.next l.replies) ≡ l.fn.self.replies ++ filled l.fn.self.batch l.replies;
   batch : l.self-inside.batch.items ≡ [];
   asked : l.self-inside.gathered.items ≡ l.fn.self.asked;
+  numbers : l.self-inside.numbers.items ≡ l.fn.self.numbers;
   next : l.next ≤ length l.replies;
   counted : into_iter_len l.line-iterator ≡ length (into_iter_items l.line-iterator);
 }
