@@ -218,8 +218,9 @@ pub(crate) fn withdraw<A: Allocator + Copy>(
     requires { (rows : List RowRecord) × AreStores stores.old.roster stores.old.findings stores.old.links stores.old.matcher rows }
     ensures stores { (rows : List RowRecord) → AreStores stores.old.roster stores.old.findings stores.old.links stores.old.matcher rows → AreStores stores.new.roster stores.new.findings stores.new.links stores.new.matcher rows }
     ensures left { (rows : List RowRecord) → AreStores stores.old.roster stores.old.findings stores.old.links stores.old.matcher rows → pending_of stores.new.roster stores.new.findings ≡ filter (λ other. not (is_named name.now other)) (pending_of stores.old.roster stores.old.findings) }
-    ensures changes { (pool : PoolRecord) → pending_of stores.old.roster stores.old.findings ≡ pool.pending → AreStores stores.old.roster stores.old.findings stores.old.links stores.old.matcher pool.tables.rows → changes.new ≤ changes.old + lost pool (edited pool (Withdraw name.now)) }
+    ensures changes { (pool : PoolRecord) → pending_of stores.old.roster stores.old.findings ≡ pool.pending → AreStores stores.old.roster stores.old.findings stores.old.links stores.old.matcher pool.tables.rows → changes.new ≡ raised changes.old (lost pool (edited pool (Withdraw name.now))) }
 {
+    let _counted = changes.count();
     let Some(place) = stores.roster.remove(name) else {
         return;
     };
