@@ -3,7 +3,7 @@
 //! A query has one place in all of them: `findings` picks it. What takes memory comes first, and what was done before a
 //! refused growth is taken back by calls that take none.
 
-ghost use Rattle.std.specs.Prelude.{◌≡◌, ◌<◌, ◌≤◌, ℕ, Bool, true, false, ◌+◌, ◌++◌, ◌∷◌, [], None, OnOk, OnErr, IfOk, List, length, count_by, filter, nat_eq, not};
+ghost use Rattle.std.specs.Prelude.{◌≡◌, ◌<◌, ℕ, Bool, true, false, ◌+◌, ◌++◌, ◌∷◌, [], None, OnOk, OnErr, IfOk, List, length, count_by, filter, nat_eq, not};
 ghost use Rattle.std.specs.FinMap as map;
 ghost use Rattle.std.specs.List.{All, Any, Contains};
 ghost use Rattle.std.specs.Option.{option_map};
