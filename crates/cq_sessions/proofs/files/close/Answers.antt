@@ -15,5 +15,5 @@ returns g c =
     (λ e. record {
       journal = journal;
       begins = All-map (λ known. IsPrefix known (journal_edits journal)) (λ session. edits_of session.history) c.args.sessions.items c.close-desk.ensures.seen;
-      put = e ∙ ap (λ z. string_bytes c.args.page.now ++ entries_from 1 z) c.journal.ensures;
+      put = e ∙ ap (λ z. string_bytes c.args.page.now ++ entries_from 1 z) c.journal.ensures.value;
     }) c.put_entries-put.ensures
