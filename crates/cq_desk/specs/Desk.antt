@@ -20,7 +20,7 @@ with_entry author edit desk = record desk { journal = desk.journal ++ record { a
 
 -- Working state, publisher and journal agree. The working content is what the journal leaves over the opening content; the
 -- publications, then what is pending, are the entries handed over; what is shown is a front of the history, and is counted. Each entry was
--- accepted behind those before it, and there are no more of them than the limit.
+-- accepted after those before it, and there are no more of them than the limit.
 pub record IsInStep {E C W : Type 0} (after : C → E → C) (why : C → E → Option W) (working opening : C) (history shown : History E) (pending : List E) (journal : List (Entry E)) (limit handed published : ℕ) : Type 0 where
   pub works : working ≡ fold after opening (journal_edits journal)
   pub told : edits_of history ++ pending ≡ take handed (journal_edits journal)

@@ -75,7 +75,7 @@ impl<L: Live, P: Publisher<L>, A: Allocator + Copy> Desk<L, P, A> {
         &self.publisher
     }
 
-    /// The accepted edits with their authors, the earliest first: each was accepted behind those before it.
+    /// The accepted edits with their authors, the earliest first: each was accepted after those before it.
     pub fn journal(&self) -> &[Entry<L::Edit>]
         ensures value { result.now ≡ self.now.journal }
         ensures accepted { AreAccepted L.after L.why (P.opening self.now.publisher) (journal_edits self.now.journal) }
