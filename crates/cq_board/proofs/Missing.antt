@@ -1,7 +1,6 @@
 -- Heads that nearly supply a postcondition, as they are found.
 use Rattle.std.proofs.Common.{◌≡◌, ℕ, zero, suc, ◌+◌, ◌<◌, inl, inr, Bool, if◌then◌else◌, List, [], ◌∷◌, ◌++◌, length, map, take, get_or, refl, sym, ap, subst, ◌∙◌, arith, append_assoc}
-use Rattle.std.specs.List.{All, AllByRecursion, flat_map, enumerate_from}
-use Rattle.std.specs.List.Sorted.{IsPermutation}
+use Rattle.std.specs.List.{flat_map, enumerate_from}
 use Rattle.std.proofs.lemmas.List.{append-nil, map-append, take_more, length-take}
 use Rattle.std.proofs.Math.ListN.{length-map}
 use Rattle.cq_atom.specs.Atom.{TermContent, AtomRecord}

@@ -1,22 +1,19 @@
 -- Why a pending query waits: the part of the falls that tells it, and the number of its name.
-use Rattle.std.proofs.Common.{◌≡◌, ℕ, zero, suc, ◌+◌, ◌<◌, Bool, true, false, List, [], ◌∷◌, ◌++◌, length, map, get_or, inl, inr, refl, sym, ap, subst, ◌∙◌, arith, Option, Some, None}
-use Rattle.std.specs.Prelude.{option_map, not, Result, Ok, Err, IfOk}
-use Rattle.std.specs.List.{All, Any, AllByRecursion, Contains, enumerate_from, slice_get, position, position_or_len}
-use Rattle.std.specs.Option.{option_map_or, is_some}
+use Rattle.std.proofs.Common.{◌≡◌, ℕ, zero, suc, ◌<◌, Bool, true, false, List, [], ◌∷◌, ◌++◌, length, map, get_or, refl, sym, ap, subst, ◌∙◌, arith, Some}
+use Rattle.std.specs.Prelude.{not, Result, Ok, Err, IfOk}
+use Rattle.std.specs.List.{All, AllByRecursion, enumerate_from, slice_get, position, position_or_len}
 use Rattle.std.specs.Str.{bytes_eq}
 use Rattle.std.proofs.Math.ListN.{length-map}
 use Rattle.std.proofs.lemmas.List.Elements.{All-from_recursion}
 use Rattle.std.proofs.lemmas.List.Quantifiers.{position-Some}
 use Rattle.std.proofs.lemmas.Option.{slice_get_within}
-use Rattle.cq_match.specs.declared.edge.Edge.{Edge}
 use Rattle.cq_match.specs.declared.falls.Fall.{Fall}
 use Rattle.cq_match.specs.Falling.{is_unmet, HasReason, IsFallingAfter, IsFalling, IsUnmatched}
-use Rattle.cq_match.specs.Matched.{numbers, is_matched}
+use Rattle.cq_match.specs.Matched.{numbers}
 use Rattle.cq_board.specs.Pool.{PendingQuery, PoolRecord, name_of}
 use Rattle.cq_board.specs.Edits.{is_named}
 use Rattle.cq_board.specs.Edges.{edges_of}
 use Rattle.cq_board.specs.Board.{is_able, nodes_of, is_matched_at, place_of}
-use Rattle.cq_board.specs.Named.{matched_named}
 use Rattle.cq_board.specs.Waiting.{is_waiting}
 use Rattle.cq_board.proofs.Among.{Contains-In, In-Any, enumerate-In}
 use Rattle.cq_board.proofs.Ends.{In-enumerate}

@@ -1,10 +1,8 @@
 -- The graph whose falls a board shows: its nodes as the stores have them, and the ends of its edges.
-use Rattle.std.proofs.Common.{◌≡◌, ℕ, zero, suc, ◌+◌, ◌<◌, Bool, List, [], ◌∷◌, ◌++◌, length, map, take, get_or, inl, inr, refl, sym, ap, subst, ◌∙◌, arith, nat_eq}
-use Rattle.std.specs.Prelude.{nat_lt, Option, Some, option_map}
-use Rattle.std.specs.FinMap.{get}
-use Rattle.std.specs.List.{All, Any, Contains, IsDistinct, enumerate_from, slice_get}
+use Rattle.std.proofs.Common.{◌≡◌, ℕ, suc, ◌+◌, ◌<◌, Bool, List, [], ◌∷◌, ◌++◌, length, map, take, get_or, inl, inr, refl, sym, ap, subst, ◌∙◌, arith, nat_eq}
+use Rattle.std.specs.Prelude.{nat_lt, Option, option_map}
+use Rattle.std.specs.List.{All, Any, Contains, IsDistinct, enumerate_from}
 use Rattle.std.specs.Option.{option_map_or}
-use Rattle.std.specs.Map.{lookup}
 use Rattle.std.proofs.Math.ListN.{length-map}
 use Rattle.std.proofs.lemmas.List.{map-append, take_more}
 use Rattle.std.proofs.lemmas.List.FromFn.{length-enumerate_from}
@@ -17,7 +15,7 @@ use Rattle.cq_board.specs.Pool.{PendingQuery}
 use Rattle.cq_board.specs.Board.{is_able}
 use Rattle.cq_board.specs.Steps.Flags.{has_grounding}
 use Rattle.cq_board.specs.Steps.Residents.{Resident, places_of}
-use Rattle.cq_board.specs.Steps.Stores.{no_query, query_at, residents_of, pending_of, AreStores}
+use Rattle.cq_board.specs.Steps.Stores.{query_at, residents_of, pending_of, AreStores}
 use Rattle.cq_board.specs.Steps.Waiting.{node_in}
 use Rattle.cq_match.specs.declared.edge.Edge.{Edge}
 use Rattle.cq_match.specs.Matched.{numbers}

@@ -1,5 +1,5 @@
 -- The edges that lose a matched provider are as many in the stores as in the pools.
-use Rattle.std.proofs.Common.{◌≡◌, ℕ, Bool, not, nat_eq, List, filter, map, sym, ap, subst, ◌∙◌, Some}
+use Rattle.std.proofs.Common.{◌≡◌, ℕ, Bool, not, nat_eq, List, filter, map, sym, ap, subst, ◌∙◌, Some, None}
 use Rattle.std.specs.List.{IsDistinct}
 use Rattle.std.specs.Set.{is_member}
 use Rattle.std.specs.Str.{bytes_eq}
@@ -25,6 +25,7 @@ use Rattle.cq_board.proofs.KeptIn.{pool_of}
 use Rattle.cq_board.proofs.Placed.{queries_withdrawn}
 use Rattle.cq_board.proofs.Upkeep.{graph_withdrawn}
 use Rattle.cq_board.proofs.Calling.{matched_there, matched_left, lost_counted}
+use Rattle.cq_board.proofs.Flags.{lost-none}
 use Rattle.cq_board.proofs.Stored as stored
 
 -- seats have places and names of their own, and so have their residents
@@ -50,6 +51,18 @@ module _ (pool : PoolRecord) (seats : List SeatRecord) (m : FindingMap) (links :
       lost_counted (is_able pool.tables.rows) residents distinct graph.nodes graph.edges stores.graph
       (λ n. is_member nat_eq graph.matched n) (is_matched_at before) (λ i low. stores.matched (place_at residents i) ∙ graph_matched_at pool residents distinct graph.nodes graph.edges stores.graph i low)
       (λ n. is_member nat_eq after.matched n) (λ n. is_matched_under n later) named
+
+  -- where all stays, no edge loses a provider
+  lost-stayed : lost before before ≡ 0
+  lost-stayed =
+      sym (lost-named graph before (λ x h. stores.matched x.0 ∙ matched_there residents distinct (own-names seats m stores.roster) before graph.nodes graph.edges stores.graph x h))
+      ∙ lost-none graph
+
+  -- and so where a name goes that nobody has
+  pub lost-nobody : (name : List ℕ) → place_named name seats ≡ None → pending_of seats m ≡ pool.pending → lost pool (edited pool (Withdraw name)) ≡ 0
+  lost-nobody name none same =
+      subst (λ (pending : List PendingQuery). let now : PoolRecord = record pool { pending = pending } in lost now (edited now (Withdraw name)) ≡ 0) same
+      (ap (λ (pending : List PendingQuery). lost before (record pool { pending = pending })) (stored.none-withdrawn name seats m none) ∙ lost-stayed)
 
   -- ---- a query that goes
 

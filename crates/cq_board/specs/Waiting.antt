@@ -1,5 +1,5 @@
 -- Why a pending query waits, by names. (this project's profile)
-use Rattle.std.specs.Prelude.{◌≡◌, ℕ, Bool, false, not, List, map, Option}
+use Rattle.std.specs.Prelude.{◌≡◌, ℕ, Bool, false, not, List, map}
 use Rattle.std.specs.Option.{option_map_or}
 use Rattle.cq_match.specs.declared.falls.Fall.{Fall}
 use Rattle.cq_match.specs.Falling.{IsFalling, AreAllRounds}

@@ -1,5 +1,5 @@
--- The work that is counted of an edit: tests of a head against a postcondition, visits of a query's groundings, and changes of a count of matched providers. (this project's profile)
-use Rattle.std.specs.Prelude.{◌≡◌, ◌≤◌, ℕ, ◌+◌, ◌-◌, ◌^◌, Bool, false, not, ◌&&◌, List, ◌++◌, Option, Some, None, min, sum_by, count_by}
+-- The work that is counted of an edit: tests of a head against a postcondition, visits of a query's groundings, and edges that lose their matched provider. (this project's profile)
+use Rattle.std.specs.Prelude.{ℕ, ◌+◌, ◌-◌, ◌^◌, Bool, false, not, ◌&&◌, List, ◌++◌, Option, Some, None, min, sum_by, count_by}
 use Rattle.std.specs.List.{flat_map}
 use Rattle.std.specs.Option.{option_map_or}
 use Rattle.cq_atom.specs.Atom.{AtomRecord}
@@ -81,11 +81,13 @@ loses_provider before after edge = is_matched_at before edge.provider && not (is
 abbrev pub lost : PoolRecord → PoolRecord → ℕ
 lost before after = count_by (loses_provider before after) (edges_of before.pending)
 
--- The changes before and after an edit: none where it is refused, or a query or a row comes, and where a query or a row goes no more than the edges that lose
--- their matched provider.
-abbrev pub AreChanged : Option Why → PoolRecord → Edit → ℕ → ℕ → Type 0
-AreChanged (Some reason) pool edit before after = after ≡ before
-AreChanged None pool (Post name query) before after = after ≡ before
-AreChanged None pool (Withdraw name) before after = after ≤ before + lost pool (edited pool (Withdraw name))
-AreChanged None pool (Insert row) before after = after ≡ before
-AreChanged None pool (Delete row) before after = after ≤ before + lost pool (edited pool (Delete row))
+-- The changes after an accepted edit: one of each edge that loses its matched provider where a query or a row goes, and none where one comes.
+abbrev pub changes_done : PoolRecord → Edit → ℕ → ℕ
+changes_done pool (Post name query) changes = changes
+changes_done pool (Withdraw name) changes = raised changes (lost pool (edited pool (Withdraw name)))
+changes_done pool (Insert row) changes = changes
+changes_done pool (Delete row) changes = raised changes (lost pool (edited pool (Delete row)))
+
+-- The changes after an edit.
+abbrev pub changes_after : PoolRecord → Edit → ℕ → ℕ
+changes_after pool edit changes = if_accepted (why pool edit) changes (changes_done pool edit changes)

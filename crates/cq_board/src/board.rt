@@ -1,12 +1,12 @@
 //! Boards: one pool, and its parts from scratch.
 
-ghost use Rattle.std.specs.Prelude.{◌≡◌, ◌≤◌, ◌+◌, length, OnOk, OnErr, IfOk, None};
+ghost use Rattle.std.specs.Prelude.{◌≡◌, length, OnOk, OnErr, IfOk, None};
 ghost use Rattle.std.specs.Option.{option_copied};
 ghost use Rattle.cq_board.specs.declared.edit.EditKind.TheVariants.{Post, Withdraw, Insert, Delete};
 ghost use Rattle.cq_board.specs.Pool.{IsPool, opening_pool};
 ghost use Rattle.cq_board.specs.Edits.{why, edited, pool_after};
 ghost use Rattle.cq_board.specs.Board.{name_at};
-ghost use Rattle.cq_board.specs.Work.{AreChanged, candidates, lost, named, raised, tests_after, tests_done, visits_after, visits_done};
+ghost use Rattle.cq_board.specs.Work.{candidates, changes_after, changes_done, lost, named, raised, tests_after, tests_done, visits_after, visits_done};
 ghost use Rattle.cq_board.specs.Steps.Stores.{pending_of, AreStores};
 ghost use Rattle.cq_board.specs.Views.{Admits};
 
@@ -102,7 +102,7 @@ impl<A: Allocator + Copy> Board<A> {
         ensures err { OnErr result (self.new ≡ self.old) }
         ensures tests { OnOk result (work.new.tests ≡ tests_after self.old edit.now work.old.tests) }
         ensures visits { OnOk result (work.new.visits ≡ visits_after self.old edit.now work.old.visits) }
-        ensures changes { OnOk result (AreChanged (why self.old edit.now) self.old edit.now work.old.changes work.new.changes) }
+        ensures changes { OnOk result (work.new.changes ≡ changes_after self.old edit.now work.old.changes) }
     {
         if let Some(why) = self.why(edit) {
             return Ok(Some(why));
@@ -118,7 +118,7 @@ impl<A: Allocator + Copy> Board<A> {
         ensures err { OnErr result (self.new ≡ self.old) }
         ensures tests { OnOk result (work.new.tests ≡ tests_done self.old.pending edit.now work.old.tests) }
         ensures visits { OnOk result (work.new.visits ≡ visits_done self.old.pending edit.now work.old.visits) }
-        ensures changes { OnOk result (AreChanged None self.old edit.now work.old.changes work.new.changes) }
+        ensures changes { OnOk result (work.new.changes ≡ changes_done self.old edit.now work.old.changes) }
     {
         match edit {
             EditKind::Post { name, query } => self.post(name, query, work),
@@ -178,7 +178,7 @@ impl<A: Allocator + Copy> Board<A> {
         ensures ok { self.new ≡ edited self.old (Withdraw name.now) }
         ensures tests { work.new.tests ≡ work.old.tests }
         ensures visits { work.new.visits ≡ work.old.visits }
-        ensures changes { work.new.changes ≤ work.old.changes + lost self.old (edited self.old (Withdraw name.now)) }
+        ensures changes { work.new.changes ≡ raised work.old.changes (lost self.old (edited self.old (Withdraw name.now))) }
     {
         stores::withdraw(&mut self.stores, name, &mut work.changes);
     }
@@ -201,7 +201,7 @@ impl<A: Allocator + Copy> Board<A> {
         ensures ok { self.new ≡ edited self.old (Delete row.now) }
         ensures tests { work.new.tests ≡ work.old.tests }
         ensures visits { work.new.visits ≡ raised work.old.visits (named self.old.pending row.now.relation) }
-        ensures changes { work.new.changes ≤ work.old.changes + lost self.old (edited self.old (Delete row.now)) }
+        ensures changes { work.new.changes ≡ raised work.old.changes (lost self.old (edited self.old (Delete row.now))) }
     {
         row_change::delete(
             &mut self.tables,

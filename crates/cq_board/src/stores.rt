@@ -3,7 +3,7 @@
 //! A query has one place in all of them: `findings` picks it. What takes memory comes first, and what was done before a
 //! refused growth is taken back by calls that take none.
 
-ghost use Rattle.std.specs.Prelude.{◌≡◌, ◌<◌, ◌≤◌, ℕ, Bool, true, false, ◌+◌, ◌++◌, ◌∷◌, [], None, OnOk, OnErr, IfOk, List, length, count_by, filter, nat_eq, not};
+ghost use Rattle.std.specs.Prelude.{◌≡◌, ◌<◌, ℕ, Bool, true, false, ◌+◌, ◌++◌, ◌∷◌, [], None, OnOk, OnErr, IfOk, List, length, count_by, filter, nat_eq, not};
 ghost use Rattle.std.specs.FinMap as map;
 ghost use Rattle.std.specs.List.{All, Any, Contains};
 ghost use Rattle.std.specs.Option.{option_map};
@@ -218,8 +218,9 @@ pub(crate) fn withdraw<A: Allocator + Copy>(
     requires { (rows : List RowRecord) × AreStores stores.old.roster stores.old.findings stores.old.links stores.old.matcher rows }
     ensures stores { (rows : List RowRecord) → AreStores stores.old.roster stores.old.findings stores.old.links stores.old.matcher rows → AreStores stores.new.roster stores.new.findings stores.new.links stores.new.matcher rows }
     ensures left { (rows : List RowRecord) → AreStores stores.old.roster stores.old.findings stores.old.links stores.old.matcher rows → pending_of stores.new.roster stores.new.findings ≡ filter (λ other. not (is_named name.now other)) (pending_of stores.old.roster stores.old.findings) }
-    ensures changes { (pool : PoolRecord) → pending_of stores.old.roster stores.old.findings ≡ pool.pending → AreStores stores.old.roster stores.old.findings stores.old.links stores.old.matcher pool.tables.rows → changes.new ≤ changes.old + lost pool (edited pool (Withdraw name.now)) }
+    ensures changes { (pool : PoolRecord) → pending_of stores.old.roster stores.old.findings ≡ pool.pending → AreStores stores.old.roster stores.old.findings stores.old.links stores.old.matcher pool.tables.rows → changes.new ≡ raised changes.old (lost pool (edited pool (Withdraw name.now))) }
 {
+    let _counted = changes.count();
     let Some(place) = stores.roster.remove(name) else {
         return;
     };

@@ -12,7 +12,7 @@ pub struct Work {
     pub tests: Meter,
     /// Visits of a query's groundings.
     pub visits: Meter,
-    /// Changes of a count of matched providers.
+    /// Edges that lost their matched provider.
     pub changes: Meter,
 }
 

@@ -1,8 +1,9 @@
 -- The names under which no query is pending, told line by line.
 use Rattle.std.proofs.Common.{◌≡◌, ℕ, ◌+◌, ◌<◌, true, false, List, [], ◌∷◌, ◌++◌, length, map, take, get_or, refl, sym, ap, ◌∙◌, append_assoc, append-nil}
-use Rattle.std.specs.Prelude.{not}
+use Rattle.std.specs.Prelude.{not, Option, Some, None}
 use Rattle.std.specs.List.{flat_map}
 use Rattle.std.specs.Option.{is_some}
+use Rattle.std.specs.Io.KnownBytes.{Appends}
 use Rattle.std.proofs.lemmas.List.{map-append, take_more}
 use Rattle.std.proofs.lemmas.List.Elements.{filter-append}
 use Rattle.cq_board.specs.Pool.{PoolRecord}
@@ -31,3 +32,8 @@ line_absent pool name f = rw f (sym (append-nil (absent_line name)))
 
 pub line_present : (pool : PoolRecord) (name : List ℕ) → is_some (state_of pool name) ≡ true → [] ≡ absent_lines pool (name ∷ [])
 line_present pool name t = rw t refl
+
+-- nothing told leaves what was told
+pub told_nothing : (known : Option (List ℕ)) → Appends known known []
+told_nothing None = tt
+told_nothing (Some bytes) = sym (append-nil bytes)

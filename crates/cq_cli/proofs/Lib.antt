@@ -1,3 +1,4 @@
 mod Absent
+pub mod Splitting
 pub mod Chosen
 pub mod Telling

@@ -32,6 +32,10 @@ StandsForChoice word choice = (inner : List ℕ) × IsTrue (is_name choice.name)
 abbrev pub StandForChoices : List (List ℕ) → List ChoiceRecord → Type 0
 StandForChoices words choices = ArePaired StandsForChoice words choices
 
+-- The words stand for no choices.
+abbrev pub StandForNone : List (List ℕ) → Type 0
+StandForNone words = (choices : List ChoiceRecord) → StandForChoices words choices → ⊥
+
 -- The words stand for choices that coordinate on the board.
 abbrev pub AreCoordinating : PoolRecord → List (List ℕ) → Type 0
 AreCoordinating pool words = (choices : List ChoiceRecord) × StandForChoices words choices × IsCoordinating pool choices

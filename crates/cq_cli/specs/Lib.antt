@@ -4,3 +4,4 @@ pub mod Sessions
 pub mod Views
 pub mod Explained
 pub mod Choices
+pub mod Steps

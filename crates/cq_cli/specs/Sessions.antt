@@ -1,16 +1,18 @@
 -- What `sessions` writes, and whose fault it is. (this project's profile)
-use Rattle.std.specs.Prelude.{◌≡◌, ℕ, List, Option, length}
+use Rattle.std.specs.Prelude.{ℕ, List, Option}
 use Rattle.cq_report.specs.declared.fault.RunFault.TheVariants as runs
 use Rattle.cq_sessions.specs.Sessions.{Wrote}
 use Rattle.cq_report.specs.Run as runs_of
+use Rattle.cq_cli.specs.Choices.{ArePaired}
 use Rattle.cq_cli.specs.declared.sessions.SessionsFault.{SessionsFault}
 use Rattle.cq_cli.specs.declared.sessions.SessionsFault.TheVariants.{NoFile, TooMany, Open, Run}
 
--- SETUP and so many files held some bytes, and the script of their sessions was written whole.
-pub record WroteScript (count : ℕ) (taken taken' : Option (List ℕ)) : Type 0 where
+-- SETUP and the files are held under their paths, each under the path in its place, and the script of their sessions was written whole.
+pub record WroteScript (Held : (path bytes : List ℕ) → Type 0) (path : List ℕ) (paths : List (List ℕ)) (taken taken' : Option (List ℕ)) : Type 0 where
   pub setup : List ℕ
   pub files : List (List ℕ)
-  pub many : length files ≡ count
+  pub is_setup : Held path setup
+  pub are_files : ArePaired Held paths files
   pub wrote : Wrote setup files taken taken'
 
 -- The fault is that of a file: it does not open, its reading failed, or there was no memory for it.

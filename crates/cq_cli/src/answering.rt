@@ -126,7 +126,7 @@ fn answer_sessions<
     ensures failed { result ≡ Status.Failed → W.write_failures sink.old < W.write_failures sink.new }
     ensures refused { IsRefused result → (sink.new ≡ sink.old) }
 {
-    let Err(fault) = serve_files(host, heap, setup, files, sink) else {
+    let Err(fault) = serve_files(host, host, heap, setup, files, sink) else {
         return Status::Done;
     };
     tell_fault(alloc, &fault, errors);

@@ -2,6 +2,7 @@
 
 ghost use Rattle.std.specs.Prelude.{◌≡◌, ◌<◌, ◌+◌, ◌^◌, ◌⊎◌, ◌++◌, ◌∷◌, [], List, map, string_bytes, IfOk, IfErr, IfSome, OnOk, MatchResult};
 ghost use Rattle.std.specs.Option.{is_some};
+ghost use Rattle.std.specs.Io.KnownBytes.{Appends};
 ghost use Rattle.cq_report.specs.Lines.{lines_of};
 ghost use Rattle.cq_report.specs.Reading.{Reading};
 ghost use Rattle.cq_report.specs.Output.{AreReadings, pool_left};
@@ -98,6 +99,7 @@ fn tell_absent<A: Allocator + Copy, E: Sink>(
     errors: &mut E,
 ) -> Result<Status, RunFault>
     requires { E.write_failures errors.old < 2 ^ 62 }
+    ensures told { OnOk result (E.write_failures errors.new ≡ E.write_failures errors.old → Appends (E.taken errors.old) (E.taken errors.new) (absent_lines board.now (map (λ name. name.now) names.now))) }
     ensures status { IfOk result (λ status. status ≡ status_of_absent (absent_names board.now (map (λ name. name.now) names.now))) }
     ensures either { IfOk result (λ status. (status ≡ Status.Done) ⊎ (status ≡ Status.NotSo)) }
     ensures kind { IfErr result (λ fault. fault ≡ RunFault.NoMemory) }
@@ -139,6 +141,7 @@ fn write_explained<A: Allocator + Copy, W: Sink, E: Sink>(
     requires sink { W.write_failures sink.old < 2 ^ 62 }
     requires errors { E.write_failures errors.old < 2 ^ 62 }
     ensures ok { OnOk result (IsWritten board.now (map (λ name. name.now) names.now) (W.taken sink.old) (W.taken sink.new)) }
+    ensures absent { OnOk result (E.write_failures errors.new ≡ E.write_failures errors.old → Appends (E.taken errors.old) (E.taken errors.new) (absent_lines board.now (map (λ name. name.now) names.now))) }
     ensures status { IfOk result (λ status. status ≡ status_of_absent (absent_names board.now (map (λ name. name.now) names.now))) }
     ensures either { IfOk result (λ status. (status ≡ Status.Done) ⊎ (status ≡ Status.NotSo)) }
     ensures kind { IfErr result IsOfOutput }
@@ -162,6 +165,7 @@ fn show_explained<A: Allocator + Copy, R: Source, W: Sink, E: Sink>(
     requires sink { W.write_failures sink.old < 2 ^ 62 }
     requires errors { E.write_failures errors.old < 2 ^ 62 }
     ensures told { OnOk result (IfSome (R.left source.old) (λ input. (readings : List Reading) → AreReadings (lines_of input) readings → IsWritten (pool_left readings) (map (λ name. name.now) names.now) (W.taken sink.old) (W.taken sink.new))) }
+    ensures absent { OnOk result (E.write_failures errors.new ≡ E.write_failures errors.old → IfSome (R.left source.old) (λ input. (readings : List Reading) → AreReadings (lines_of input) readings → Appends (E.taken errors.old) (E.taken errors.new) (absent_lines (pool_left readings) (map (λ name. name.now) names.now)))) }
     ensures status { IfOk result (λ status. IfSome (R.left source.old) (λ input. (readings : List Reading) → AreReadings (lines_of input) readings → status ≡ status_of_absent (absent_names (pool_left readings) (map (λ name. name.now) names.now)))) }
     ensures either { IfOk result (λ status. (status ≡ Status.Done) ⊎ (status ≡ Status.NotSo)) }
     ensures kind { IfErr result IsOfRun }
@@ -187,7 +191,8 @@ pub(crate) fn answer_explained<A: Allocator + Copy, R: Source, W: Sink, E: Sink>
     requires read_failures { R.failures_met source.old < 2 ^ 62 }
     requires sink { W.write_failures sink.old < 2 ^ 62 }
     requires errors { E.write_failures errors.old < 2 ^ 62 }
-    ensures told { result ≡ Status.Done → IfSome (R.left source.old) (λ input. (readings : List Reading) → AreReadings (lines_of input) readings → IsWritten (pool_left readings) (map (λ name. name.now) names.now) (W.taken sink.old) (W.taken sink.new)) }
+    ensures told { (result ≡ Status.Done) ⊎ (result ≡ Status.NotSo) → IfSome (R.left source.old) (λ input. (readings : List Reading) → AreReadings (lines_of input) readings → IsWritten (pool_left readings) (map (λ name. name.now) names.now) (W.taken sink.old) (W.taken sink.new)) }
+    ensures absent { (result ≡ Status.Done) ⊎ (result ≡ Status.NotSo) → E.write_failures errors.new ≡ E.write_failures errors.old → IfSome (R.left source.old) (λ input. (readings : List Reading) → AreReadings (lines_of input) readings → Appends (E.taken errors.old) (E.taken errors.new) (absent_lines (pool_left readings) (map (λ name. name.now) names.now))) }
     ensures status { (result ≡ Status.Done) ⊎ (result ≡ Status.NotSo) → IfSome (R.left source.old) (λ input. (readings : List Reading) → AreReadings (lines_of input) readings → result ≡ status_of_absent (absent_names (pool_left readings) (map (λ name. name.now) names.now))) }
     ensures read { R.failures_met source.old < R.failures_met source.new → result ≡ Status.Failed }
     ensures write { W.write_failures sink.old < W.write_failures sink.new → result ≡ Status.Failed }

@@ -1,6 +1,7 @@
 //! Files served over one board.
 
-ghost use Rattle.std.specs.Prelude.{◌≡◌, ◌<◌, ◌+◌, ◌^◌, ◌⊎◌, length, Err, IfOk, IfErr, OnOk, MatchResult};
+ghost use Rattle.std.specs.Prelude.{◌≡◌, ◌<◌, ◌+◌, ◌^◌, ◌⊎◌, ℕ, List, length, map, Err, IfOk, IfErr, OnOk, MatchResult};
+ghost use Rattle.cq_cli.specs.Choices.{ArePaired};
 ghost use Rattle.cq_cli.specs.Sessions.{WroteScript, IsOfFile, IsOfWriting, IsOfCount, failures_of};
 
 use cq_report::{RunFault, read_whole};
@@ -34,43 +35,62 @@ pub(crate) enum SessionsFault<'a> {
     Run(RunFault),
 }
 
-/// All bytes of the file.
-fn read_file<'a, H: Files, A: Allocator>(
-    host: &H,
-    alloc: A,
-    path: &'a str,
-) -> Result<Vec<u8, A>, SessionsFault<'a>>
-    ensures fault { IfErr result IsOfFile }
-{
-    let file = match fs::open(host, path) {
-        Ok(file) => file,
-        Err(error) if error.kind() == ErrorKind::OutOfMemory => {
-            return Err(SessionsFault::Run(RunFault::NoMemory));
+/// Where files are held.
+pub(crate) trait Shelf {
+    // Under this path it holds these bytes.
+    ghost held: { Self → List ℕ → List ℕ → Type 0 };
+
+    /// All bytes of the file under that path.
+    fn take<'a, A: Allocator>(
+        &self,
+        alloc: A,
+        path: &'a str,
+    ) -> Result<Vec<u8, A>, SessionsFault<'a>>
+        ensures held { IfOk result (λ bytes. held self.now path.now bytes.items) }
+        ensures fault { IfErr result IsOfFile };
+}
+
+/// The files of the host. What is held there is known from no contract, so that these bytes are those under the path is shown by
+/// runs alone.
+impl<H: Files> Shelf for H {
+    ghost held = { λ host path bytes. Unit {0} };
+
+    fn take<'a, A: Allocator>(
+        &self,
+        alloc: A,
+        path: &'a str,
+    ) -> Result<Vec<u8, A>, SessionsFault<'a>> {
+        let file = match fs::open(self, path) {
+            Ok(file) => file,
+            Err(error) if error.kind() == ErrorKind::OutOfMemory => {
+                return Err(SessionsFault::Run(RunFault::NoMemory));
+            }
+            Err(_) => return Err(SessionsFault::Open { path }),
+        };
+        let mut source = Counted::new(file);
+        match read_whole(alloc, &mut source) {
+            Ok(bytes) => Ok(bytes),
+            Err(fault) => Err(SessionsFault::Run(fault)),
         }
-        Err(_) => return Err(SessionsFault::Open { path }),
-    };
-    let mut source = Counted::new(file);
-    match read_whole(alloc, &mut source) {
-        Ok(bytes) => Ok(bytes),
-        Err(fault) => Err(SessionsFault::Run(fault)),
     }
 }
 
 /// All bytes of each file, which are read in order.
-fn read_files<'a, H: Files, A: Allocator + Copy>(
-    host: &H,
+fn read_files<'a, S: Shelf, A: Allocator + Copy>(
+    shelf: &S,
     alloc: A,
     paths: &[&'a str],
 ) -> Result<Vec<Vec<u8, A>, A>, SessionsFault<'a>>
+    ensures held { IfOk result (λ files. ArePaired (S.held shelf.now) (map (λ path. path.now) paths.now) (map (λ file. file.items) files.items)) }
     ensures count { IfOk result (λ files. length files.items ≡ length paths.now) }
     ensures fault { IfErr result IsOfFile }
 {
     let mut files = Vec::new(alloc);
     for path in paths {
-        let bytes = read_file(host, alloc, *path)?;
-        if files.push(bytes).is_err() {
+        let bytes = shelf.take(alloc, *path)?;
+        let Ok(()) = files.push(bytes) else {
             return Err(SessionsFault::Run(RunFault::NoMemory));
-        }
+        };
     }
     Ok(files)
 }
@@ -81,10 +101,12 @@ fn read_files<'a, H: Files, A: Allocator + Copy>(
 /// in their order.
 pub(crate) fn serve_files<
     'a,
-    H: Files + Threads + Wait + Sync,
+    S: Shelf,
+    H: Threads + Wait + Sync,
     A: Allocator + Copy + Send + Sync,
     W: Sink,
 >(
+    shelf: &S,
     host: &H,
     alloc: A,
     setup: &'a str,
@@ -93,8 +115,8 @@ pub(crate) fn serve_files<
 ) -> Result<(), SessionsFault<'a>>
     requires sink { W.write_failures sink.old < 2 ^ 62 }
 
-    // The script of what the files held is written whole, and nothing at all but where the writer failed.
-    ensures ok { OnOk result (WroteScript (length paths.now) (W.taken sink.old) (W.taken sink.new)) }
+    // The script of SETUP and the files, by what was held under each path, is written whole, and nothing at all but where the writer failed.
+    ensures ok { OnOk result (WroteScript (S.held shelf.now) setup.now (map (λ path. path.now) paths.now) (W.taken sink.old) (W.taken sink.new)) }
     ensures err { IfErr result (λ fault. (IsOfWriting fault → ⊥) → sink.new ≡ sink.old) }
 
     // No file and too many are told, and nothing else is told so.
@@ -111,8 +133,8 @@ pub(crate) fn serve_files<
     if paths.len() > MAX_FILES {
         return Err(SessionsFault::TooMany);
     }
-    let setup = read_file(host, alloc, setup)?;
-    let files = read_files(host, alloc, paths)?;
+    let setup = shelf.take(alloc, setup)?;
+    let files = read_files(shelf, alloc, paths)?;
     match run_sessions(host, alloc, &setup, &files, sink) {
         Ok(()) => Ok(()),
         Err(fault) => Err(SessionsFault::Run(fault)),

@@ -1,6 +1,6 @@
 //! What is told of the board that a script leaves.
 
-ghost use Rattle.std.specs.Prelude.{◌≡◌, ◌<◌, ◌+◌, ◌^◌, ◌↔◌, ◌⊎◌, ℕ, List, map, codes, string_bytes, IfOk, IfErr, IfSome, OnOk, MatchResult};
+ghost use Rattle.std.specs.Prelude.{◌≡◌, ◌≢◌, ◌<◌, ◌+◌, ◌^◌, ◌↔◌, ◌⊎◌, ℕ, List, map, codes, string_bytes, IfOk, IfErr, IfSome, OnOk, MatchResult};
 ghost use Rattle.std.specs.Io.KnownBytes.{Appends};
 ghost use Rattle.cq_board.specs.Choice.{IsCoordinating};
 ghost use Rattle.cq_report.specs.Lines.{lines_of};
@@ -11,7 +11,7 @@ ghost use Rattle.cq_text.specs.Device.{FailedAtTurn};
 ghost use Rattle.cq_cli.specs.declared.status.Status.{Status};
 ghost use Rattle.cq_cli.specs.Status.{DeviceFailed, IsRefused, ended};
 ghost use Rattle.cq_cli.specs.Views.{viewed};
-ghost use Rattle.cq_cli.specs.Choices.{AreCoordinating, AreNotCoordinating};
+ghost use Rattle.cq_cli.specs.Choices.{AreCoordinating, AreNotCoordinating, StandForNone};
 
 use crate::choices::read_choices;
 use crate::status::Status;
@@ -118,7 +118,8 @@ pub(crate) fn end_with<E: Sink>(
     errors: &mut E,
 ) -> Status
     requires { IfErr told (λ _. E.write_failures errors.old < 2 ^ 62) }
-    ensures { result ≡ ended told }
+    ensures ended { result ≡ ended told }
+    ensures silent { IfOk told (λ _. errors.new ≡ errors.old) }
 {
     match told {
         Ok(status) => status,
@@ -212,6 +213,7 @@ fn say_choice<A: Allocator + Copy, R: Source, W: Sink, E: Sink>(
     requires errors { E.write_failures errors.old < 2 ^ 62 }
     ensures so { result ≡ Status.Done → IfSome (R.left source.old) (λ input. (readings : List Reading) → AreReadings (lines_of input) readings → IsCoordinating (pool_left readings) choices.now) }
     ensures not_so { result ≡ Status.NotSo → IfSome (R.left source.old) (λ input. (readings : List Reading) → AreReadings (lines_of input) readings → IsCoordinating (pool_left readings) choices.now → ⊥) }
+    ensures usage { result ≢ Status.Usage }
     ensures said { result ≡ Status.Done → Appends (W.taken sink.old) (W.taken sink.new) (codes "coordinating\n") }
     ensures denied { result ≡ Status.NotSo → Appends (W.taken sink.old) (W.taken sink.new) (codes "not coordinating\n") }
     ensures read { R.failures_met source.old < R.failures_met source.new → result ≡ Status.Failed }
@@ -239,6 +241,7 @@ pub(crate) fn answer_choice<A: Allocator + Copy, R: Source, W: Sink, E: Sink>(
     requires errors { E.write_failures errors.old < 2 ^ 62 }
     ensures so { result ≡ Status.Done → IfSome (R.left source.old) (λ input. (readings : List Reading) → AreReadings (lines_of input) readings → AreCoordinating (pool_left readings) (map (λ word. word.now) words.now)) }
     ensures not_so { result ≡ Status.NotSo → IfSome (R.left source.old) (λ input. (readings : List Reading) → AreReadings (lines_of input) readings → AreNotCoordinating (pool_left readings) (map (λ word. word.now) words.now)) }
+    ensures bad { result ≡ Status.Usage → StandForNone (map (λ word. word.now) words.now) }
     ensures said { result ≡ Status.Done → Appends (W.taken sink.old) (W.taken sink.new) (codes "coordinating\n") }
     ensures denied { result ≡ Status.NotSo → Appends (W.taken sink.old) (W.taken sink.new) (codes "not coordinating\n") }
     ensures read { R.failures_met source.old < R.failures_met source.new → result ≡ Status.Failed }

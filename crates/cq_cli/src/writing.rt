@@ -22,6 +22,7 @@ pub(crate) fn write_text<W: Sink>(sink: &mut W, text: &str) -> Result<(), Failed
 /// Tells a text on the sink of errors, and passes over one that fails: there is nobody left to tell.
 pub(crate) fn tell<E: Sink>(errors: &mut E, text: &str)
     requires { E.write_failures errors.old < 2 ^ 62 }
+    ensures { E.write_failures errors.new ≡ E.write_failures errors.old → Appends (E.taken errors.old) (E.taken errors.new) text.now }
 {
     let _ = write_text(errors, text);
 }

@@ -53,3 +53,10 @@ begins_itself xs = ([], append-nil xs)
 
 pub begins_on : {A : Type 0} (xs ys zs : List A) → IsPrefix xs ys → IsPrefix ys zs → IsPrefix xs zs
 begins_on xs ys zs p q = (p.0 ++ q.0, sym (append_assoc xs p.0 q.0) ∙ (ap (λ z. z ++ q.0) p.1 ∙ q.1))
+
+pub begins_same : {A : Type 0} (xs ys : List A) → ys ≡ xs → IsPrefix xs ys
+begins_same xs ys is = ([], append-nil xs ∙ sym is)
+
+-- what is told is a front of the journal
+pub told_front : {E : Type 0} (t u es js : List E) (n : ℕ) → u ≡ t → t ≡ take n es → es ≡ js → IsPrefix u js
+told_front t u es js n same told is = subst (IsPrefix u) is (begins_told u n es (same ∙ told))

@@ -1,5 +1,5 @@
 -- What edits are answered that come one after another, and what they leave in a journal. (this project's profile)
-use Rattle.std.specs.Prelude.{ℕ, ◌+◌, List, [], ◌∷◌, ◌++◌, length, fold, map, nat_le, if◌then◌else◌, Option, Some, None}
+use Rattle.std.specs.Prelude.{◌≡◌, ℕ, ◌+◌, List, [], ◌∷◌, ◌++◌, length, fold, map, nat_le, if◌then◌else◌, Option, Some, None}
 use Rattle.cq_desk.specs.declared.journal.Entry.{Entry}
 use Rattle.cq_desk.specs.declared.reply.Reply.{Reply}
 use Rattle.cq_desk.specs.declared.reply.Reply.TheVariants.{Entered, JournalFull, Not}
@@ -31,6 +31,11 @@ accepted (e ∷ es) [] = []
 accepted (e ∷ es) (Entered number ∷ replies) = e ∷ accepted es replies
 accepted (e ∷ es) (JournalFull ∷ replies) = accepted es replies
 accepted (e ∷ es) (Not reason ∷ replies) = accepted es replies
+
+-- Each of these edits is accepted where it comes: the content that those before it leave has no reason against it.
+abbrev pub AreAccepted : {E C W : Type 0} → (C → E → C) → (C → E → Option W) → C → List E → Type 0
+AreAccepted after why content [] = Unit {0}
+AreAccepted after why content (e ∷ es) = (why content e ≡ None) × AreAccepted after why (after content e) es
 
 -- The replies to edits that come one after another, where these stand in the journal before the first.
 abbrev pub replies_at : {E C W : Type 0} → (C → E → C) → (C → E → Option W) → C → ℕ → List E → List E → List (Reply W)

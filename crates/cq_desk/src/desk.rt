@@ -1,10 +1,10 @@
 //! A journal under a limit, its working state and its publisher.
 
-ghost use Rattle.std.specs.Prelude.{◌≡◌, ◌<◌, [], ◌∷◌, ◌++◌, length, fold, take, drop, IfOk, OnOk, OnErr, MatchOption, ⊤};
+ghost use Rattle.std.specs.Prelude.{◌≡◌, ◌≤◌, ◌<◌, [], ◌∷◌, ◌++◌, length, fold, take, drop, IfOk, OnOk, OnErr, MatchOption, ⊤};
 ghost use mathlib.Core.List.{IsPrefix};
 ghost use Rattle.cq_desk.specs.History.{edits_of, grown, BeginsWith, StandsLast};
 ghost use Rattle.cq_desk.specs.Desk.{IsAnswer, with_entry};
-ghost use Rattle.cq_desk.specs.Replies.{MatchEnd, accepted, entries_by, journal_edits, replies_at, reply_at};
+ghost use Rattle.cq_desk.specs.Replies.{AreAccepted, MatchEnd, accepted, entries_by, journal_edits, replies_at, reply_at};
 
 use crate::gate::{Gate, OpenGate};
 use crate::journal::Entry;
@@ -36,7 +36,7 @@ impl<L: Live, P: Publisher<L>, A: Allocator> Model for Desk<L, P, A> {
 
     ghost view = { λ d. record { publisher = d.publisher; journal = d.journal.items; limit = d.limit } };
 
-    ghost invariant = { λ d. IsInStep L.after (L.content d.working) (P.opening d.publisher) (P.history d.publisher) (P.shown d.publisher) (P.pending d.publisher) d.journal.items d.handed d.published };
+    ghost invariant = { λ d. IsInStep L.after L.why (L.content d.working) (P.opening d.publisher) (P.history d.publisher) (P.shown d.publisher) (P.pending d.publisher) d.journal.items d.limit d.handed d.published };
 }
 
 impl<L: Live, P: Publisher<L>, A: Allocator + Copy> Desk<L, P, A> {
@@ -75,9 +75,11 @@ impl<L: Live, P: Publisher<L>, A: Allocator + Copy> Desk<L, P, A> {
         &self.publisher
     }
 
-    /// The accepted edits with their authors, the earliest first.
+    /// The accepted edits with their authors, the earliest first: each was accepted after those before it.
     pub fn journal(&self) -> &[Entry<L::Edit>]
-        ensures { result.now ≡ self.now.journal }
+        ensures value { result.now ≡ self.now.journal }
+        ensures accepted { AreAccepted L.after L.why (P.opening self.now.publisher) (journal_edits self.now.journal) }
+        ensures within { length self.now.journal ≤ self.now.limit }
     {
         &self.journal
     }
@@ -130,6 +132,8 @@ impl<L: Live, P: Publisher<L>, A: Allocator + Copy> Desk<L, P, A> {
         ensures all { OnOk result (edits_of (P.history self.new.publisher) ≡ journal_edits self.old.journal) }
         ensures shown { OnOk result (P.shown self.new.publisher ≡ P.history self.new.publisher) }
         ensures refused { OnErr result (P.shown self.new.publisher ≡ P.shown self.old.publisher) }
+        ensures begins { BeginsWith (P.history self.new.publisher) (P.history self.old.publisher) }
+        ensures told { IsPrefix (edits_of (P.history self.new.publisher) ++ P.pending self.new.publisher) (journal_edits self.old.journal) }
     {
         while self.handed < self.journal.len() {
             let edit = L::copy_edit(&self.journal[self.handed].edit)?;
@@ -174,6 +178,9 @@ impl<L: Live, P: Publisher<L>, A: Allocator + Copy> Desk<L, P, A> {
         ensures count { IfOk result (λ submitted. MatchEnd submitted.end (λ count. count ≡ length self.new.journal) ⊤ ⊤) }
         ensures shown { IfOk result (λ submitted. MatchEnd submitted.end (λ _. edits_of (P.shown self.new.publisher) ≡ journal_edits self.new.journal) (self.new.publisher ≡ self.old.publisher) (P.shown self.new.publisher ≡ P.shown self.old.publisher)) }
         ensures last { IfOk result (λ submitted. MatchEnd submitted.end (λ _. StandsLast (accepted asked.items submitted.replies.items) (P.shown self.new.publisher)) ⊤ ⊤) }
+        ensures history { IfOk result (λ submitted. MatchEnd submitted.end (λ _. P.history self.new.publisher ≡ grown (P.history self.old.publisher) (drop (length (edits_of (P.history self.old.publisher))) (journal_edits self.new.journal))) ⊤ ⊤) }
+        ensures all { IfOk result (λ submitted. MatchEnd submitted.end (λ _. P.shown self.new.publisher ≡ P.history self.new.publisher) ⊤ ⊤) }
+        ensures begins { BeginsWith (P.history self.new.publisher) (P.history self.old.publisher) }
         ensures err { OnErr result (self.new ≡ self.old) }
     {
         self.submit_past(author, asked, leave, &OpenGate)
@@ -199,6 +206,9 @@ impl<L: Live, P: Publisher<L>, A: Allocator + Copy> Desk<L, P, A> {
         ensures count { IfOk result (λ submitted. MatchEnd submitted.end (λ count. count ≡ length self.new.journal) ⊤ ⊤) }
         ensures shown { IfOk result (λ submitted. MatchEnd submitted.end (λ _. edits_of (P.shown self.new.publisher) ≡ journal_edits self.new.journal) (self.new.publisher ≡ self.old.publisher) (P.shown self.new.publisher ≡ P.shown self.old.publisher)) }
         ensures last { IfOk result (λ submitted. MatchEnd submitted.end (λ _. StandsLast (accepted asked.items submitted.replies.items) (P.shown self.new.publisher)) ⊤ ⊤) }
+        ensures history { IfOk result (λ submitted. MatchEnd submitted.end (λ _. P.history self.new.publisher ≡ grown (P.history self.old.publisher) (drop (length (edits_of (P.history self.old.publisher))) (journal_edits self.new.journal))) ⊤ ⊤) }
+        ensures all { IfOk result (λ submitted. MatchEnd submitted.end (λ _. P.shown self.new.publisher ≡ P.history self.new.publisher) ⊤ ⊤) }
+        ensures begins { BeginsWith (P.history self.new.publisher) (P.history self.old.publisher) }
         ensures err { OnErr result (self.new ≡ self.old) }
     {
         let alloc = *asked.allocator();

@@ -172,6 +172,19 @@ was-split true now after false p q r s = rw (s refl) (let same : one_if (not aft
 was-split false now after true p q r s = absurd (let never : false ≡ true = p (q refl) in cc)
 was-split false now after false p q r s = refl
 
+-- none is lost where the same are raised
+pub lost-none : (raised : ℕ → Bool) (edges : List Edge) → count_by (was_raised raised raised) edges ≡ 0
+lost-none raised [] = refl
+lost-none raised (e ∷ edges) =
+    let here : one_if (raised e.provider && not (raised e.provider)) ≡ 0 = one (raised e.provider) in
+    let rest = lost-none raised edges in
+    let all = count-cons (was_raised raised raised) e edges in
+    omega arith
+  where
+    one : (b : Bool) → one_if (b && not b) ≡ 0
+    one true = refl
+    one false = refl
+
 pub lost-more : (before : ℕ → Bool) (raised : List Bool) (v : ℕ) → ((n : ℕ) → stands raised n ≡ true → before n ≡ true) → stands raised v ≡ true → (edges : List Edge)
     → count_by (was_raised before (stands (set raised v false))) edges ≡ count_by (was_raised before (stands raised)) edges + length (filter (λ e. eqb e.provider v) edges)
 lost-more before raised v less up [] = refl

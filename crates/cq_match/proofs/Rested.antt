@@ -1,19 +1,18 @@
 -- The part of a falling list on which a node rests: what it is, and how it is found backwards.
-use Rattle.std.proofs.Common.{◌≡◌, ℕ, zero, suc, ◌+◌, ◌<◌, ◌≤◌, ◌⊎◌, inl, inr, ◌↔◌, Bool, true, false, ◌&&◌, ◌||◌, not, if◌then◌else◌, eqb, List, [], ◌∷◌, ◌++◌, length, get_or, take, drop, filter, nat_eq, refl, sym, ap, ◌∙◌, subst, arith, append_assoc, eq-eqb, reverse}
-use Rattle.std.specs.List.{All, Any, Contains, IsDistinct, AllByRecursion, list_any, list_all}
+use Rattle.std.proofs.Common.{◌≡◌, ℕ, zero, suc, ◌<◌, ◌⊎◌, inl, inr, ◌↔◌, Bool, true, false, List, [], ◌∷◌, ◌++◌, length, filter, nat_eq, refl, sym, ap, ◌∙◌, subst, arith, append_assoc, eq-eqb}
+use Rattle.std.specs.List.{Contains, IsDistinct, AllByRecursion, list_all}
 use Rattle.std.specs.Set.{is_member}
-use Rattle.std.proofs.lemmas.Bool.{eqb-true}
-use Rattle.std.proofs.lemmas.List.{append-nil, map-append, take-append-drop}
-use Rattle.std.proofs.lemmas.List.Elements.{All-head, All-tail, filter-append}
+use Rattle.std.proofs.lemmas.List.{append-nil, map-append}
+use Rattle.std.proofs.lemmas.List.Elements.{filter-append}
 use Rattle.std.proofs.lemmas.Map.Keys.{IsDistinct-head, IsDistinct-tail}
 use Rattle.cq_match.specs.declared.edge.Edge.{Edge}
 use Rattle.cq_match.specs.declared.falls.Fall.{Fall}
 use Rattle.cq_match.specs.declared.falls.Reason.{Reason}
 use Rattle.cq_match.specs.declared.falls.Reason.TheVariants.{NotAble, Unmet}
-use Rattle.cq_match.specs.Graph.{leads_to, edges_to}
+use Rattle.cq_match.specs.Graph.{edges_to}
 use Rattle.cq_match.specs.Falling.{is_unmet, HasReason, fallen, IsFallingAfter, IsFalling}
 use Rattle.cq_match.specs.Resting.{RestsOn, Itself, ByProvider, IsPartFor, EndsWith}
-use Rattle.cq_match.specs.Steps.Resting.{feeds_reason, wanted_after, no_fall, IsUpTo, Picks, FallsOnce, IsRested, Walking}
+use Rattle.cq_match.specs.Steps.Resting.{Picks, FallsOnce, IsRested}
 use Rattle.cq_match.proofs.Bridge.{none-Contains, here-Contains, later-Contains}
 use Rattle.cq_match.proofs.Ranks.{Nodes}
 use Rattle.cq_match.proofs.Tests.{by_bool, both, and_left, and_right}

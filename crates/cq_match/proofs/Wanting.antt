@@ -1,5 +1,5 @@
 -- How the part of a falling list on which a node rests is found backwards: one step, the start and the end.
-use Rattle.std.proofs.Common.{◌≡◌, ℕ, zero, suc, ◌+◌, ◌<◌, ◌≤◌, ◌⊎◌, inl, inr, ◌↔◌, Bool, true, false, ◌&&◌, ◌||◌, not, if◌then◌else◌, eqb, List, [], ◌∷◌, ◌++◌, length, get_or, take, drop, filter, nat_eq, refl, sym, ap, ◌∙◌, subst, arith, append_assoc, eq-eqb, reverse}
+use Rattle.std.proofs.Common.{◌≡◌, ℕ, zero, suc, ◌+◌, ◌<◌, ◌≤◌, ◌⊎◌, inl, inr, Bool, true, false, ◌&&◌, ◌||◌, not, if◌then◌else◌, eqb, List, [], ◌∷◌, ◌++◌, length, get_or, take, drop, filter, nat_eq, refl, sym, ap, ◌∙◌, subst, arith, append_assoc, eq-eqb, reverse}
 use Rattle.std.specs.List.{All, Contains, IsDistinct, list_any}
 use Rattle.std.specs.Set.{is_member}
 use Rattle.std.proofs.lemmas.Bool.{eqb-true, ne_eqb}
@@ -14,7 +14,7 @@ use Rattle.cq_match.specs.Falling.{fallen, IsFalling}
 use Rattle.cq_match.specs.Resting.{RestsOn, Itself, ByProvider}
 use Rattle.cq_match.specs.Steps.Resting.{is_provider, feeds_reason, wanted_after, no_fall, IsUpTo, Picks, FallsOnce, IsRested, Walking}
 use Rattle.cq_match.proofs.Tests.{by_bool, both, and_left, and_right}
-use Rattle.cq_match.proofs.Rested.{In, in-left, in-right, in-append, contained, placed, in-filter, from-filter, is-in, in-is, in-fallen, fall-in, not-both, one-fall, fallen-append, fed-before, closed, pick-none, pick-nil, rests-next, rests-absent}
+use Rattle.cq_match.proofs.Rested.{In, in-right, in-append, contained, placed, from-filter, in-fallen, fall-in, not-both, one-fall, fallen-append, fed-before, closed, pick-none, pick-nil, rests-next, rests-absent}
 
 -- ---- who feeds a reason
 

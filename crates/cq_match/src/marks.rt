@@ -1,6 +1,6 @@
 //! Which nodes are matched, and how many matched providers each postcondition has.
 
-ghost use Rattle.std.specs.Prelude.{◌≡◌, ℕ, ◌+◌, ◌-◌, ◌==◌, ◌<◌, ◌≤◌, ◌≢◌, Bool, ◌++◌, ◌∷◌, ◌&&◌, not, [], List, count_by, length, false, true, replicate, IfOk, OnOk, slice_index, slice_index_or, slice_set, if◌then◌else◌, vec_len, vec_capacity};
+ghost use Rattle.std.specs.Prelude.{◌≡◌, ℕ, ◌+◌, ◌-◌, ◌==◌, ◌<◌, ◌≤◌, ◌≢◌, Bool, ◌++◌, ◌∷◌, ◌&&◌, not, [], List, count_by, length, false, true, replicate, IfOk, OnOk, slice_index, slice_index_or, slice_set, if◌then◌else◌, vec_len, vec_capacity, min};
 ghost use Rattle.std.specs.List.{list_any};
 ghost use Rattle.cq_match.specs.Steps.Settle.{stands};
 ghost use Rattle.cq_match.specs.Steps.Kept.{place_at, count_at, edges_left, edges_from, feeds_post, busy, was_raised, OutsFit, Pruning, Counting, Grown, Reaches, Reaching, Settled, Closed};
@@ -210,8 +210,9 @@ impl<A: Allocator> Marks<A> {
         ensures busy { busy self.new.matched.items self.new.waiting.items ≡ busy self.old.matched.items self.old.waiting.items }
         ensures capacity { vec_capacity self.new.waiting ≡ vec_capacity self.old.waiting }
         ensures reached { self.new.reached ≡ self.old.reached }
-        ensures counted { meter.new ≤ meter.old + length (edges_left graph.now.places.items node (slice_index_or graph.now.leaving.items node [])) }
+        ensures counted { meter.new ≡ min (meter.old + length (edges_left graph.now.places.items node (slice_index_or graph.now.leaving.items node []))) u64.MAX }
     {
+        let _counted = meter.count();
         let outs = graph.leaving[node].outs();
         for out in outs {
             if is_live(&graph.places, *out) {
@@ -281,8 +282,9 @@ impl<A: Allocator> Marks<A> {
         ensures none { self.new.waiting.items ≡ [] }
         ensures capacity { vec_capacity self.new.waiting ≡ vec_capacity self.old.waiting }
         ensures reached { self.new.reached ≡ self.old.reached }
-        ensures counted { meter.new ≤ meter.old + count_by (was_raised (stands self.old.raised.items) (stands self.new.raised.items)) (edges_from graph.now.places.items 0 graph.now.leaving.items) }
+        ensures counted { meter.new ≡ min (meter.old + count_by (was_raised (stands self.old.raised.items) (stands self.new.raised.items)) (edges_from graph.now.places.items 0 graph.now.leaving.items)) u64.MAX }
     {
+        let _counted = meter.count();
         while let Some(node) = self.waiting.pop() {
             if self.raised[node] {
                 self.raised[node] = false;
@@ -341,7 +343,7 @@ impl<A: Allocator> Marks<A> {
         ensures none_waits { self.new.waiting.items ≡ [] }
         ensures capacity { vec_capacity self.new.waiting ≡ vec_capacity self.old.waiting }
         ensures reached { self.new.reached ≡ self.old.reached }
-        ensures counted { meter.new ≤ meter.old + count_by (was_raised (stands self.old.matched.items) (stands self.new.matched.items)) (edges_from graph.now.places.items 0 graph.now.leaving.items) }
+        ensures counted { meter.new ≡ min (meter.old + count_by (was_raised (stands self.old.matched.items) (stands self.new.matched.items)) (edges_from graph.now.places.items 0 graph.now.leaving.items)) u64.MAX }
     {
         if self.matched[node] {
             self.matched[node] = false;

@@ -1,6 +1,6 @@
 //! The matched nodes of a graph, kept while its nodes come and go.
 
-ghost use Rattle.std.specs.Prelude.{◌≡◌, ℕ, Bool, true, false, ◌+◌, ◌≤◌, ◌<◌, ◌↔◌, IfOk, OnOk, OnErr, nat_eq, filter, count_by, length, vec_capacity, List, [], ◌∷◌, if◌then◌else◌};
+ghost use Rattle.std.specs.Prelude.{◌≡◌, ℕ, Bool, true, false, ◌+◌, ◌<◌, ◌↔◌, IfOk, OnOk, OnErr, nat_eq, filter, count_by, length, vec_capacity, min, List, [], ◌∷◌, if◌then◌else◌};
 ghost use Rattle.std.specs.List.{All, Any, Contains};
 ghost use Rattle.std.specs.List.Sorted.{IsPermutation, IsSorted};
 ghost use Rattle.std.specs.Set.{is_member};
@@ -280,8 +280,9 @@ impl<A: Allocator> Matcher<A> {
         ensures nodes { self.new.nodes ≡ with_flag node false self.old.nodes }
         ensures edges { self.new.edges ≡ self.old.edges }
         ensures matched { (n : ℕ) → is_member nat_eq self.new.matched n ≡ is_matched self.new.nodes self.new.edges n }
-        ensures counted { meter.new ≤ meter.old + lost self.old self.new }
+        ensures counted { meter.new ≡ min (meter.old + lost self.old self.new) u64.MAX }
     {
+        let _counted = meter.count();
         if self.graph.places[node].able {
             self.graph.places[node].able = false;
             self.marks.fell(&self.graph, node, meter);
@@ -398,7 +399,7 @@ impl<A: Allocator> Matcher<A> {
         ensures nodes { self.new.nodes ≡ without node self.old.nodes }
         ensures edges { self.new.edges ≡ filter (is_apart node) self.old.edges }
         ensures matched { (n : ℕ) → is_member nat_eq self.new.matched n ≡ is_matched self.new.nodes self.new.edges n }
-        ensures counted { meter.new ≤ meter.old + lost self.old self.new }
+        ensures counted { meter.new ≡ min (meter.old + lost self.old self.new) u64.MAX }
     {
         self.disable(node, meter);
         self.erase(node);

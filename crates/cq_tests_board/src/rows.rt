@@ -11,11 +11,11 @@ use std::alloc::{AllocError, Global};
 pub enum Comes {
     /// A query comes: one visit, and so many tests.
     Posted(u64),
-    /// A query goes: so many changes at most.
+    /// A query goes: so many edges lose their matched provider.
     Withdrawn(u64),
     /// A row comes: so many visits.
     Inserted(u64),
-    /// A row goes: so many visits, and so many changes at most.
+    /// A row goes: so many visits, and so many edges lose their matched provider.
     Deleted(u64, u64),
     /// The edit is refused for this reason.
     Refused(Why),
@@ -74,6 +74,19 @@ const BOTH_WAYS: [Step; 5] = [
     ("delete T(1, 2)", Deleted(1, 0), "t"),
 ];
 
+// The query supplies itself and another one, until its last row goes; and itself alone, until it goes.
+const SUPPLIES_TWO: [Step; 9] = [
+    ("post w {R(1)} Q(1) <-", Posted(0), ""),
+    ("post s {R(1)} R(1) <- F(x)", Posted(2), ""),
+    ("insert F(7)", Inserted(1), "w s"),
+    ("insert F(8)", Inserted(1), "w s"),
+    ("delete F(7)", Deleted(1, 0), "w s"),
+    ("delete F(8)", Deleted(1, 2), ""),
+    ("withdraw w", Withdrawn(0), ""),
+    ("insert F(7)", Inserted(1), "s"),
+    ("withdraw s", Withdrawn(1), ""),
+];
+
 const EMPTY_BODY: [Step; 1] = [("post one {} R(1) <-", Posted(0), "one")];
 
 const NUMBER_IS_NO_TEXT: [Step; 3] = [
@@ -130,7 +143,7 @@ pub type Worked = (
     &'static [(&'static str, &'static [Step])],
 );
 
-const WORKED: [Worked; 11] = [
+const WORKED: [Worked; 12] = [
     (
         &TRAVEL,
         9,
@@ -153,6 +166,7 @@ const WORKED: [Worked; 11] = [
     (&[], 9, &[("crowded_supplier", &CROWDED_SUPPLIER)]),
     (&TRAVEL, 9, &[("supplies_itself", &SUPPLIES_ITSELF)]),
     (&[], 9, &[("both_ways", &BOTH_WAYS)]),
+    (&[], 9, &[("supplies_two", &SUPPLIES_TWO)]),
     (&[], 9, &[("empty_body", &EMPTY_BODY)]),
     (&[], 9, &[("number_is_no_text", &NUMBER_IS_NO_TEXT)]),
     (&[], 9, &[("every_refusal", &EVERY_REFUSAL)]),
@@ -167,15 +181,33 @@ fn is_told(comes: Comes, told: Option<Why>) -> bool {
     }
 }
 
+/// The work that was done before an edit: one of each. An edit adds to it.
+fn begun_work() -> Work {
+    let mut work = Work::new();
+    work.tests.tick();
+    work.visits.tick();
+    work.changes.tick();
+    work
+}
+
 fn is_done(comes: Comes, work: &Work) -> bool {
-    let (tests, visits, most) = match comes {
+    let (tests, visits, changes) = match comes {
         Posted(tests) => (tests, 1, 0),
-        Withdrawn(most) => (0, 0, most),
+        Withdrawn(changes) => (0, 0, changes),
         Inserted(visits) => (0, visits, 0),
-        Deleted(visits, most) => (0, visits, most),
+        Deleted(visits, changes) => (0, visits, changes),
         Refused(_) => (0, 0, 0),
     };
-    work.tests.count() == tests && work.visits.count() == visits && work.changes.count() <= most
+    let done = (
+        work.tests.count(),
+        work.visits.count(),
+        work.changes.count(),
+    );
+    done == (
+        tests.saturating_add(1),
+        visits.saturating_add(1),
+        changes.saturating_add(1),
+    )
 }
 
 /// Whether the edit of the line comes out so.
@@ -186,7 +218,7 @@ fn is_admitted(
     wanted: Comes,
 ) -> Result<bool, AllocError> {
     let edit = edit(alloc, line.as_bytes())?;
-    let mut work = Work::new();
+    let mut work = begun_work();
     let told = board.admit_counted(&edit, &mut work);
     drop(edit);
     Ok(is_told(wanted, told?) && is_done(wanted, &work))

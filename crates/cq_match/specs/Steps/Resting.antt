@@ -1,5 +1,5 @@
 -- How the part of a falling list on which a node rests is found: backwards, with the nodes that are still wanted.
-use Rattle.std.specs.Prelude.{◌≡◌, ℕ, ◌+◌, ◌<◌, ◌⊎◌, Bool, true, false, ◌&&◌, ◌||◌, not, ◌==◌, ⊤, nat_eq, if◌then◌else◌, List, [], ◌∷◌, ◌++◌, length, slice_index_or, take, drop}
+use Rattle.std.specs.Prelude.{◌≡◌, ℕ, ◌+◌, ◌<◌, ◌⊎◌, Bool, true, false, ◌&&◌, ◌||◌, not, ◌==◌, ⊤, nat_eq, if◌then◌else◌, List, [], ◌∷◌, length, slice_index_or, take, drop}
 use Rattle.std.specs.List.{All, Contains, IsDistinct, list_any}
 use Rattle.std.specs.Set.{is_member}
 use Rattle.cq_match.specs.declared.edge.Edge.{Edge}

@@ -50,7 +50,7 @@ fn break_and_mend<A: Allocator + Copy>(
     lost: u64,
 ) -> Result<bool, AllocError> {
     let mut meter = Meter::new();
-    if !kept.remove(MIDDLE, &mut meter) || meter.count() > lost {
+    if !kept.remove(MIDDLE, &mut meter) || meter.count() != lost {
         return Ok(false);
     }
     if kept.matcher().is_matched(MIDDLE) || kept.matcher().is_matched(0) {
@@ -63,7 +63,7 @@ fn break_and_mend<A: Allocator + Copy>(
 
 /// A graph in which each node but the last waits for the one after it: how many postconditions the last one has, the
 /// edges that come with it, the first node that is still matched where the middle one goes, and how many edges lose
-/// their matched providers then, at most.
+/// their matched providers then.
 struct Line {
     posts: u8,
     closing: &'static [Ends],
@@ -89,7 +89,7 @@ fn holds<A: Allocator + Copy>(alloc: A, line: &Line) -> Result<bool, AllocError>
     is_kept(&mut kept, line, &closing)
 }
 
-// The last node waits for node 0.
+// The last node waits for node 0. Where the middle one goes, none is matched, and each has one edge.
 const RING: Line = Line {
     posts: 1,
     closing: &[(9_999, 0, 9_998, 0), (0, 0, 9_999, 0)],

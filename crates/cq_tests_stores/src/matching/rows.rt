@@ -15,7 +15,7 @@ struct Step {
     providers: &'static [(usize, u8, usize)],
     /// The edges that leave node 0.
     waiters: &'static [Ends],
-    /// The meter has counted no more since the first step.
+    /// How many edges have lost their matched provider since the first step.
     lost: u64,
 }
 
@@ -46,7 +46,7 @@ fn shows<A: Allocator + Copy>(alloc: A, twin: &Twin<A>, step: &Step) -> Result<b
         are_matched(matcher, PLACES, step.matched)
             && has_providers(matcher, step.providers)
             && has_waiters(alloc, matcher, step.waiters)?
-            && twin.meter.count() <= step.lost
+            && twin.meter.count() == step.lost
             && twin.holds(alloc)?,
     )
 }
@@ -233,8 +233,9 @@ fn crowded_supplier(rt: HostRuntime) {
     );
 }
 
-// Nodes 0 and 1 wait for each other. Node 0 becomes able, once more, is able no longer, and once more.
-const ABLE_QUERIES: [Step; 6] = [
+// Nodes 0 and 1 wait for each other. Node 0 becomes able, once more, is able no longer, and once more. Then it becomes able, and is
+// so no longer, which loses two edges more.
+const ABLE_QUERIES: [Step; 8] = [
     Step {
         edit: Call::Add(0, 1, false, &[]),
         matched: &[],
@@ -276,6 +277,20 @@ const ABLE_QUERIES: [Step; 6] = [
         providers: &[(0, 0, 1), (1, 0, 1)],
         waiters: &[(0, 0, 1, 0)],
         lost: 2,
+    },
+    Step {
+        edit: Call::Enable(0),
+        matched: &[0, 1],
+        providers: &[(0, 0, 1), (1, 0, 1)],
+        waiters: &[(0, 0, 1, 0)],
+        lost: 2,
+    },
+    Step {
+        edit: Call::Disable(0),
+        matched: &[],
+        providers: &[(0, 0, 1), (1, 0, 1)],
+        waiters: &[(0, 0, 1, 0)],
+        lost: 4,
     },
 ];
 

@@ -14,7 +14,20 @@ pub struct Twin<A: Allocator = Global> {
     pub edges: Vec<Edge, A>,
     /// It counts how many edges lost their matched providers to removals and to nodes that were able no longer.
     pub meter: Meter,
+    /// How many of the listed edges did so.
+    lost: u64,
     places: usize,
+}
+
+/// How many of the edges have a matched provider.
+fn provided<A: Allocator>(matcher: &Matcher<A>, edges: &[Edge]) -> u64 {
+    let mut count = 0u64;
+    for edge in edges {
+        if matcher.is_matched(edge.provider) {
+            count = count.saturating_add(1);
+        }
+    }
+    count
 }
 
 impl<A: Allocator + Copy> Twin<A> {
@@ -25,6 +38,7 @@ impl<A: Allocator + Copy> Twin<A> {
             nodes: Vec::with_capacity(alloc, places)?,
             edges: Vec::with_capacity(alloc, edges)?,
             meter: Meter::new(),
+            lost: 0,
             places,
         })
     }
@@ -52,9 +66,9 @@ impl<A: Allocator + Copy> Twin<A> {
         self.kept.go_on_with_copy()
     }
 
-    /// Whether the matcher shows what the lists have.
+    /// Whether the matcher shows what the lists have, and the meter has counted what they have lost.
     pub fn holds(&self, alloc: A) -> Result<bool, AllocError> {
-        self.is_shown_by(alloc, self.kept.matcher())
+        Ok(self.meter.count() == self.lost && self.is_shown_by(alloc, self.kept.matcher())?)
     }
 
     /// Whether that matcher shows what the lists have.
@@ -64,11 +78,19 @@ impl<A: Allocator + Copy> Twin<A> {
 }
 
 impl<A: Allocator> Twin<A> {
+    /// Counts the edges that have a matched provider no longer, where so many had one and none has come by one.
+    fn lose(&mut self, before: u64) {
+        let lost = before.saturating_sub(provided(self.kept.matcher(), &self.edges));
+        self.lost = self.lost.saturating_add(lost);
+    }
+
     /// Removes the node and its edges; false where it is not there.
     pub fn remove(&mut self, node: usize) -> bool {
+        let before = provided(self.kept.matcher(), &self.edges);
         if !self.kept.remove(node, &mut self.meter) {
             return false;
         }
+        self.lose(before);
         self.nodes.retain(|other| other.0 != node);
         self.edges
             .retain(|edge| edge.provider != node && edge.waiter != node);
@@ -94,9 +116,11 @@ impl<A: Allocator> Twin<A> {
 
     /// Lets the node be able no longer; false where it is not there.
     pub fn disable(&mut self, node: usize) -> bool {
+        let before = provided(self.kept.matcher(), &self.edges);
         if !self.kept.disable(node, &mut self.meter) {
             return false;
         }
+        self.lose(before);
         self.list_able(node, false);
         true
     }

@@ -1,4 +1,4 @@
-use Rattle.std.proofs.Common.{◌≡◌, ℕ, ◌+◌, ◌≤◌, if◌then◌else◌, Bool, get_or, take, ap, sym, refl, ◌∙◌, arith}
+use Rattle.std.proofs.Common.{◌≡◌, ℕ, ◌+◌, ◌≤◌, if◌then◌else◌, Bool, get_or, take, ap, sym, ◌∙◌, arith}
 use Rattle.cq_atom.specs.Atom.{TermContent}
 use Rattle.cq_board.specs.Near.{differ, differences}
 use Rattle.cq_board.proofs.Missing.{differences_more, counts_one, counts_none}

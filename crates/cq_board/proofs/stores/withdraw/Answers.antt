@@ -1,9 +1,10 @@
-use Rattle.std.proofs.Common.{◌≤◌, ◌+◌, ℕ, List, sym, ap, subst, refl, ◌∙◌, arith}
+use Rattle.std.proofs.Common.{◌≡◌, ℕ, List, sym, ap, subst, refl, ◌∙◌, arith}
 use Rattle.std.specs.FinMap as map
 use Rattle.cq_roster.specs.Roster.{SeatRecord, without}
+use Rattle.cq_board.specs.Work.{raised}
 use Rattle.cq_board.specs.Steps.Stores.{pending_of}
 use Rattle.cq_board.proofs.Stored.{none-without, none-withdrawn, leaver-node, leaver-found, withdrawn-stores, withdrawn-pending, same-stores}
-use Rattle.cq_board.proofs.WorkLost.{lost-kept}
+use Rattle.cq_board.proofs.WorkLost.{lost-kept, lost-nobody}
 use Rattle.cq_board.proofs.stores.withdraw.Goals as goal
 
 pub returns-in_default-clause-stores : goal.returns-in_default-clause-stores
@@ -40,11 +41,14 @@ returns-clause-left g c = λ rows stores.
     ∙ withdrawn-pending c.args.stores.now.roster c.args.stores.now.findings c.args.stores.now.links c.args.stores.now.matcher rows stores c.args.name.now c.in-Some.place (sym c.remove.ensures.place ∙ c.in-Some.is)
 
 pub returns-in_default-clause-changes : goal.returns-in_default-clause-changes
-returns-in_default-clause-changes g c = λ pool same stores. omega arith
+returns-in_default-clause-changes g c = λ pool same stores.
+    let none = lost-nobody pool c.args.stores.now.roster c.args.stores.now.findings c.args.stores.now.links c.args.stores.now.matcher stores c.args.name.now (sym c.remove.ensures.place ∙ c.in_default.is) same in
+    let fits = c.count-counted.type_inv in
+    omega (arith, none, fits, c.count-counted.ensures)
 
 pub returns-clause-changes : goal.returns-clause-changes
 returns-clause-changes g c = λ pool same stores.
-    subst (λ (n : ℕ). c.remove-2.new.meter ≤ c.args.changes.now + n)
+    subst (λ (n : ℕ). c.remove-2.new.meter ≡ raised c.args.changes.now n)
     (lost-kept pool c.args.stores.now.roster c.args.stores.now.findings c.args.stores.now.links c.args.stores.now.matcher stores c.args.name.now c.in-Some.place (sym c.remove.ensures.place ∙ c.in-Some.is)
     c.remove-2.new.self c.remove-2.ensures.nodes c.remove-2.ensures.edges c.remove-2.ensures.matched same)
     c.remove-2.ensures.counted

@@ -1,6 +1,7 @@
 use Rattle.std.proofs.Common.{◌≡◌, ◌++◌, ◌∙◌, List, ℕ, true, sym, ap, subst}
 use Rattle.std.specs.Prelude.{codes}
 use Rattle.cq_atom.specs.Text.{is_name}
+use Rattle.cq_atom.specs.Value.{ValueContent}
 use Rattle.cq_cli.specs.Choices.{ListsValues}
 use Rattle.cq_cli.proofs.Chosen.{made}
 use Rattle.cq_cli.proofs.choices.choice_of.Goals as goal
@@ -15,5 +16,11 @@ returns-in-Some-2 g c =
       inner,
       good,
       subst (λ (text : List ℕ). ListsValues text values) c.as_bytes.ensures.value lists,
-      c.in-Some.ensures ∙ ap (λ (front : List ℕ). front ++ codes "(" ++ inner ++ codes ")") (sym name.0),
+      c.in-Some.ensures.found ∙ ap (λ (front : List ℕ). front ++ codes "(" ++ inner ++ codes ")") (sym name.0),
     )
+
+pub returns-in-None : goal.returns-in-None
+returns-in-None g c choice stands =
+    let parts = c.in-Some.ensures.only choice.name stands.0 stands.1 stands.3 in
+    let none : (values : List ValueContent) → ListsValues c.as_bytes.result.now values → ⊥ = rw c.in-None.is at c.in_ok-values.ensures in
+    none choice.values (subst (λ (text : List ℕ). ListsValues text choice.values) (sym parts.1 ∙ sym c.as_bytes.ensures.value) stands.2)

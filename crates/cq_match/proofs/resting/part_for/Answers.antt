@@ -1,8 +1,5 @@
-use Rattle.std.proofs.Common.{◌≡◌, ◌<◌, inl, inr, [], subst, sym, ◌∙◌, arith}
-use Rattle.std.specs.List.{All}
-use Rattle.cq_match.specs.declared.falls.Fall.{Fall}
-use Rattle.cq_match.specs.Resting.{IsPartFor}
-use Rattle.cq_match.specs.Steps.Resting.{FallsOnce, Picks, IsRested}
+use Rattle.std.proofs.Common.{arith}
+use Rattle.cq_match.specs.Steps.Resting.{FallsOnce}
 use Rattle.cq_match.proofs.Rested.{picked-part, part-absent, part-last, part-falling}
 use Rattle.cq_match.proofs.Wanting.{none-rested, none-before}
 use Rattle.cq_match.proofs.resting.part_for.Goals.{then-count-gt0+in_ok-walk_back, else-count-gt0}

@@ -1,4 +1,4 @@
-use Rattle.std.proofs.Common.{◌≡◌, ℕ, suc, ◌+◌, ◌-◌, ◌<◌, inl, inr, get_or, length, reverse, refl, subst, arith}
+use Rattle.std.proofs.Common.{◌≡◌, ℕ, suc, ◌-◌, ◌<◌, inr, get_or, length, reverse, refl, subst, arith}
 use Rattle.cq_match.specs.Steps.Resting.{no_fall, Walking}
 use Rattle.cq_match.proofs.Wanting.{walked, walked-out, empty-list}
 use Rattle.cq_match.proofs.resting.walk.Goals as goal

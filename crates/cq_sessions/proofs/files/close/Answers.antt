@@ -16,8 +16,8 @@ returns g c =
     (λ told e. record {
       journal = journal;
       begins = All-map (λ known. IsPrefix known (journal_edits journal)) (λ session. edits_of session.history) c.args.sessions.items c.close-desk.ensures.seen;
-      told = subst (λ z. AreTold z numbers) c.journal.ensures told;
-      put = e ∙ ap (λ z. string_bytes c.args.page.now ++ entries_from 1 z) c.journal.ensures;
+      told = subst (λ z. AreTold z numbers) c.journal.ensures.value told;
+      put = e ∙ ap (λ z. string_bytes c.args.page.now ++ entries_from 1 z) c.journal.ensures.value;
     }) c.put_told-put.ensures.told c.put_told-put.ensures.put
   where
     on_ok_both : {V E P Q R : Type 0} (r : Result V E) → (P → Q → R) → OnOk r P → OnOk r Q → OnOk r R

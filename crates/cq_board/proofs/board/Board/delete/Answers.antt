@@ -1,8 +1,8 @@
-use Rattle.std.proofs.Common.{◌≡◌, ◌≤◌, ◌+◌, ℕ, subst, ◌∙◌}
+use Rattle.std.proofs.Common.{◌≡◌, ℕ, subst, ◌∙◌}
 use Rattle.cq_match.specs.Matcher as matcher
 use Rattle.cq_board.specs.declared.edit.EditKind.TheVariants.{Delete}
 use Rattle.cq_board.specs.Edits.{edited}
-use Rattle.cq_board.specs.Work.{lost}
+use Rattle.cq_board.specs.Work.{lost, raised}
 use Rattle.cq_board.proofs.WorkLost.{lost-brought}
 use Rattle.cq_board.proofs.WorkStores.{visits-seen}
 use Rattle.cq_board.proofs.RowsIn.{deleted_in, deleted_seen}
@@ -38,4 +38,4 @@ returns-clause-changes g c =
     let count : matcher.lost old.matcher new.matcher ≡ lost c.args.self.now (edited c.args.self.now (Delete c.args.row.now)) =
     lost-brought limits tables c.delete.new.tables old.roster new.roster old.findings new.findings old.links new.links old.matcher new.matcher c.self.invariant.stores c.delete.ensures.stores c.delete.ensures.residents
     ∙ (λ i. lost (c.self.view_is i) (left i)) in
-    subst (λ (n : ℕ). c.delete.new.changes ≤ c.args.work.now.changes + n) count c.delete.ensures.counted
+    subst (λ (n : ℕ). c.delete.new.changes ≡ raised c.args.work.now.changes n) count c.delete.ensures.counted

@@ -1,4 +1,4 @@
-use Rattle.std.proofs.Common.{ℕ, List, length, map, arith, ap, subst, ◌∙◌}
+use Rattle.std.proofs.Common.{ℕ, List, map, arith, ap, subst, ◌∙◌}
 use Rattle.std.proofs.lemmas.Result.{IfOk-weaker}
 use Rattle.cq_board.specs.Near.{AreNearest, misses_named, miss_named}
 use Rattle.cq_board.proofs.Missing.{nearest-low}

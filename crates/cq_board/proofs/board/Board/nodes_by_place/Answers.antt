@@ -1,4 +1,4 @@
-use Rattle.std.proofs.Common.{ℕ, Bool, List, ap, ◌∙◌, map, length}
+use Rattle.std.proofs.Common.{ℕ, List, ap, ◌∙◌, map, length}
 use Rattle.std.specs.List.{enumerate_from}
 use Rattle.std.proofs.lemmas.Result.{IfOk-weaker}
 use Rattle.cq_board.specs.Pool.{PendingQuery}

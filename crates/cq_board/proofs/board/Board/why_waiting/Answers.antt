@@ -1,6 +1,5 @@
-use Rattle.std.proofs.Common.{rules, ◌≡◌, ℕ, List, true, Some, sym, ◌∙◌, subst, map}
-use Rattle.cq_board.specs.Board.{place_of}
-use Rattle.cq_board.specs.Waiting.{is_waiting, wait_read, IsReason}
+use Rattle.std.proofs.Common.{rules, ◌≡◌, ℕ, true, Some, sym, ◌∙◌, subst, map}
+use Rattle.cq_board.specs.Waiting.{wait_read, IsReason}
 use Rattle.cq_board.proofs.Told.{waiting-unmatched}
 use Rattle.cq_board.proofs.board.Board.why_waiting.Goals as goal
 

@@ -1,8 +1,8 @@
-use Rattle.std.proofs.Common.{◌≤◌, ◌+◌, refl, ap, subst, ◌∙◌}
+use Rattle.std.proofs.Common.{◌≡◌, refl, ap, subst, ◌∙◌}
 use Rattle.cq_board.specs.declared.edit.EditKind.TheVariants.{Withdraw}
 use Rattle.cq_board.specs.Pool.{PoolRecord}
 use Rattle.cq_board.specs.Edits.{edited}
-use Rattle.cq_board.specs.Work.{lost}
+use Rattle.cq_board.specs.Work.{lost, raised}
 use Rattle.cq_board.specs.Steps.Stores.{pending_of}
 use Rattle.cq_board.proofs.KeptIn.{pool_of, withdrawn_in}
 use Rattle.cq_board.proofs.board.Board.withdraw.Goals as goal
@@ -23,5 +23,5 @@ returns-clause-ok g c =
 pub returns-clause-changes : goal.returns-clause-changes
 returns-clause-changes g c =
     let old = c.self.inside.stores in
-    subst (λ (p : PoolRecord). c.withdraw.new.changes ≤ c.args.work.now.changes + lost p (edited p (Withdraw c.args.name.now))) c.self.view_is
+    subst (λ (p : PoolRecord). c.withdraw.new.changes ≡ raised c.args.work.now.changes (lost p (edited p (Withdraw c.args.name.now)))) c.self.view_is
     (c.withdraw.ensures.changes (pool_of c.self.inside.limits c.self.inside.tables (pending_of old.roster old.findings)) refl c.self.invariant.stores)

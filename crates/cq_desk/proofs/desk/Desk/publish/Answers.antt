@@ -1,8 +1,8 @@
-use Rattle.std.proofs.Common.{rules, ◌≡◌, ◌+◌, ◌-◌, ◌<◌, ◌≤◌, ◌^◌, [], ◌∷◌, ◌++◌, length, take, drop, ap, sym, ◌∙◌, subst, fold, arith, length-take}
+use Rattle.std.proofs.Common.{rules, ◌≡◌, ◌+◌, ◌-◌, ◌<◌, ◌≤◌, ◌^◌, [], ◌∷◌, ◌++◌, length, take, drop, refl, ap, sym, ◌∙◌, subst, fold, arith, length-take}
 use Rattle.std.proofs.lemmas.List.{append-nil, length-map, take_all}
 use Rattle.cq_desk.specs.History.{edits_of, grown, BeginsWith}
-use Rattle.cq_desk.specs.Replies.{journal_edits}
-use Rattle.cq_desk.proofs.Histories.{tells_more, tells_all, told_length, rest_is, edits-grown, same_told, begins_itself, begins_on}
+use Rattle.cq_desk.specs.Replies.{AreAccepted, journal_edits}
+use Rattle.cq_desk.proofs.Histories.{tells_more, tells_all, told_length, rest_is, edits-grown, same_told, begins_itself, begins_on, begins_same, told_front}
 use Rattle.cq_desk.proofs.desk.Desk.publish.Goals as goal
 
 pub append-requires : goal.append-requires
@@ -28,6 +28,8 @@ loop-self-preserved g c = let d = c.loop-self.self-inside in let inv = c.loop-se
         handed_within = search rules;
         counts = inv.0.counts ∙ ap (λ h. length (edits_of h)) (sym kept.shown);
         front = subst (λ h. BeginsWith h (g.P.Publisher.shown c.append.new.self)) (sym kept.history) (subst (BeginsWith (g.P.Publisher.history d.publisher)) (sym kept.shown) inv.0.front);
+        accepted = subst (λ o. AreAccepted g.L.Live.after g.L.Live.why o (journal_edits d.journal.items)) (sym kept.opening) inv.0.accepted;
+        within = inv.0.within;
       },
       inv.1,
       inv.2,
@@ -50,6 +52,8 @@ invariant_of-self-2 g c = let d = c.loop-self.self-inside in let inv = c.loop-se
       handed_within = inv.0.handed_within;
       counts = all ∙ sym (ap (λ h. length (edits_of h)) shows ∙ ap length (whole ∙ take_all d.handed (journal_edits d.journal.items) (omega (arith, length-map d.journal.items (λ e. e.edit)))) ∙ length-map d.journal.items (λ e. e.edit));
       front = subst (BeginsWith (g.P.Publisher.history now)) (sym shows) (begins_itself (g.P.Publisher.history now));
+      accepted = subst (λ o. AreAccepted g.L.Live.after g.L.Live.why o (journal_edits d.journal.items)) (sym kept.opening) inv.0.accepted;
+      within = inv.0.within;
     }
 
 pub returns-clause-history : goal.returns-clause-history
@@ -85,4 +89,35 @@ invariant_of-self-in_err-publish g c = let d = c.loop-self.self-inside in let in
       handed_within = inv.0.handed_within;
       counts = inv.0.counts ∙ ap (λ h. length (edits_of h)) (sym shows);
       front = subst (BeginsWith (g.P.Publisher.history now)) (sym shows) (begins_on (g.P.Publisher.shown d.publisher) (g.P.Publisher.history d.publisher) (g.P.Publisher.history now) inv.0.front kept.begins);
+      accepted = subst (λ o. AreAccepted g.L.Live.after g.L.Live.why o (journal_edits d.journal.items)) (sym kept.opening) inv.0.accepted;
+      within = inv.0.within;
     }
+
+pub returns-in_err-edit-clause-begins : goal.returns-in_err-edit-clause-begins
+returns-in_err-edit-clause-begins g c = let d = c.loop-self.self-inside in
+    begins_same (g.P.Publisher.history c.args.self.now.publisher) (g.P.Publisher.history d.publisher) (c.loop-self.invariant.4 ∙ ap (λ v. g.P.Publisher.history v.publisher) c.self.view_is)
+
+pub returns-in_err-edit-clause-told : goal.returns-in_err-edit-clause-told
+returns-in_err-edit-clause-told g c = let d = c.loop-self.self-inside in let inv = c.loop-self.invariant in
+    let t = edits_of (g.P.Publisher.history d.publisher) ++ g.P.Publisher.pending d.publisher in
+    told_front t t (journal_edits d.journal.items) (journal_edits c.args.self.now.journal) d.handed refl inv.0.told (ap (λ v. journal_edits v.items) inv.1 ∙ ap (λ v. journal_edits v.journal) c.self.view_is)
+
+pub returns-in_err-append-clause-begins : goal.returns-in_err-append-clause-begins
+returns-in_err-append-clause-begins g c =
+    begins_same (g.P.Publisher.history c.args.self.now.publisher) (g.P.Publisher.history c.append.new.self) (c.in_err-append.ensures.history ∙ (c.loop-self.invariant.4 ∙ ap (λ v. g.P.Publisher.history v.publisher) c.self.view_is))
+
+pub returns-in_err-append-clause-told : goal.returns-in_err-append-clause-told
+returns-in_err-append-clause-told g c = let d = c.loop-self.self-inside in let inv = c.loop-self.invariant in let now = c.append.new.self in
+    let same : g.P.Publisher.pending now ≡ g.P.Publisher.pending d.publisher = search rules in
+    told_front (edits_of (g.P.Publisher.history d.publisher) ++ g.P.Publisher.pending d.publisher) (edits_of (g.P.Publisher.history now) ++ g.P.Publisher.pending now) (journal_edits d.journal.items) (journal_edits c.args.self.now.journal) d.handed
+    (ap (λ h. edits_of h ++ g.P.Publisher.pending now) c.in_err-append.ensures.history ∙ ap (λ q. edits_of (g.P.Publisher.history d.publisher) ++ q) same) inv.0.told (ap (λ v. journal_edits v.items) inv.1 ∙ ap (λ v. journal_edits v.journal) c.self.view_is)
+
+pub returns-in_err-publish-clause-told : goal.returns-in_err-publish-clause-told
+returns-in_err-publish-clause-told g c = let d = c.loop-self.self-inside in let inv = c.loop-self.invariant in let now = c.publish.new.self in
+    told_front (edits_of (g.P.Publisher.history d.publisher) ++ g.P.Publisher.pending d.publisher) (edits_of (g.P.Publisher.history now) ++ g.P.Publisher.pending now) (journal_edits d.journal.items) (journal_edits c.args.self.now.journal) d.handed
+    (same_told (g.P.Publisher.history d.publisher) (g.P.Publisher.history now) (g.P.Publisher.pending d.publisher) (g.P.Publisher.pending now) c.publish.ensures.together) inv.0.told (ap (λ v. journal_edits v.items) inv.1 ∙ ap (λ v. journal_edits v.journal) c.self.view_is)
+
+pub returns-clause-told : goal.returns-clause-told
+returns-clause-told g c = let d = c.loop-self.self-inside in let inv = c.loop-self.invariant in let now = c.publish.new.self in
+    told_front (edits_of (g.P.Publisher.history d.publisher) ++ g.P.Publisher.pending d.publisher) (edits_of (g.P.Publisher.history now) ++ g.P.Publisher.pending now) (journal_edits d.journal.items) (journal_edits c.args.self.now.journal) d.handed
+    (same_told (g.P.Publisher.history d.publisher) (g.P.Publisher.history now) (g.P.Publisher.pending d.publisher) (g.P.Publisher.pending now) c.publish.ensures.together) inv.0.told (ap (λ v. journal_edits v.items) inv.1 ∙ ap (λ v. journal_edits v.journal) c.self.view_is)

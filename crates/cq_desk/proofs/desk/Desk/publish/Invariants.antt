@@ -4,7 +4,7 @@ use Rattle.cq_desk.proofs.desk.Desk.publish.Given as goal
 
 abbrev pub invariant-loop-self : goal.invariant-loop-self
 invariant-loop-self g l = let d = l.self-inside in let a = l.initial.self-inside in
-    IsInStep g.L.Live.after (g.L.Live.content d.working) (g.P.Publisher.opening d.publisher) (g.P.Publisher.history d.publisher) (g.P.Publisher.shown d.publisher) (g.P.Publisher.pending d.publisher) d.journal.items d.handed d.published
+    IsInStep g.L.Live.after g.L.Live.why (g.L.Live.content d.working) (g.P.Publisher.opening d.publisher) (g.P.Publisher.history d.publisher) (g.P.Publisher.shown d.publisher) (g.P.Publisher.pending d.publisher) d.journal.items d.limit d.handed d.published
     × (d.journal ≡ a.journal) × (d.limit ≡ a.limit) × (g.P.Publisher.opening d.publisher ≡ g.P.Publisher.opening a.publisher) × (g.P.Publisher.history d.publisher ≡ g.P.Publisher.history a.publisher) × (g.P.Publisher.shown d.publisher ≡ g.P.Publisher.shown a.publisher)
 
 abbrev pub decreases-loop-self : goal.decreases-loop-self

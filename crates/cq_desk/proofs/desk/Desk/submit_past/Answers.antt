@@ -4,6 +4,7 @@ use Rattle.std.specs.Vec.Iter.{into_iter_items}
 use mathlib.Core.List.{IsPrefix}
 use Rattle.cq_desk.specs.History.{edits_of, grown, StandsLast}
 use Rattle.cq_desk.specs.Replies.{journal_edits, accepted, entries_by, reply_at}
+use Rattle.cq_desk.proofs.Histories.{begins_same}
 use Rattle.cq_desk.proofs.Replying.{accepted-more, edits_entered, nothing_left, published_last, replied_on, taken_in}
 use Rattle.cq_desk.proofs.desk.Desk.submit_past.Goals as goal
 
@@ -57,3 +58,7 @@ returns-in-Ok-clause-last g c = let at = c.loop-edit in let inv = at.invariant i
     let told : IsPrefix (edits_of h ++ g.P.Publisher.pending a.publisher) (journal_edits a.journal) = subst (λ p. IsPrefix (edits_of (g.P.Publisher.history p) ++ g.P.Publisher.pending p) (journal_edits a.journal)) c.publisher.ensures.same c.publisher.ensures.told in
     let grew = c.in-Ok.ensures.history ∙ ap (λ k. grown k (drop (length (edits_of k)) (journal_edits at.self.journal))) was in
     subst (StandsLast es) (sym c.in-Ok.ensures.shown) (published_last h (g.P.Publisher.history now.publisher) (g.P.Publisher.pending a.publisher) (journal_edits a.journal) (journal_edits at.self.journal) es told more grew)
+
+pub returns-in_default-clause-begins : goal.returns-in_default-clause-begins
+returns-in_default-clause-begins g c =
+    begins_same (g.P.Publisher.history c.args.self.now.publisher) (g.P.Publisher.history c.take_in.new.self.publisher) (ap (λ v. g.P.Publisher.history v.publisher) c.in_default.ensures ∙ ap (λ v. g.P.Publisher.history v.publisher) c.loop-edit.invariant.5)

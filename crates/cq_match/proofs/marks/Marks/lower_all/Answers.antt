@@ -44,7 +44,8 @@ loop-out-preserved g c =
             busy = rw w.self-is (rw (matched-is, waiting-is, post) (lower-busy places edges matched raised counts waiting (edge_of node out) behind p fits ∙ c.loop-out.invariant.busy));
             reached = rw w.self-is (w.lower.ensures.reached ∙ c.loop-out.invariant.reached);
             capacity = rw w.self-is (w.lower.ensures.capacity ∙ c.loop-out.invariant.capacity);
-            counted = let m = w.meter-is in let t = w.tick.ensures in let before = c.loop-out.invariant.counted in omega arith;
+            fits = let m = w.meter-is in let t = w.tick.ensures in omega arith;
+            counted = let m = w.meter-is in let t = w.tick.ensures in let f = c.loop-out.invariant.fits in let before = c.loop-out.invariant.counted in omega arith;
           }
       | else-is_live w ↦
           let gone : is_live places out ≡ false = ap (λ (ps : List Place). is_live ps out) (sym c.deref.ensures.value) ∙ sym c.is_live.ensures ∙ w.if-is_live.false in
@@ -55,6 +56,7 @@ loop-out-preserved g c =
             busy = rw w.self-is c.loop-out.invariant.busy;
             reached = rw w.self-is c.loop-out.invariant.reached;
             capacity = rw w.self-is c.loop-out.invariant.capacity;
+            fits = let m = w.meter-is in let f = c.loop-out.invariant.fits in omega arith;
             counted = let m = w.meter-is in let same_len = ap length pending in let before = c.loop-out.invariant.counted in omega arith;
           }
     ]

@@ -1,10 +1,10 @@
-use Rattle.std.proofs.Common.{◌≡◌, ℕ, ◌+◌, ◌++◌, ◌∷◌, [], Bool, true, false, List, length, get_or, set, filter, eqb, sym, ap, ◌∙◌, subst, arith}
+use Rattle.std.proofs.Common.{◌≡◌, ℕ, ◌+◌, ◌++◌, ◌∷◌, [], Bool, true, false, List, length, get_or, set, filter, eqb, refl, sym, ap, ◌∙◌, subst, arith}
 use Rattle.std.proofs.lemmas.List.{get_or_read, length-append}
 use Rattle.cq_match.specs.declared.edge.Edge.{Edge}
 use Rattle.cq_match.specs.declared.graph.Place.{Place}
 use Rattle.cq_match.specs.Steps.Settle.{stands}
 use Rattle.cq_match.specs.Steps.Kept.{edges_left, edges_from, Pruning}
-use Rattle.cq_match.proofs.Edges.{edges-of_node, lowered-less, lost-more}
+use Rattle.cq_match.proofs.Edges.{edges-of_node, lowered-less, lost-more, lost-none}
 use Rattle.cq_match.proofs.Pruning.{popped-low, skip, start}
 use Rattle.cq_match.proofs.marks.Marks.prune.Goals as goal
 
@@ -15,6 +15,19 @@ raised-read places edges matched raised counts waiting rest v read p at e =
     let low = popped-low places edges matched raised counts waiting rest v p at in
     let len = p.raised_len in
     sym (get_or_read raised v read (omega arith) e false)
+
+pub loop-node-init : goal.loop-node-init
+loop-node-init g c =
+    let none = lost-none (stands c.args.self.now.raised.items) (edges_from c.args.graph.now.places.items 0 c.args.graph.now.leaving.items) in
+    let fits = c.count-counted.type_inv in
+    record {
+      pruning = c.requires.pruning;
+      room = c.requires.room;
+      reached = refl;
+      capacity = refl;
+      less = λ n t. t;
+      counted = omega (arith, none, fits, c.count-counted.ensures);
+    }
 
 pub lower_all-requires-clause-pruning : goal.lower_all-requires-clause-pruning
 lower_all-requires-clause-pruning g c =

@@ -1,9 +1,12 @@
 use Rattle.std.proofs.Common.{◌≡◌, Bool, false, [], List, set, sym, ap, ◌∙◌, subst, arith, vec_capacity}
 use Rattle.std.proofs.lemmas.List.{get_or_default, length-set}
+use Rattle.cq_match.specs.declared.edge.Edge.{Edge}
 use Rattle.cq_match.specs.declared.graph.Place.{Place}
 use Rattle.cq_match.specs.Matcher.{MatcherRecord, with_flag}
+use Rattle.cq_match.specs.Steps.Settle.{stands}
 use Rattle.cq_match.specs.Steps.Kept.{free, place_at, edges_from, Counting}
 use Rattle.cq_match.proofs.Rows.{taken-placed}
+use Rattle.cq_match.proofs.Edges.{lost-none}
 use Rattle.cq_match.proofs.Bridge.{there, exact-is, lost-is}
 use Rattle.cq_match.proofs.Flags.{same-posts, same-edges, same-counting, same-kept, flagged-nodes, flagged-already, most-without}
 use Rattle.cq_match.proofs.matcher.Matcher.disable.Goals as goal
@@ -112,6 +115,15 @@ returns-then-index-clause-counted g c =
     let counted = rw (place, same-edges places node false low leaving) at c.fell.ensures.counted in
     let same = lost-is i.marks.matched.items c.fell.new.self.matched.items (edges_from places 0 leaving) in
     rw (← c.self.view_is) (omega (arith, counted, same))
+
+pub returns-else-index-clause-counted : goal.returns-else-index-clause-counted
+returns-else-index-clause-counted g c =
+    let i = c.self.inside in
+    let edges : List Edge = edges_from i.graph.places.items 0 i.graph.leaving.items in
+    let same = lost-is i.marks.matched.items i.marks.matched.items edges in
+    let none = lost-none (stands i.marks.matched.items) edges in
+    let fits = c.count-counted.type_inv in
+    rw (← c.self.view_is) (omega (arith, same, none, fits, c.count-counted.ensures))
 
 pub returns-else-index-clause-nodes : goal.returns-else-index-clause-nodes
 returns-else-index-clause-nodes g c =
