@@ -6,7 +6,7 @@ ghost use Rattle.cq_desk.specs.History.{edits_of, grown, BeginsWith, StandsLast}
 ghost use Rattle.cq_desk.specs.Desk.{IsAnswer, with_entry};
 ghost use Rattle.cq_desk.specs.Replies.{AreAccepted, MatchEnd, accepted, entries_by, journal_edits, replies_at, reply_at};
 
-use crate::gate::{Gate, OpenGate};
+use crate::gate::{Checkpoint, OpenGate};
 use crate::journal::Entry;
 use crate::live::{Live, NoMemory};
 use crate::publisher::Publisher;
@@ -183,20 +183,20 @@ impl<L: Live, P: Publisher<L>, A: Allocator + Copy> Desk<L, P, A> {
         ensures begins { BeginsWith (P.history self.new.publisher) (P.history self.old.publisher) }
         ensures err { OnErr result (self.new ≡ self.old) }
     {
-        self.submit_past(author, asked, leave, &OpenGate)
+        self.submit_past(author, asked, leave, &mut OpenGate)
     }
 
-    /// The same, with the gate passed between entering and publishing.
+    /// The same past a checkpoint, which lets the submit pass once, between entering and publishing.
     ///
     /// # Errors
     /// `NoMemory` where there was no room for the replies. Nothing was entered or published then, and
-    /// the gate was not passed.
-    pub fn submit_past<G: Gate>(
+    /// the checkpoint was not reached.
+    pub fn submit_past<G: Checkpoint>(
         &mut self,
         author: usize,
         asked: Vec<L::Edit, A>,
         leave: &P::Leave,
-        gate: &G,
+        gate: &mut G,
     ) -> Result<Submitted<L::Why, A>, NoMemory>
         ensures limit { self.new.limit ≡ self.old.limit }
         ensures opening { P.opening self.new.publisher ≡ P.opening self.old.publisher }
@@ -209,7 +209,9 @@ impl<L: Live, P: Publisher<L>, A: Allocator + Copy> Desk<L, P, A> {
         ensures history { IfOk result (λ submitted. MatchEnd submitted.end (λ _. P.history self.new.publisher ≡ grown (P.history self.old.publisher) (drop (length (edits_of (P.history self.old.publisher))) (journal_edits self.new.journal))) ⊤ ⊤) }
         ensures all { IfOk result (λ submitted. MatchEnd submitted.end (λ _. P.shown self.new.publisher ≡ P.history self.new.publisher) ⊤ ⊤) }
         ensures begins { BeginsWith (P.history self.new.publisher) (P.history self.old.publisher) }
+        ensures passed { IfOk result (λ submitted. MatchEnd submitted.end (λ _. G.passed gate.old (length self.new.journal) (length (edits_of (P.shown self.old.publisher))) gate.new) (gate.new ≡ gate.old) (G.passed gate.old (length self.new.journal) (length (edits_of (P.shown self.old.publisher))) gate.new)) }
         ensures err { OnErr result (self.new ≡ self.old) }
+        ensures unpassed { OnErr result (gate.new ≡ gate.old) }
     {
         let alloc = *asked.allocator();
         let mut replies = Vec::new(alloc);
@@ -224,7 +226,7 @@ impl<L: Live, P: Publisher<L>, A: Allocator + Copy> Desk<L, P, A> {
             };
             replies.push_reserved(reply);
         }
-        gate.pass();
+        gate.let_pass(self);
         match self.publish(leave) {
             Ok(count) => Ok(Submitted {
                 replies,

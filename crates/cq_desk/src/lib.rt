@@ -19,7 +19,7 @@
 //! machine does, and leaves the machine as that event leaves it. `Desk::submit` answers each edit as
 //! the journal before it says (`specs/Replies`), enters exactly those that it numbers, and ends in a
 //! publish after which they stand at the end of the last publication, or says where memory was
-//! wanting. `Desk::submit_past` is the same with a [`Gate`] passed between entering and publishing.
+//! wanting. `Desk::submit_past` is the same past a [`Checkpoint`] between entering and publishing.
 //!
 //! Not here: how a pool is kept from one edit to the next, what is shown of it, and threads.
 #![tactic(auto)]
@@ -40,7 +40,7 @@ mod reply;
 pub use desk::Desk;
 pub use event::{Answer, Event, StepFault};
 pub use floor::{Floor, FloorFault};
-pub use gate::{Gate, OpenGate};
+pub use gate::{Checkpoint, Gate, OpenGate};
 pub use headline::looks_never_fall;
 pub use journal::Entry;
 pub use live::{Live, NoMemory};

@@ -1,13 +1,15 @@
 -- Marks that go on.
 use Rattle.std.proofs.lemmas.List.{append-nil}
-use Rattle.std.proofs.Common.{◌≡◌, ℕ, ◌+◌, ◌<◌, ◌≤◌, Bool, true, false, MatchBool, Some, None, List, [], ◌∷◌, ◌++◌, length, fold, refl, ap, sym, ◌∙◌, subst, arith, append_assoc, length-append}
+use Rattle.std.proofs.Common.{◌≡◌, ℕ, ◌+◌, ◌<◌, ◌≤◌, Bool, true, false, MatchBool, Option, Some, None, List, [], ◌∷◌, ◌++◌, length, fold, refl, ap, sym, ◌∙◌, subst, arith, append_assoc, length-append}
 use mathlib.Core.List.{IsPrefix}
 use Rattle.cq_room.specs.declared.mark.Mark.{Mark}
 use Rattle.cq_room.specs.declared.mark.Mark.TheVariants.{Entered, Cut}
 use Rattle.cq_room.specs.Steps.Marks.{Ends}
 use Rattle.std.proofs.lemmas.Grind.{fold-append}
 use Rattle.cq_desk.specs.History.{edits_of, grown}
-use Rattle.cq_room.specs.Marks.{Leaves, edits_in, behind, cut_at, publications, fresh_in}
+use Rattle.cq_desk.specs.Replies.{AreAccepted}
+use Rattle.cq_desk.proofs.Accepting.{accepted_more}
+use Rattle.cq_room.specs.Marks.{Leaves, WereAccepted, edits_in, behind, cut_at, publications, fresh_in}
 
 pub edits-append : {E : Type 0} (xs ys : List (Mark E)) → edits_in (xs ++ ys) ≡ edits_in xs ++ edits_in ys
 edits-append [] ys = refl
@@ -113,3 +115,40 @@ prefix_edits xs ys p = (edits_in p.0, sym (edits-append xs p.0) ∙ ap edits_in 
 pub behind_edits : {E : Type 0} (b : Bool) (xs ys : List (Mark E)) (h : List (List E)) → publications xs ≡ h → fresh_in xs ≡ [] → MatchBool b (IsPrefix xs ys) (IsPrefix ys xs) → MatchBool b (IsPrefix (edits_of h) (edits_in ys)) (Unit {0})
 behind_edits true xs ys h is none p = subst (λ es. IsPrefix es (edits_in ys)) (sym (edits_whole xs none) ∙ ap edits_of is) (prefix_edits xs ys p)
 behind_edits false xs ys h is none p = tt
+
+module _ {E C W : Type 0} (after : C → E → C) (why : C → E → Option W) (os : List C) where
+  pub accepted_whole : (ms : List (Mark E)) → fresh_in ms ≡ [] → WereAccepted after why os (edits_in ms) → WereAccepted after why os (edits_of (publications ms))
+  accepted_whole ms none was = subst (WereAccepted after why os) (sym (edits_whole ms none)) was
+
+  pub accepted_none : (ms : List (Mark E)) → ms ≡ [] → WereAccepted after why os (edits_in ms)
+  accepted_none ms none = subst (λ xs. WereAccepted after why os (edits_in xs)) (sym none) (λ o named. tt)
+
+  pub accepted_edit : (xs ys : List (Mark E)) (e : E) (c : C) → IsPrefix xs ys × (length ys ≡ length xs + 1) → Ends ys (Some e) → why c e ≡ None → Leaves after os (edits_in xs) c → WereAccepted after why os (edits_in xs) → WereAccepted after why os (edits_in ys)
+  accepted_edit xs ys e c next end none leaves was o named =
+      let is : ys ≡ xs ++ Entered e ∷ [] = one_more xs ys end.0 (Entered e) next.0 next.1 end.1 in
+      subst (AreAccepted after why o) (sym (ap edits_in is ∙ edits-append xs (Entered e ∷ []))) (accepted_more after why o (edits_in xs) e (was o named) (subst (λ z. why z e ≡ None) (leaves o named) none))
+
+  pub accepted_cut : (xs ys : List (Mark E)) → IsPrefix xs ys × (length ys ≡ length xs + 1) → Ends ys None → WereAccepted after why os (edits_in xs) → WereAccepted after why os (edits_in ys)
+  accepted_cut xs ys next end was = subst (WereAccepted after why os) (sym (count_cut xs ys (one_more xs ys end.0 Cut next.0 next.1 end.1))) was
+
+-- marks that end in no edit hold a publication, if there are any
+some_cut : {E : Type 0} (es : List E) (ms : List (Mark E)) → 0 < length ms → behind es ms ≡ [] → 0 < length (cut_at es ms)
+some_cut es [] some none = absurd (omega (arith, some))
+some_cut es (Cut ∷ ms) some none = omega arith
+some_cut es (Entered e ∷ []) some none = absurd (omega (arith, ap length none, length-append es (e ∷ [])))
+some_cut es (Entered e ∷ m ∷ ms) some none = some_cut (es ++ e ∷ []) (m ∷ ms) (omega arith) none
+
+-- of two histories that end in no edit the longer has more publications
+pub more_publications : {E : Type 0} (xs ys : List (Mark E)) → IsPrefix xs ys → length xs < length ys → fresh_in xs ≡ [] → fresh_in ys ≡ [] → length (publications xs) < length (publications ys)
+more_publications xs ys p less none whole =
+    let some : 0 < length p.0 = omega (arith, less, ap length p.1, length-append xs p.0) in
+    let gone : behind (behind [] xs) p.0 ≡ [] = sym (behind-append [] xs p.0) ∙ (ap fresh_in p.1 ∙ whole) in
+    let more = some_cut (behind [] xs) p.0 some gone in
+    let all : length (publications ys) ≡ length (publications xs) + length (cut_at (behind [] xs) p.0) = ap length (sym (ap publications p.1) ∙ cut_at-append [] xs p.0) ∙ length-append (publications xs) (cut_at (behind [] xs) p.0) in
+    omega (arith, more, all)
+
+-- of two histories that end in no edit one begins the other
+pub one_begins : {E : Type 0} (b : Bool) (xs ys : List (Mark E)) → fresh_in xs ≡ [] → fresh_in ys ≡ [] → MatchBool b (IsPrefix xs ys) (IsPrefix ys xs) → MatchBool b (Unit {0}) (length ys < length xs)
+    → MatchBool b (IsPrefix (publications xs) (publications ys)) (IsPrefix (publications ys) (publications xs) × (length (publications ys) < length (publications xs)))
+one_begins true xs ys none whole p less = prefix_publications xs ys p
+one_begins false xs ys none whole p less = (prefix_publications ys xs p, more_publications ys xs p less whole none)

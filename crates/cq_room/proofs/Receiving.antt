@@ -1,8 +1,9 @@
 -- What a publish of a list of edits leaves.
-use Rattle.std.proofs.Common.{◌≡◌, ℕ, ◌+◌, ◌-◌, true, false, nat_le, if◌then◌else◌, Option, Some, None, IfNone, IfSome, MatchOption, List, [], ◌∷◌, ◌++◌, length, take, fold, refl, ap, sym, ◌∙◌, subst, arith, append_assoc, length-append}
+use mathlib.Core.List.{IsPrefix}
+use Rattle.std.proofs.Common.{◌≡◌, ℕ, ◌+◌, ◌-◌, ◌≤◌, true, false, nat_le, if◌then◌else◌, Option, Some, None, IfNone, IfSome, MatchOption, List, [], ◌∷◌, ◌++◌, length, take, fold, refl, ap, sym, ◌∙◌, subst, arith, append_assoc, length-append}
 use Rattle.std.proofs.lemmas.List.{append-nil, length-map}
 use Rattle.std.proofs.Math.Seq.{take-append_seam}
-use Rattle.cq_desk.specs.History.{History, edits_of, StandsLast}
+use Rattle.cq_desk.specs.History.{History, edits_of, BeginsWith, StandsLast}
 use Rattle.cq_desk.specs.Replies.{MatchEnd, journal_edits, accepted, admitted, entries_by, reply_at, replies_at}
 use Rattle.cq_desk.specs.declared.journal.Entry.{Entry}
 use Rattle.cq_desk.specs.declared.reply.Reply.{Reply}
@@ -10,7 +11,7 @@ use Rattle.cq_desk.specs.declared.reply.Reply.TheVariants.{Entered, JournalFull,
 use Rattle.cq_desk.specs.declared.reply.End.{End}
 use Rattle.cq_desk.specs.declared.reply.End.TheVariants.{Published, Stopped, Unpublished}
 use Rattle.cq_desk.proofs.Replying.{edits_entered}
-use Rattle.cq_room.specs.Receipts.{AreNumbered, entered_before}
+use Rattle.cq_room.specs.Receipts.{AreNumbered, IsPassed, entered_before}
 use Rattle.cq_room.specs.Steps.Receipts.{IsPublished}
 
 admitted_number : {W : Type 0} (entries n : ℕ) (w : Option W) → admitted entries w ≡ Entered n → n ≡ entries + 1
@@ -97,3 +98,23 @@ before_is before asked rs n f is =
 pub where_none : {F : Type 0} (P : Type 0) (front : Option F) → P → IfNone front P
 where_none P None p = p
 where_none P (Some f) p = tt
+
+edits_both : {E : Type 0} (xs ys : History E) → edits_of (xs ++ ys) ≡ edits_of xs ++ edits_of ys
+edits_both [] ys = refl
+edits_both (p ∷ xs) ys = ap (λ z. p ++ z) (edits_both xs ys) ∙ sym (append_assoc p (edits_of xs) (edits_of ys))
+
+-- no more is shown than the journal has
+pub shown_within : {E : Type 0} (shown history : History E) (pending : List E) (js : List (Entry E)) → BeginsWith history shown → IsPrefix (edits_of history ++ pending) (journal_edits js) → length (edits_of shown) ≤ length js
+shown_within shown history pending js front told =
+    let more : length (edits_of history) ≡ length (edits_of shown) + length (edits_of front.0) = ap length (sym (ap edits_of front.1) ∙ edits_both shown front.0) ∙ length-append (edits_of shown) (edits_of front.0) in
+    omega (arith, more, ap length told.1, length-append (edits_of history ++ pending) told.0, length-append (edits_of history) pending, length-map js (λ e. e.edit))
+
+-- at which entries the checkpoint let the submit pass
+pub passed_at : {E G : Type 0} (passed : G → ℕ → ℕ → G → Type 0) (old new : G) (author : ℕ) (js ks : List (Entry E)) (es : List E) (end : End) (shown : ℕ) → ks ≡ js ++ entries_by author es → shown ≤ length js
+    → MatchEnd end (λ n. n ≡ length ks) (Unit {0}) (Unit {0}) → MatchEnd end (λ _. passed old (length ks) shown new) (new ≡ old) (passed old (length ks) shown new)
+    → MatchEnd end (λ n. IsPassed passed old new n (length es)) (new ≡ old) ((n : ℕ) × IsPassed passed old new n (length es))
+passed_at passed old new author js ks es (Published n) shown taken short count is =
+    (shown, omega (arith, short, count, ap length taken, length-append js (entries_by author es), length-map es (λ e. record { author = author; edit = e })), subst (λ k. passed old k shown new) (sym count) is)
+passed_at passed old new author js ks es Stopped shown taken short count is = is
+passed_at passed old new author js ks es Unpublished shown taken short count is =
+    (length ks, shown, omega (arith, short, ap length taken, length-append js (entries_by author es), length-map es (λ e. record { author = author; edit = e })), is)

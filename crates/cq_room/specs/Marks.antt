@@ -1,6 +1,7 @@
 -- What the marks of a history say. (this project's profile)
-use Rattle.std.specs.Prelude.{◌≡◌, List, [], ◌∷◌, ◌++◌, fold}
+use Rattle.std.specs.Prelude.{◌≡◌, List, [], ◌∷◌, ◌++◌, Option, fold}
 use Rattle.cq_desk.specs.History.{History}
+use Rattle.cq_desk.specs.Replies.{AreAccepted}
 use Rattle.cq_room.specs.declared.mark.Mark.{Mark}
 use Rattle.cq_room.specs.declared.mark.Mark.TheVariants.{Entered, Cut}
 
@@ -31,3 +32,7 @@ fresh_in marks = behind [] marks
 -- The content is what the edits leave over the opening content. A room's name has one opening content.
 abbrev pub Leaves : {E C : Type 0} → (C → E → C) → List C → List E → C → Type 0
 Leaves {E} {C} after opening es content = (o : C) → opening ≡ o ∷ [] → content ≡ fold after o es
+
+-- Each of the edits is accepted where it comes, over the opening content. A room's name has one opening content.
+abbrev pub WereAccepted : {E C W : Type 0} → (C → E → C) → (C → E → Option W) → List C → List E → Type 0
+WereAccepted {E} {C} after why opening es = (o : C) → opening ≡ o ∷ [] → AreAccepted after why o es

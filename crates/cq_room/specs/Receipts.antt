@@ -1,5 +1,5 @@
 -- What a submit answers, and what a session hears. (this project's profile)
-use Rattle.std.specs.Prelude.{◌≡◌, ℕ, ◌+◌, ◌-◌, List, [], ◌∷◌, ◌++◌, ◌⊎◌, Option, length, take}
+use Rattle.std.specs.Prelude.{◌≡◌, ℕ, ◌+◌, ◌-◌, ◌≤◌, List, [], ◌∷◌, ◌++◌, ◌⊎◌, Option, length, take}
 use Rattle.cq_desk.specs.History.{History, edits_of, BeginsWith}
 use Rattle.cq_desk.specs.Replies.{accepted, replies_at}
 use Rattle.cq_desk.specs.declared.reply.Reply.{Reply}
@@ -32,3 +32,7 @@ pub record Heard {E : Type 0} (old new : SessionRecord E) (front : History E) : 
   pub told : BeginsWith new.history front
   pub one : (new.history ≡ old.history) ⊎ (new.history ≡ front)
   pub number : new.number ≡ old.number
+
+-- The checkpoint let one submit pass, when the journal had so many entries and so many of the last were not published.
+abbrev pub IsPassed : {G : Type 0} → (G → ℕ → ℕ → G → Type 0) → G → G → ℕ → ℕ → Type 0
+IsPassed passed old new entries last = (published : ℕ) × (published + last ≤ entries) × passed old entries published new

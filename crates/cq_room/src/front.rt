@@ -1,8 +1,8 @@
 //! Fronts: what a publish hands on.
 
-ghost use Rattle.std.specs.Prelude.{◌≡◌, [], length};
-ghost use Rattle.cq_desk.specs.History.{edits_of};
-ghost use Rattle.cq_room.specs.Marks.{publications, fresh_in};
+ghost use Rattle.std.specs.Prelude.{◌≡◌, ◌<◌, [], length, MatchBool};
+ghost use Rattle.cq_desk.specs.History.{BeginsWith, edits_of};
+ghost use Rattle.cq_room.specs.Marks.{WereAccepted, edits_in, publications, fresh_in};
 
 use crate::names::RoomName;
 use crate::trail::Trail;
@@ -19,26 +19,28 @@ pub struct Front<L: Live, N: RoomName<L::Content>> {
 impl<L: Live, N: RoomName<L::Content>> Model for Front<L, N> {
     ghost use Rattle.std.specs.Prelude.{◌≡◌, []};
     ghost use Rattle.cq_desk.specs.History.{History};
-    ghost use Rattle.cq_room.specs.Marks.{publications, fresh_in};
+    ghost use Rattle.cq_room.specs.Marks.{WereAccepted, edits_in, publications, fresh_in};
 
     ghost Value = { History L.Edit };
 
     ghost view = { λ f. publications f.trail };
 
-    ghost invariant = { λ f. fresh_in f.trail ≡ [] };
+    ghost invariant = { λ f. (fresh_in f.trail ≡ []) × WereAccepted L.after L.why N.opening (edits_in f.trail) };
 }
 
 impl<L: Live, N: RoomName<L::Content>> Front<L, N> {
     pub(crate) fn over(trail: Trail<L, N>) -> Front<L, N>
-        requires { fresh_in trail ≡ [] }
+        requires fresh { fresh_in trail ≡ [] }
+        requires accepted { WereAccepted L.after L.why N.opening (edits_in trail) }
         ensures { result ≡ publications trail }
     {
         Front { trail }
     }
 
-    /// How many entries are published in it.
+    /// How many entries are published in it. Each was accepted behind those before it.
     pub fn count(&self) -> u64
-        ensures { result ≡ length (edits_of self.now) }
+        ensures count { result ≡ length (edits_of self.now) }
+        ensures accepted { WereAccepted L.after L.why N.opening (edits_of self.now) }
     {
         self.trail.count()
     }
@@ -50,5 +52,13 @@ impl<L: Live, N: RoomName<L::Content>> Front<L, N> {
         Front {
             trail: self.trail.again(),
         }
+    }
+
+    /// Whether the other front's history begins with this one's. If not, this one's begins with the
+    /// other's, and goes on.
+    pub fn begins(&self, other: &Front<L, N>) -> bool
+        ensures { MatchBool result (BeginsWith other.now self.now) (BeginsWith self.now other.now × (length other.now < length self.now)) }
+    {
+        self.trail.begins(&other.trail)
     }
 }

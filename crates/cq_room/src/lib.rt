@@ -38,7 +38,7 @@ mod shown;
 mod submit;
 mod trail;
 
-pub use cq_desk::{Gate, OpenGate};
+pub use cq_desk::{Checkpoint, Gate, OpenGate};
 pub use front::Front;
 pub use names::RoomName;
 pub use pair::Pair;

@@ -3,7 +3,7 @@
 ghost use Rattle.std.specs.Prelude.{◌≡◌, ◌<◌, ◌^◌, ◌++◌, ◌∷◌, [], None, length, IfOk, OnOk, OnErr, MatchResult};
 ghost use mathlib.Core.List.{IsPrefix};
 ghost use Rattle.cq_desk.specs.History.{grown};
-ghost use Rattle.cq_room.specs.Marks.{publications, fresh_in};
+ghost use Rattle.cq_room.specs.Marks.{WereAccepted, edits_in, publications, fresh_in};
 ghost use Rattle.cq_room.specs.Steps.Pair.{last_of, ends_at};
 
 use crate::book::Book;
@@ -145,6 +145,7 @@ impl<L: Live, N: RoomName<L::Content>, R: Wait + Drop, A: Allocator + Copy> Pair
     pub(crate) fn shown(&self) -> Trail<L, N>
         ensures shown { publications result ≡ self.now.shown }
         ensures whole { fresh_in result ≡ [] }
+        ensures accepted { WereAccepted L.after L.why N.opening (edits_in result) }
     {
         self.copies.shown().trail().again()
     }

@@ -1,9 +1,9 @@
 //! How a room is begun, opened and closed.
 
-ghost use Rattle.std.specs.Prelude.{◌≡◌, ◌<◌, ◌≤◌, [], ◌∷◌, IfOk, IfErr, All, MatchBool, MatchResult, ⊤};
+ghost use Rattle.std.specs.Prelude.{◌≡◌, ◌<◌, ◌≤◌, [], ◌∷◌, IfOk, IfErr, All, length, MatchBool, MatchResult, ⊤};
 ghost use mathlib.Core.List.{IsPrefix};
 ghost use Rattle.cq_desk.specs.History.{edits_of};
-ghost use Rattle.cq_desk.specs.Replies.{journal_edits};
+ghost use Rattle.cq_desk.specs.Replies.{AreAccepted, journal_edits};
 ghost use Rattle.cq_room.specs.Faults.{IsBeginFault, IsOpenFault};
 ghost use Rattle.cq_room.specs.Sessions.{newcomers};
 ghost use Rattle.cq_room.specs.declared.parts.RoomFault.TheVariants as faults;
@@ -213,10 +213,13 @@ where
         ensures opening { P.opening result.publisher ∷ [] ≡ N.opening }
         ensures limit { result.limit ≡ N.limit }
         ensures seen { All (λ session. IsPrefix (edits_of session.history) (journal_edits result.journal)) sessions.items }
+        ensures accepted { AreAccepted L.after L.why (P.opening result.publisher) (journal_edits result.journal) }
+        ensures within { length result.journal ≤ result.limit }
     {
         let Room { lock } = self;
         let LockedDesk { desk, of: _ } = lock.into_inner();
         await_all(rt, &desk, sessions.as_slice());
+        let _ = desk.journal();
         desk
     }
 }

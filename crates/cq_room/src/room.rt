@@ -1,18 +1,18 @@
 //! A room: a desk under one lock, and sessions that look at what it publishes.
 
-ghost use Rattle.std.specs.Prelude.{◌≡◌, ◌<◌, [], ◌∷◌, ◌++◌, length, None, IfOk, OnErr, MatchBool, MatchOption, ⊤};
+ghost use Rattle.std.specs.Prelude.{◌≡◌, ℕ, ◌<◌, [], ◌∷◌, ◌++◌, length, None, IfOk, OnErr, MatchBool, MatchOption, ⊤};
 ghost use mathlib.Core.List.{IsPrefix};
 ghost use Rattle.cq_desk.specs.History.{edits_of};
 ghost use Rattle.cq_desk.specs.Replies.{MatchEnd, accepted, entries_by, journal_edits};
 ghost use Rattle.cq_room.specs.Marks.{edits_in};
-ghost use Rattle.cq_room.specs.Receipts.{AreReplies};
+ghost use Rattle.cq_room.specs.Receipts.{AreReplies, IsPassed};
 ghost use Rattle.cq_room.specs.Steps.Receipts.{IsPublished};
 
 use crate::front::Front;
 use crate::names::RoomName;
 use crate::session::Session;
 use crate::trail::Trail;
-use cq_desk::{Desk, End, Gate, Live, NoMemory, Publisher, Submitted};
+use cq_desk::{Checkpoint, Desk, End, Live, NoMemory, Publisher, Submitted};
 use std::alloc::{Allocator, Global};
 use std::marker::{Model, PhantomData};
 use std::sync::{Mutex, Wait};
@@ -119,13 +119,13 @@ where
         }
     }
 
-    /// Enters edits one after another, passes the gate, publishes, and makes a front.
-    pub(crate) fn submit_past<G: Gate>(
+    /// Enters edits one after another, passes the checkpoint, publishes, and makes a front.
+    pub(crate) fn submit_past<G: Checkpoint>(
         &mut self,
         rt: &P::Leave,
         session: &Session<L, N, A>,
         asked: Vec<L::Edit, A>,
-        gate: &G,
+        gate: &mut G,
     ) -> Result<Receipt<L, N, A>, NoMemory>
         ensures seen { IfOk result (λ _. IsPrefix (edits_of session.now.history) (journal_edits self.old.journal)) }
         ensures replies { IfOk result (λ receipt. AreReplies L.after L.why N.opening N.limit (journal_edits self.old.journal) asked.items receipt.submitted.replies.items) }
@@ -135,9 +135,15 @@ where
             (λ count. MatchOption receipt.front ⊥ (λ front. IsPublished (journal_edits self.old.journal) asked.items receipt.submitted.replies.items count front))
             (receipt.front ≡ None)
             (receipt.front ≡ None)) }
+        ensures passed { IfOk result (λ receipt. MatchEnd receipt.submitted.end
+            (λ count. IsPassed G.passed gate.old gate.new count (length (accepted asked.items receipt.submitted.replies.items)))
+            (gate.new ≡ gate.old)
+            ((entries : ℕ) × IsPassed G.passed gate.old gate.new entries (length (accepted asked.items receipt.submitted.replies.items)))) }
         ensures err { OnErr result (self.new ≡ self.old) }
+        ensures unpassed { OnErr result (gate.new ≡ gate.old) }
     {
         self.await_known(rt, session);
+        let _ = self.desk.publisher();
         let submitted = self.desk.submit_past(session.number(), asked, rt, gate)?;
         let front = self.front_at(submitted.end);
         Ok(Receipt { submitted, front })

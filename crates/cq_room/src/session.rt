@@ -3,7 +3,7 @@
 ghost use Rattle.std.specs.Prelude.{◌≡◌, ◌⊎◌, [], length, MatchBool, MatchOption, IfOk, IfErr};
 ghost use mathlib.Core.List.{IsPrefix};
 ghost use Rattle.cq_desk.specs.History.{BeginsWith, edits_of};
-ghost use Rattle.cq_room.specs.Marks.{Leaves, edits_in, publications, fresh_in};
+ghost use Rattle.cq_room.specs.Marks.{Leaves, WereAccepted, edits_in, publications, fresh_in};
 ghost use Rattle.cq_room.specs.Receipts.{Heard};
 
 use crate::front::Front;
@@ -29,13 +29,13 @@ pub struct Session<L: Live, N: RoomName<L::Content>, A: Allocator = Global> {
 impl<L: Live, N: RoomName<L::Content>, A: Allocator> Model for Session<L, N, A> {
     ghost use Rattle.std.specs.Prelude.{◌≡◌, []};
     ghost use Rattle.cq_room.specs.Sessions.{SessionRecord};
-    ghost use Rattle.cq_room.specs.Marks.{publications, fresh_in};
+    ghost use Rattle.cq_room.specs.Marks.{WereAccepted, edits_in, publications, fresh_in};
 
     ghost Value = { SessionRecord L.Edit };
 
     ghost view = { λ s. record { number = s.number; history = publications s.trail } };
 
-    ghost invariant = { λ s. fresh_in s.trail ≡ [] };
+    ghost invariant = { λ s. (fresh_in s.trail ≡ []) × WereAccepted L.after L.why N.opening (edits_in s.trail) };
 }
 
 /// A session that is looking. While it looks, a publish may wait for it, and nothing else does.
@@ -49,13 +49,13 @@ pub struct Look<L: Live, N: RoomName<L::Content>, A: Allocator = Global> {
 impl<L: Live, N: RoomName<L::Content>, A: Allocator> Model for Look<L, N, A> {
     ghost use Rattle.std.specs.Prelude.{◌≡◌, []};
     ghost use Rattle.cq_room.specs.Sessions.{SessionRecord};
-    ghost use Rattle.cq_room.specs.Marks.{publications, fresh_in};
+    ghost use Rattle.cq_room.specs.Marks.{WereAccepted, edits_in, publications, fresh_in};
 
     ghost Value = { SessionRecord L.Edit };
 
     ghost view = { λ s. record { number = s.number; history = publications s.trail } };
 
-    ghost invariant = { λ s. (fresh_in s.trail ≡ []) × (s.reading.part.value.marks ≡ s.trail) };
+    ghost invariant = { λ s. (fresh_in s.trail ≡ []) × (s.reading.part.value.marks ≡ s.trail) × WereAccepted L.after L.why N.opening (edits_in s.trail) };
 }
 
 impl<L: Live, N: RoomName<L::Content>, A: Allocator> Drop for Look<L, N, A> {
@@ -76,7 +76,8 @@ impl<L: Live, N: RoomName<L::Content>, A: Allocator> Session<L, N, A> {
         trail: Trail<L, N>,
         number: usize,
     ) -> Session<L, N, A>
-        requires { fresh_in trail ≡ [] }
+        requires fresh { fresh_in trail ≡ [] }
+        requires accepted { WereAccepted L.after L.why N.opening (edits_in trail) }
         ensures { result ≡ record { number = number; history = publications trail } }
     {
         Session {
@@ -93,11 +94,19 @@ impl<L: Live, N: RoomName<L::Content>, A: Allocator> Session<L, N, A> {
         self.number
     }
 
-    /// How many entries the session has seen or heard of.
+    /// How many entries the session has seen or heard of. Each was accepted behind those before it.
     pub fn seen(&self) -> u64
-        ensures { result ≡ length (edits_of self.now.history) }
+        ensures count { result ≡ length (edits_of self.now.history) }
+        ensures accepted { WereAccepted L.after L.why N.opening (edits_of self.now.history) }
     {
         self.trail.count()
+    }
+
+    /// A front with all that the session has seen or heard of.
+    pub fn front(&self) -> Front<L, N>
+        ensures { result ≡ self.now.history }
+    {
+        Front::over(self.trail.again())
     }
 
     /// Whether the trail begins with what the session has seen.
@@ -170,9 +179,10 @@ impl<L: Live, N: RoomName<L::Content>, A: Allocator> Session<L, N, A> {
 }
 
 impl<L: Live, N: RoomName<L::Content>, A: Allocator> Look<L, N, A> {
-    /// The state that is looked at.
+    /// The state that is looked at. Each edit that leaves it was accepted behind those before it.
     pub fn state(&self) -> &L
-        ensures { Leaves L.after N.opening (edits_of self.now.history) (L.content result.now) }
+        ensures leaves { Leaves L.after N.opening (edits_of self.now.history) (L.content result.now) }
+        ensures accepted { WereAccepted L.after L.why N.opening (edits_of self.now.history) }
     {
         self.reading.get().state()
     }
@@ -182,6 +192,13 @@ impl<L: Live, N: RoomName<L::Content>, A: Allocator> Look<L, N, A> {
         ensures { result ≡ length (edits_of self.now.history) }
     {
         self.trail.count()
+    }
+
+    /// A front with what is looked at.
+    pub fn front(&self) -> Front<L, N>
+        ensures { result ≡ self.now.history }
+    {
+        Front::over(self.trail.again())
     }
 
     /// Ends the look. The session has seen what the look showed.

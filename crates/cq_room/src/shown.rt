@@ -1,7 +1,7 @@
 //! What is shown: a state, and the trail that it has taken in.
 
 ghost use Rattle.std.specs.Prelude.{◌≡◌};
-ghost use Rattle.cq_room.specs.Marks.{Leaves, edits_in};
+ghost use Rattle.cq_room.specs.Marks.{Leaves, WereAccepted, edits_in};
 ghost use Rattle.cq_room.specs.Steps.Marks.{Ends};
 
 use crate::mark::Mark;
@@ -13,8 +13,8 @@ use std::alloc::AllocError;
 use std::marker::Model;
 
 /// A state with the trail that it has taken in. Contracts see the trail's marks and the content. That
-/// the content is what the trail's edits leave over the room's opening content stands in this type,
-/// so it holds of each copy at any time.
+/// the content is what the trail's edits leave over the room's opening content, and that each of these
+/// was accepted behind those before it, stands in this type, so it holds of each copy at any time.
 #[derive(Drop)]
 pub struct Shown<L: Live, N: RoomName<L::Content>> {
     state: L,
@@ -23,13 +23,13 @@ pub struct Shown<L: Live, N: RoomName<L::Content>> {
 
 impl<L: Live, N: RoomName<L::Content>> Model for Shown<L, N> {
     ghost use Rattle.cq_room.specs.Seen.{ShownRecord};
-    ghost use Rattle.cq_room.specs.Marks.{Leaves, edits_in};
+    ghost use Rattle.cq_room.specs.Marks.{Leaves, WereAccepted, edits_in};
 
     ghost Value = { ShownRecord L.Edit L.Content };
 
     ghost view = { λ s. record { marks = s.trail; content = L.content s.state } };
 
-    ghost invariant = { λ s. Leaves L.after N.opening (edits_in s.trail) (L.content s.state) };
+    ghost invariant = { λ s. Leaves L.after N.opening (edits_in s.trail) (L.content s.state) × WereAccepted L.after L.why N.opening (edits_in s.trail) };
 }
 
 /// One mark more, with the trail that it ends. Contracts see that trail's marks.
@@ -54,7 +54,8 @@ impl<L: Live, N: RoomName<L::Content>> Model for Step<L, N> {
 impl<L: Live, N: RoomName<L::Content>> Shown<L, N> {
     /// The state over the trail that leaves it.
     pub(crate) fn over(state: L, trail: Trail<L, N>) -> Shown<L, N>
-        requires { Leaves L.after N.opening (edits_in trail) (L.content state) }
+        requires leaves { Leaves L.after N.opening (edits_in trail) (L.content state) }
+        requires accepted { WereAccepted L.after L.why N.opening (edits_in trail) }
         ensures { (result.marks ≡ trail) × (result.content ≡ L.content state) }
     {
         Shown { state, trail }
@@ -64,6 +65,7 @@ impl<L: Live, N: RoomName<L::Content>> Shown<L, N> {
     pub(crate) fn state(&self) -> &L
         ensures content { L.content result.now ≡ self.now.content }
         ensures leaves { Leaves L.after N.opening (edits_in self.now.marks) (L.content result.now) }
+        ensures accepted { WereAccepted L.after L.why N.opening (edits_in self.now.marks) }
     {
         &self.state
     }
@@ -72,6 +74,7 @@ impl<L: Live, N: RoomName<L::Content>> Shown<L, N> {
     pub(crate) fn trail(&self) -> &Trail<L, N>
         ensures marks { result.now ≡ self.now.marks }
         ensures leaves { Leaves L.after N.opening (edits_in self.now.marks) self.now.content }
+        ensures accepted { WereAccepted L.after L.why N.opening (edits_in self.now.marks) }
     {
         &self.trail
     }
@@ -112,10 +115,12 @@ impl<L: Live, N: RoomName<L::Content>> Absorb<Step<L, N>> for Shown<L, N> {
                 Ok(())
             }
             Some(edit) => match self.state.admit(edit) {
-                Ok(_) => {
+                Ok(None) => {
                     self.trail = operation.trail.again();
                     Ok(())
                 }
+                // The working state has accepted it behind the same edits.
+                Ok(Some(_)) => Err(AllocError),
                 Err(_) => Err(AllocError),
             },
         }

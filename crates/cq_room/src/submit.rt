@@ -1,15 +1,15 @@
 //! Submits: what a session does under the room's lock.
 
-ghost use Rattle.std.specs.Prelude.{◌≡◌, ◌<◌, List, ◌++◌, length, None, IfNone, IfOk, IfSome, OnErr, MatchOption};
+ghost use Rattle.std.specs.Prelude.{◌≡◌, ℕ, ◌<◌, List, ◌++◌, length, None, IfNone, IfOk, IfSome, OnErr, MatchOption};
 ghost use mathlib.Core.List.{IsPrefix};
 ghost use Rattle.cq_desk.specs.History.{StandsLast, edits_of};
 ghost use Rattle.cq_desk.specs.Replies.{MatchEnd, accepted};
-ghost use Rattle.cq_room.specs.Receipts.{AreNumbered, AreReplies, Heard, entered_before};
+ghost use Rattle.cq_room.specs.Receipts.{AreNumbered, AreReplies, Heard, IsPassed, entered_before};
 
 use crate::names::RoomName;
 use crate::room::{Receipt, Room, Watched};
 use crate::session::Session;
-use cq_desk::{Gate, Live, NoMemory, OpenGate};
+use cq_desk::{Checkpoint, Live, NoMemory, OpenGate};
 use std::alloc::Allocator;
 use std::sync::Wait;
 
@@ -39,20 +39,21 @@ impl<L: Live, N: RoomName<L::Content>, A: Allocator + Copy> Session<L, N, A> {
         ensures heard { IfOk result (λ receipt. MatchOption receipt.front (self.new ≡ self.old) (λ front. Heard self.old self.new front)) }
         ensures err { OnErr result (self.new ≡ self.old) }
     {
-        self.submit_past(rt, room, asked, &OpenGate)
+        self.submit_past(rt, room, asked, &mut OpenGate)
     }
 
-    /// The same, with the gate passed between entering and publishing, under the lock.
+    /// The same past a checkpoint, which lets the submit pass once, between entering and publishing,
+    /// under the lock.
     ///
     /// # Errors
     /// `NoMemory` where there was no room for the replies. Nothing was entered or published then, and
-    /// the gate was not passed.
-    pub fn submit_past<P: Watched<L, N>, G: Gate>(
+    /// the checkpoint was not reached.
+    pub fn submit_past<P: Watched<L, N>, G: Checkpoint>(
         &mut self,
         rt: &P::Leave,
         room: &Room<L, N, P, A>,
         asked: Vec<L::Edit, A>,
-        gate: &G,
+        gate: &mut G,
     ) -> Result<Receipt<L, N, A>, NoMemory>
     where
         P::Leave: Wait,
@@ -65,7 +66,12 @@ impl<L: Live, N: RoomName<L::Content>, A: Allocator + Copy> Session<L, N, A> {
         ensures numbered { IfOk result (λ receipt. IfSome receipt.front (λ front. AreNumbered (edits_of front) asked.items receipt.submitted.replies.items)) }
         ensures unpublished { IfOk result (λ receipt. IfNone receipt.front ((before : List L.Edit) × IsPrefix (edits_of self.old.history) before × AreReplies L.after L.why N.opening N.limit before asked.items receipt.submitted.replies.items)) }
         ensures heard { IfOk result (λ receipt. MatchOption receipt.front (self.new ≡ self.old) (λ front. Heard self.old self.new front)) }
+        ensures passed { IfOk result (λ receipt. MatchEnd receipt.submitted.end
+            (λ count. IsPassed G.passed gate.old gate.new count (length (accepted asked.items receipt.submitted.replies.items)))
+            (gate.new ≡ gate.old)
+            ((entries : ℕ) × IsPassed G.passed gate.old gate.new entries (length (accepted asked.items receipt.submitted.replies.items)))) }
         ensures err { OnErr result (self.new ≡ self.old) }
+        ensures unpassed { OnErr result (gate.new ≡ gate.old) }
     {
         let receipt = room.lock.lock(rt).submit_past(rt, self, asked, gate)?;
         self.hear_any(&receipt.front);

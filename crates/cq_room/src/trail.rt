@@ -1,6 +1,6 @@
 //! Trails: beginnings of a room's history that were seen.
 
-ghost use Rattle.std.specs.Prelude.{◌≡◌, ◌+◌, ◌<◌, ◌^◌, ◌++◌, ◌∷◌, ◌⊎◌, [], length, MatchBool};
+ghost use Rattle.std.specs.Prelude.{◌≡◌, ◌+◌, ◌<◌, ◌^◌, ◌++◌, ◌∷◌, ◌⊎◌, [], length, MatchBool, ⊤};
 ghost use mathlib.Core.List.{IsPrefix};
 ghost use Rattle.cq_room.specs.Marks.{edits_in, fresh_in};
 ghost use Rattle.cq_room.specs.declared.mark.Mark.TheVariants.{Entered, Cut};
@@ -100,7 +100,8 @@ impl<L: Live, N: RoomName<L::Content>> Trail<L, N> {
 
     /// Whether the other trail is at least as long as this one, and so begins with it.
     pub(crate) fn begins(&self, other: &Trail<L, N>) -> bool
-        ensures { MatchBool result (IsPrefix self.now other.now) (IsPrefix other.now self.now) }
+        ensures one { MatchBool result (IsPrefix self.now other.now) (IsPrefix other.now self.now) }
+        ensures longer { MatchBool result ⊤ (length other.now < length self.now) }
     {
         let mut both = self.seen.again();
         both.learn(&other.seen);

@@ -1,4 +1,4 @@
-//! A look while a gate holds a submit.
+//! A look while a checkpoint holds a submit.
 
 ghost use Rattle.std.specs.Prelude.{◌≡◌, ◌∷◌, []};
 
@@ -6,9 +6,9 @@ use crate::lines::{ANSWER, BoardLike, edits};
 use crate::room::boards::{BoardRoom, looks, opened, published};
 use crate::room::jobs::{Job, both};
 use cq_board::Board;
-use cq_desk::Reply;
-use cq_room::{Front, Gate, Parts, RoomName, Session};
-use std::alloc::Global;
+use cq_desk::{Desk, Live, Publisher, Reply};
+use cq_room::{Checkpoint, Front, Parts, RoomName, Session};
+use std::alloc::{Allocator, Global};
 use std::hint::spin_loop;
 use std::marker::Brand;
 use std::sync::atomic::{AtomicBool, Ordering};
@@ -47,11 +47,27 @@ fn is_told(flag: &AtomicBool) -> bool {
     false
 }
 
-impl Gate for Held {
-    fn pass(&self) {
-        self.reached.store(true, Ordering::SeqCst);
-        let told = is_told(&self.open);
-        self.passed.store(told, Ordering::SeqCst);
+/// A submit at the gate: how often it came, and how many entries were there and published when it came last.
+#[derive(Drop)]
+struct AtGate<'a> {
+    gate: &'a Held,
+    times: u8,
+    entered: u64,
+    published: u64,
+}
+
+impl<'a> Checkpoint for AtGate<'a> {
+    ghost use Rattle.std.specs.Prelude.{◌≡◌};
+
+    ghost passed = { λ old entries published new. (new.entered ≡ entries) × (new.published ≡ published) };
+
+    fn let_pass<L: Live, P: Publisher<L>, A: Allocator + Copy>(&mut self, desk: &Desk<L, P, A>) {
+        self.times = self.times.saturating_add(1);
+        self.entered = desk.journal().len() as u64;
+        self.published = desk.published_count();
+        self.gate.reached.store(true, Ordering::SeqCst);
+        let told = is_told(&self.gate.open);
+        self.gate.passed.store(told, Ordering::SeqCst);
     }
 }
 
@@ -65,7 +81,7 @@ struct Posting<'a, L: BoardLike, N: RoomName<L::Content>, R: Wait + Drop> {
     gate: &'a Held,
 }
 
-/// The front of the posting of `a` past the gate.
+/// The front of the posting of `a` past the gate, which it passed once, when one entry was there and none was published.
 fn posts_past<L: BoardLike, N: RoomName<L::Content>, R: Wait + Drop>(
     rt: &R,
     alloc: Global,
@@ -74,7 +90,16 @@ fn posts_past<L: BoardLike, N: RoomName<L::Content>, R: Wait + Drop>(
     gate: &Held,
 ) -> Option<Front<L, N>> {
     let asked = edits(alloc, &[ANSWER]).ok()?;
-    let receipt = session.submit_past(rt, room, asked, gate).ok()?;
+    let mut at = AtGate {
+        gate,
+        times: 0,
+        entered: 0,
+        published: 0,
+    };
+    let receipt = session.submit_past(rt, room, asked, &mut at).ok()?;
+    if at.times != 1 || at.entered != 1 || at.published != 0 {
+        return None;
+    }
     published(receipt, &[Reply::Entered(1)], 1)
 }
 

@@ -7,7 +7,7 @@ use crate::room::grown::{Grown, both_edits};
 use crate::room::met::{Attempt, Counts, Met, counted, met_by};
 use crate::tally::Tally;
 use cq_board::Board;
-use cq_desk::{End, Submitted};
+use cq_desk::{End, Entry, Submitted};
 use cq_room::{Front, Pair, Parts, Receipt, Room, RoomFault, RoomName, Session};
 use std::alloc::Allocator;
 use std::marker::Brand;
@@ -144,7 +144,7 @@ fn between<L: Grown<A>, N: RoomName<L::Content>, R: Wait + Drop, A: Allocator + 
     met.if_right(agreed)
 }
 
-/// The same between the two sessions of the list.
+/// The same between the two sessions of the list, of which the second one submits the edits.
 fn between_two<L: Grown<A>, N: RoomName<L::Content>, R: Wait + Drop, A: Allocator + Copy>(
     rt: &R,
     alloc: A,
@@ -153,7 +153,27 @@ fn between_two<L: Grown<A>, N: RoomName<L::Content>, R: Wait + Drop, A: Allocato
 ) -> Option<Met> {
     let second = sessions.pop()?;
     let first = sessions.pop()?;
-    Some(between(rt, alloc, room, first, second))
+    Some(between(rt, alloc, room, second, first))
+}
+
+/// Whether the journal has so many entries, all of the second session.
+fn are_of_second<E>(journal: &[Entry<E>], entries: u64) -> bool {
+    for entry in journal {
+        if entry.author != 1 {
+            return false;
+        }
+    }
+    journal.len() as u64 == entries
+}
+
+/// Whether the closed room's journal has as many entries as the replies told, all of the second session.
+fn closes<L: Grown<A>, N: RoomName<L::Content>, R: Wait + Drop, A: Allocator + Copy>(
+    rt: &R,
+    room: GrowingRoom<L, N, R, A>,
+    sessions: Vec<Session<L, N, A>, A>,
+    entries: u64,
+) -> bool {
+    are_of_second(room.close(rt, sessions).journal(), entries)
 }
 
 fn tried<L: Grown<A>, N: RoomName<L::Content>, R: Wait + Drop, A: Allocator + Copy>(
@@ -170,7 +190,7 @@ fn tried<L: Grown<A>, N: RoomName<L::Content>, R: Wait + Drop, A: Allocator + Co
         Err(fault) => return Met::Open.if_right(fault == RoomFault::NoMemory),
     };
     match between_two(rt, alloc, &room, &mut sessions) {
-        Some(met) => met,
+        Some(met) => met.if_right(closes(rt, room, sessions, met.entries())),
         None => Met::Wrong,
     }
 }

@@ -4,7 +4,7 @@ ghost use Rattle.std.specs.Prelude.{◌≡◌, ◌∷◌, []};
 
 use crate::room::rooms::{TallyRoom, TallySession, looks, submits};
 use crate::tally::{Full, Tally};
-use cq_desk::Reply;
+use cq_desk::{Entry, Reply};
 use cq_room::{Front, Parts, Room, RoomFault, RoomName};
 use std::alloc::Global;
 use std::marker::Brand;
@@ -20,11 +20,19 @@ fn two_sessions<N: RoomName<[u8; 0]>, R: Wait + Drop>(
     second: TallySession<N>,
 ) -> Option<(TallySession<N>, TallySession<N>)> {
     let entered = [Reply::Entered(1), Reply::Entered(2)];
-    submits(rt, alloc, room, &mut first, &[1, 2], &entered, 2)?;
+    let early = submits(rt, alloc, room, &mut first, &[1, 2], &entered, 2)?;
     let (second, front) = answers(rt, alloc, room, second)?;
+    if !comes_first(&early, &front) || !comes_first(&first.front(), &second.front()) {
+        return None;
+    }
     first.hear(&front.copy());
     let first = is_told(first)?;
     Some((first, second))
+}
+
+/// Whether the later front's history begins with the earlier one's, and not the other way round.
+fn comes_first<N: RoomName<[u8; 0]>>(early: &Front<Tally, N>, late: &Front<Tally, N>) -> bool {
+    early.begins(late) && !late.begins(early) && early.begins(&early.copy())
 }
 
 /// The second session, which sees what was submitted and submits too, and the front that it is told.
@@ -69,14 +77,27 @@ fn meet<N: RoomName<[u8; 0]>, R: Wait + Drop>(
     Some(())
 }
 
-/// Whether the closed room's journal has so many entries.
+/// What the two sessions enter, with their numbers.
+const ENTRIES: [(usize, u8); 3] = [(0, 1), (0, 2), (1, 3)];
+
+/// Whether the journal has these entries and no others.
+fn are_entries(journal: &[Entry<u8>], wanted: &[(usize, u8)]) -> bool {
+    for (place, (author, byte)) in wanted.iter().enumerate() {
+        match journal.get(place) {
+            Some(entry) if entry.author == *author && entry.edit == *byte => {}
+            _ => return false,
+        }
+    }
+    journal.len() == wanted.len()
+}
+
+/// Whether the closed room's journal has what the sessions entered, and nothing else.
 fn closes<N: RoomName<[u8; 0]>, R: Wait + Drop>(
     rt: &R,
     room: TallyRoom<N, R>,
     sessions: Vec<TallySession<N>>,
-    entries: usize,
 ) -> bool {
-    room.close(rt, sessions).journal().len() == entries
+    are_entries(room.close(rt, sessions).journal(), ENTRIES.as_slice())
 }
 
 fn runs<N: RoomName<[u8; 0]>, R: Wait + Drop>(
@@ -91,7 +112,7 @@ fn runs<N: RoomName<[u8; 0]>, R: Wait + Drop>(
 {
     let (room, mut sessions) = parts.open::<N>().ok()?;
     let meet = meet(rt, alloc, &room, &mut sessions, hand_in).is_some();
-    Some(closes(rt, room, sessions, 3) && meet)
+    Some(closes(rt, room, sessions) && meet)
 }
 
 fn opened<R: Wait + Drop>(rt: R, alloc: Global) -> Result<Parts<Tally, R>, RoomFault> {
