@@ -109,12 +109,16 @@ shown_within shown history pending js front told =
     let more : length (edits_of history) ≡ length (edits_of shown) + length (edits_of front.0) = ap length (sym (ap edits_of front.1) ∙ edits_both shown front.0) ∙ length-append (edits_of shown) (edits_of front.0) in
     omega (arith, more, ap length told.1, length-append (edits_of history ++ pending) told.0, length-append (edits_of history) pending, length-map js (λ e. e.edit))
 
+entries_count : {E : Type 0} (author : ℕ) (es : List E) → length (entries_by author es) ≡ length es
+entries_count author [] = refl
+entries_count author (e ∷ es) = omega (arith, entries_count author es)
+
 -- at which entries the checkpoint let the submit pass
 pub passed_at : {E G : Type 0} (passed : G → ℕ → ℕ → G → Type 0) (old new : G) (author : ℕ) (js ks : List (Entry E)) (es : List E) (end : End) (shown : ℕ) → ks ≡ js ++ entries_by author es → shown ≤ length js
     → MatchEnd end (λ n. n ≡ length ks) (Unit {0}) (Unit {0}) → MatchEnd end (λ _. passed old (length ks) shown new) (new ≡ old) (passed old (length ks) shown new)
     → MatchEnd end (λ n. IsPassed passed old new n (length es)) (new ≡ old) ((n : ℕ) × IsPassed passed old new n (length es))
 passed_at passed old new author js ks es (Published n) shown taken short count is =
-    (shown, omega (arith, short, count, ap length taken, length-append js (entries_by author es), length-map es (λ e. record { author = author; edit = e })), subst (λ k. passed old k shown new) (sym count) is)
+    (shown, omega (arith, short, count, ap length taken, length-append js (entries_by author es), entries_count author es), subst (λ k. passed old k shown new) (sym count) is)
 passed_at passed old new author js ks es Stopped shown taken short count is = is
 passed_at passed old new author js ks es Unpublished shown taken short count is =
-    (length ks, shown, omega (arith, short, ap length taken, length-append js (entries_by author es), length-map es (λ e. record { author = author; edit = e })), is)
+    (length ks, (shown, omega (arith, short, ap length taken, length-append js (entries_by author es), entries_count author es), is))
