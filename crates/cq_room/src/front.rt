@@ -37,7 +37,7 @@ impl<L: Live, N: RoomName<L::Content>> Front<L, N> {
         Front { trail }
     }
 
-    /// How many entries are published in it. Each was accepted behind those before it.
+    /// How many entries are published in it. Each was accepted after those before it.
     pub fn count(&self) -> u64
         ensures count { result ≡ length (edits_of self.now) }
         ensures accepted { WereAccepted L.after L.why N.opening (edits_of self.now) }

@@ -94,7 +94,7 @@ impl<L: Live, N: RoomName<L::Content>, A: Allocator> Session<L, N, A> {
         self.number
     }
 
-    /// How many entries the session has seen or heard of. Each was accepted behind those before it.
+    /// How many entries the session has seen or heard of. Each was accepted after those before it.
     pub fn seen(&self) -> u64
         ensures count { result ≡ length (edits_of self.now.history) }
         ensures accepted { WereAccepted L.after L.why N.opening (edits_of self.now.history) }
@@ -179,7 +179,7 @@ impl<L: Live, N: RoomName<L::Content>, A: Allocator> Session<L, N, A> {
 }
 
 impl<L: Live, N: RoomName<L::Content>, A: Allocator> Look<L, N, A> {
-    /// The state that is looked at. Each edit that leaves it was accepted behind those before it.
+    /// The state that is looked at. Each edit that leaves it was accepted after those before it.
     pub fn state(&self) -> &L
         ensures leaves { Leaves L.after N.opening (edits_of self.now.history) (L.content result.now) }
         ensures accepted { WereAccepted L.after L.why N.opening (edits_of self.now.history) }

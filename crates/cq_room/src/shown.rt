@@ -14,7 +14,7 @@ use std::marker::Model;
 
 /// A state with the trail that it has taken in. Contracts see the trail's marks and the content. That
 /// the content is what the trail's edits leave over the room's opening content, and that each of these
-/// was accepted behind those before it, stands in this type, so it holds of each copy at any time.
+/// was accepted after those before it, stands in this type, so it holds of each copy at any time.
 #[derive(Drop)]
 pub struct Shown<L: Live, N: RoomName<L::Content>> {
     state: L,
