@@ -1,8 +1,9 @@
 -- Which fault of threads is told, of what they left one after another.
-use Rattle.std.proofs.Common.{◌≡◌, ℕ, zero, suc, ◌≤◌, ◌⊎◌, inl, inr, List, [], ◌∷◌, ◌++◌, Option, Some, None, refl, sym, ap, subst, ◌∙◌, arith}
+use Rattle.std.proofs.Common.{◌≡◌, ℕ, zero, suc, ◌<◌, ◌≤◌, ◌⊎◌, inl, inr, List, [], ◌∷◌, ◌++◌, Option, Some, None, refl, sym, ap, subst, ◌∙◌, arith}
 use Rattle.std.specs.Prelude.{Result, Ok, Err, IfSome}
 use Rattle.std.specs.List.{Contains}
-use Rattle.std.proofs.lemmas.List.Elements.{Contains-append_left, Contains-append_right, Contains-append_cases, Contains-push}
+use Rattle.std.proofs.lemmas.Bool.{cases_order}
+use Rattle.std.proofs.lemmas.List.Elements.{Contains-append_left, Contains-append_cases, Contains-push}
 use Rattle.cq_sessions.specs.declared.fault.ServeFault.{ServeFault}
 use Rattle.cq_sessions.specs.declared.fault.ServeFault.TheVariants as serves
 use Rattle.cq_sessions.specs.Steps.Rooms.{rank, IsFaultOf, IsToldOf, IsFirstOf}
@@ -58,3 +59,10 @@ module _ {D : Type 0} (missing : Type 0) where
       least : (first : Option ServeFault) (other : ServeFault) → IfSome first (λ f. rank now ≤ rank f) → IsFirstOf missing xs first → IsFaultOf missing xs other → rank now ≤ rank other
       least None other that before front = absurd (before other front)
       least (Some f) other that before front = let less = before.first other front in omega (arith, that, less)
+
+-- where no fault is told, no thread is missing
+pub none-missing : {D : Type 0} (lefts : List (Result D ServeFault)) (a b : ℕ) → IsFirstOf (a < b) lefts None → b ≤ a
+none-missing lefts a b none = elim (cases_order a b) [
+  | inl same ↦ omega (arith, same)
+  | inr apart ↦ elim apart [ inl low ↦ absurd (none serves.Thread (inr (low, refl))) | inr high ↦ omega (arith, high) ]
+]

@@ -13,7 +13,7 @@ use Rattle.cq_report.specs.Lines.{lines_of}
 use Rattle.cq_report.specs.Reading.{Reading, Reads, AreReadIn}
 use Rattle.cq_report.specs.Reply.{published_line}
 use Rattle.cq_sessions.specs.Script.{Sheet}
-use Rattle.cq_sessions.specs.Sessions.{Served, FileServed, entered, edit_reply}
+use Rattle.cq_sessions.specs.Sessions.{Served, entered, edit_reply}
 use Rattle.cq_report.specs.Lines.{HasNoEnd}
 use Rattle.cq_sessions.specs.Steps.Sheets.{SheetRecord, blank, numbers_of, told_in, asks, filled, whole, IsEven, Onward, LineServed, BytesServed, ServedTo}
 use Rattle.cq_sessions.specs.Steps.Clients.{Submits, Ends}

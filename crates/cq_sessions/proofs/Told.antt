@@ -20,8 +20,8 @@ use Rattle.cq_text.specs.declared.command.CommandKind.TheVariants as commands
 use Rattle.cq_text.specs.declared.form.Form.{Form}
 use Rattle.cq_report.specs.Reading.{Reading, Reads, Faulty}
 use Rattle.cq_sessions.specs.Script.{Sheet}
-use Rattle.cq_sessions.specs.Sessions.{Submitted, Served, EndsFile, FileServed, FilesServed, entered, entered_by, owns_of, knowns_before}
-use Rattle.cq_sessions.specs.Steps.Sheets.{SheetRecord, numbers_of}
+use Rattle.cq_sessions.specs.Sessions.{Submitted, Served, EndsFile, FilesServed, entered, entered_by, owns_of, knowns_before}
+use Rattle.cq_sessions.specs.Steps.Sheets.{numbers_of}
 use Rattle.cq_sessions.specs.Steps.Rooms.{AreTold, numbers_told}
 use Rattle.cq_sessions.proofs.Sheets.{numbers-append}
 

@@ -1,5 +1,5 @@
 -- What the threads of a room leave, and what is put of it.
-use Rattle.std.specs.Prelude.{◌≡◌, ℕ, ◌+◌, ◌<◌, ◌≤◌, List, [], ◌∷◌, ◌++◌, ◌⊎◌, Option, Some, None, Result, Ok, Err, codes, All, length, map, slice_index_or}
+use Rattle.std.specs.Prelude.{◌≡◌, ℕ, ◌≤◌, List, [], ◌∷◌, ◌++◌, ◌⊎◌, Option, Some, None, Result, Ok, Err, codes, All, map, slice_index_or}
 use Rattle.std.specs.List.{Contains}
 use mathlib.Core.List.{IsPrefix}
 use Rattle.cq_board.specs.Pool.{PoolRecord}
@@ -12,8 +12,8 @@ use Rattle.cq_sessions.specs.declared.fault.ServeFault.{ServeFault}
 use Rattle.cq_sessions.specs.declared.fault.ServeFault.TheVariants as serves
 use Rattle.cq_sessions.specs.declared.seat.Done.{Done}
 use Rattle.cq_text.specs.declared.form.Form.{Form}
-use Rattle.cq_sessions.specs.Script.{Sheet, entries_from, replies_from, sheets_from}
-use Rattle.cq_sessions.specs.Sessions.{FileServed, FilesServed, knowns_before, entered_by, owns_of}
+use Rattle.cq_sessions.specs.Script.{entries_from, replies_from, sheets_from}
+use Rattle.cq_sessions.specs.Sessions.{FileServed, FilesServed, knowns_before, entered_by}
 use Rattle.cq_sessions.specs.Steps.Sheets.{SheetRecord, BytesServed, numbers_of}
 
 -- How a fault of serving is told.

@@ -1,7 +1,7 @@
 use Rattle.std.proofs.Common.{eqb, sym, ap}
 use Rattle.cq_board.specs.Edits.{Edit}
 use Rattle.cq_desk.specs.declared.journal.Entry.{Entry}
-use Rattle.cq_sessions.proofs.Told.{left-on, left-end, read-more}
+use Rattle.cq_sessions.proofs.Told.{left-on, read-more}
 use Rattle.cq_sessions.proofs.telling.has_numbers.Goals as goal
 
 pub loop-place-preserved : goal.loop-place-preserved
