@@ -1,6 +1,6 @@
 -- The names under which no query is pending, told line by line.
-use Rattle.std.proofs.Common.{◌≡◌, ℕ, ◌+◌, ◌<◌, true, false, List, [], ◌∷◌, ◌++◌, length, map, take, get_or, refl, sym, ap, ◌∙◌, append_assoc, append-nil}
-use Rattle.std.specs.Prelude.{not, Option, Some, None}
+use Rattle.std.proofs.Common.{◌≡◌, ℕ, ◌+◌, ◌<◌, true, false, List, [], ◌∷◌, ◌++◌, length, map, take, get_or, refl, sym, ap, subst, ◌∙◌, append_assoc, append-nil}
+use Rattle.std.specs.Prelude.{not, Option, Some, None, IfSome}
 use Rattle.std.specs.List.{flat_map}
 use Rattle.std.specs.Option.{is_some}
 use Rattle.std.specs.Io.KnownBytes.{Appends}
@@ -8,6 +8,9 @@ use Rattle.std.proofs.lemmas.List.{map-append, take_more}
 use Rattle.std.proofs.lemmas.List.Elements.{filter-append}
 use Rattle.cq_board.specs.Pool.{PoolRecord}
 use Rattle.cq_show.specs.Explain.{state_of}
+use Rattle.cq_report.specs.Lines.{lines_of}
+use Rattle.cq_report.specs.Reading.{Reading}
+use Rattle.cq_report.specs.Output.{AreReadings, pool_left}
 use Rattle.cq_cli.specs.Explained.{absent_line, absent_lines, absent_names}
 
 lines-append : (xs ys : List (List ℕ)) → flat_map absent_line (xs ++ ys) ≡ flat_map absent_line xs ++ flat_map absent_line ys
@@ -37,3 +40,10 @@ line_present pool name t = rw t refl
 pub told_nothing : (known : Option (List ℕ)) → Appends known known []
 told_nothing None = tt
 told_nothing (Some bytes) = sym (append-nil bytes)
+
+-- what was told of the board that a script leaves, however its lines are read
+pub read_absent : (left : Option (List ℕ)) (board script : PoolRecord) (names : List (List ℕ)) (before after : Option (List ℕ)) → board ≡ script → IfSome left (λ input. (readings : List Reading) → AreReadings (lines_of input) readings → script ≡ pool_left readings)
+    → Appends before after (absent_lines board names) → IfSome left (λ input. (readings : List Reading) → AreReadings (lines_of input) readings → Appends before after (absent_lines (pool_left readings) names))
+read_absent None board script names before after is reads taken = tt
+read_absent (Some input) board script names before after is reads taken =
+    λ readings are. subst (λ (pool : PoolRecord). Appends before after (absent_lines pool names)) (is ∙ reads readings are) taken
