@@ -8,7 +8,7 @@ use crate::room::met::{Attempt, Counts, Met, counted, met_by};
 use crate::tally::Tally;
 use cq_board::Board;
 use cq_desk::{End, Entry, Submitted};
-use cq_room::{Front, Pair, Parts, Receipt, Room, RoomFault, RoomName, Session};
+use cq_room::{Front, Pair, Parts, Receipt, Room, RoomFault, RoomName, Session, Watched};
 use std::alloc::Allocator;
 use std::marker::Brand;
 use std::sync::Wait;
@@ -167,12 +167,15 @@ fn are_of_second<E>(journal: &[Entry<E>], entries: u64) -> bool {
 }
 
 /// Whether the closed room's journal has as many entries as the replies told, all of the second session.
-fn closes<L: Grown<A>, N: RoomName<L::Content>, R: Wait + Drop, A: Allocator + Copy>(
-    rt: &R,
-    room: GrowingRoom<L, N, R, A>,
+fn closes<L: Grown<A>, N: RoomName<L::Content>, P: Watched<L, N>, A: Allocator + Copy>(
+    rt: &P::Leave,
+    room: Room<L, N, P, A>,
     sessions: Vec<Session<L, N, A>, A>,
     entries: u64,
-) -> bool {
+) -> bool
+where
+    P::Leave: Wait,
+{
     are_of_second(room.close(rt, sessions).journal(), entries)
 }
 
