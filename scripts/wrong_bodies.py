@@ -5,8 +5,10 @@ tried on a copy of the crate, over the proved libraries below it: first the edit
 where these are still proved, the whole crate. It counts as refused only where a goal was not proved, and not where a proof
 file merely names what the edit took away.
 
-wrong-bodies.txt says for each crate the sum under which all of its wrong bodies were last refused: over its sources, its
-definitions and its wrong bodies, the statements of the crates below, and the logic of the toolchain.
+Wrong bodies of different functions are tried together, by one check, and each whose function meets no goal that refuses it
+once more alone.
+
+wrong-bodies.txt says for each crate the sum (sums.py) under which all of its wrong bodies were last refused.
 """
 import fcntl
 import hashlib
@@ -21,65 +23,13 @@ import time
 from concurrent.futures import ThreadPoolExecutor
 
 sys.dont_write_bytecode = True
-from toolchain import below, checked_over, crates_of, kit_folder, logic, text_of
+from sums import WORD, split_generics, statements, sum_of
+from toolchain import below, checked_over, crates_of, kit_folder, text_of
 
 PARTS = ("src", "specs", "proofs")
 
 
-# --- sums
-
-QUOTED = r'"(?:\\.|[^"\\])*"|\'(?:\\.[^\']*|[^\'\\])\''
-
-
-def statements(text):
-    """A source without its comments and without what stands in the bodies of its functions."""
-    text = re.sub(rf"({QUOTED})|//[^\n]*", lambda it: it[1] or "", text)
-    kept, at = [], 0
-    for head in re.finditer(r"\bfn\s+\w+", text):
-        if head.start() < at:
-            continue
-        body = body_of(text, head.end())
-        if body:
-            kept.append(text[at : body[0]])
-            at = body[1]
-    return re.sub(r"\s+", " ", "".join([*kept, text[at:]]))
-
-
-def body_of(text, at):
-    """Where the body of a function begins and ends, whose head ends here, or none. A brace after the name of a clause is the clause's."""
-    depth = start = 0
-    for it in re.finditer(rf"{QUOTED}|[][(){{}};]", text[at:]):
-        letter, place = it[0], at + it.start()
-        if letter in "([":
-            depth += 1
-        elif letter in ")]":
-            depth -= 1
-        elif letter == ";" and not depth:
-            return None
-        elif letter == "{":
-            if not depth:
-                clause = re.search(r"\b((requires|ensures)\s*\*?(\s+\w+)?|ghost\s+\w+\s*:)\s*$", text[at:place][-80:])
-                start = -1 if clause else place
-            depth += 1
-        elif letter == "}":
-            depth -= 1
-            if not depth and start >= 0:
-                return start, place + 1
-    return None
-
-
-def sum_of(crates, name):
-    """The sum under which the wrong bodies of a crate are refused."""
-    top, sums = crates[name].top, hashlib.sha256(logic().encode())
-    for file in crates[name].files("src", "specs", "must-fail"):
-        sums.update(repr((os.path.relpath(file, top), text_of(file))).encode())
-    for dep in below(crates, name):
-        for file in crates[dep].files("src"):
-            sums.update(repr((os.path.relpath(file, top), statements(text_of(file)))).encode())
-        for file in crates[dep].files("specs"):
-            sums.update(repr((os.path.relpath(file, top), text_of(file))).encode())
-    return sums.hexdigest()[:16]
-
+# --- what is recorded
 
 RECORD = "wrong-bodies.txt"
 HEADING = "# NAME SUM: under this sum all wrong bodies of the crate were refused. ./prove --wrong-bodies writes it.\n"
@@ -107,9 +57,9 @@ def record(top, tried, sums):
 # --- edits
 
 
-def edited(folder, edit):
-    """The texts that an edit leaves, by path, with the places of its changes in the old texts; or why it cannot be applied."""
-    path, old, texts, places = "", None, {}, []
+def edited(folder, edit, over={}):
+    """The texts that an edit leaves, by path, over these in place of the crate's own, with the places of its changes in the old texts; or why it cannot be applied."""
+    path, old, texts, places = "", None, dict(over), []
     for line in text_of(edit).split("\n"):
         word, _, rest = line.partition(": ")
         if word == "file":
@@ -126,20 +76,7 @@ def edited(folder, edit):
                 return None, f"an old text stands in {path} {text.count(old)} times"
             places.append((path, text, text.index(old) + len(old) - len(old.lstrip())))
             texts[path], old = text.replace(old, line[5:]), None
-    return (texts, places) if texts else (None, "it has no pair `old:`, `new:`")
-
-
-WORD = re.compile(r"\w+")
-
-
-def split_generics(text):
-    """A text that begins with generics in angle brackets: what stands in them, and what stands behind."""
-    depth = 0
-    for at, letter in enumerate(text):
-        depth += (letter == "<") - (letter == ">" and text[at - 1] != "-")
-        if not depth:
-            return (text[1:at], text[at + 1 :]) if letter == ">" else ("", text)
-    return "", text
+    return (texts, places) if places else (None, "it has no pair `old:`, `new:`")
 
 
 def impl_name(header, module, homes):
@@ -221,6 +158,12 @@ class Trial:
         self.texts, places = edited(crates[name].folder, edit)
         # The functions that it changes; none stands for the whole crate.
         self.only, self.fault = ({}, places) if self.texts is None else (asked_for(crates[name], places), None)
+        self.functions = [*self.only]
+
+    def is_of_bodies(self):
+        """Whether it changes nothing but bodies of functions, each with a proof of its own: those that call themselves or one another have one proof."""
+        texts = [(text_of(f"{self.crate.folder}/{it}"), text) for it, text in (self.texts or {}).items()]
+        return bool(self.only) and all("#[cycle" not in old and statements(old) == statements(new) for old, new in texts)
 
     def run(self, kept):
         began = time.monotonic()
@@ -258,6 +201,24 @@ UNREAD = r"is not in scope|has no field|is no name|operand is missing|expected t
 LOST = r"has no field|is not in scope|has no `|was not admitted"
 
 
+def goals_of(ran, texts):
+    """The goals of a check that were not proved, as it told them, and its errors; or no goals and why there can be none, where the edited text cannot be read."""
+    lines = ran.stdout.rstrip("\n").split("\n")
+    errors = [it for it in lines if re.match(PLACE + "error", it)]
+    for it in errors:
+        path, said = re.match(PLACE, it)[1], re.sub(r"`[^`]*`", "", it)
+        if (path in texts or path.startswith(("src/", "specs/"))) and re.search(UNREAD, said):
+            return None, f"the edited text cannot be read: {it[:300]}"
+    goals = [it for it in lines if re.match(r"note: (\./)?src/\S+: it is not proved that", it)]
+    goals += [it for it in errors if not (it.startswith(("./proofs/", "proofs/")) and re.search(LOST, it))]
+    # A loop that is not shown to end.
+    return goals + [it for it in lines if re.match(r"fn \S+: no proof: expected a measure", it)], errors
+
+
+def shown_goal(goal):
+    return re.sub(r"^(note: )?(\./)?", "", goal)[:200]
+
+
 def judged(ran, texts):
     """What a check of an edited crate says of the edit."""
     lines = ran.stdout.rstrip("\n").split("\n")
@@ -266,17 +227,11 @@ def judged(ran, texts):
         return "proved", "the crate is still proved with it"
     if ran.returncode != 1 or not (last or lines[-1].startswith("logic=not-proved")):
         return "bad", f"it did not reach the prover: {' / '.join(lines[-3:])[:400]}"
-    errors = [it for it in lines if re.match(PLACE + "error", it)]
-    for it in errors:
-        path, said = re.match(PLACE, it)[1], re.sub(r"`[^`]*`", "", it)
-        if (path in texts or path.startswith(("src/", "specs/"))) and re.search(UNREAD, said):
-            return "bad", f"the edited text cannot be read: {it[:300]}"
-    goals = [it for it in lines if re.match(r"note: (\./)?src/\S+: it is not proved that", it)]
-    goals += [it for it in errors if not (it.startswith(("./proofs/", "proofs/")) and re.search(LOST, it))]
-    # A loop that is not shown to end.
-    goals += [it for it in lines if re.match(r"fn \S+: no proof: expected a measure", it)]
+    goals, errors = goals_of(ran, texts)
+    if goals is None:
+        return "bad", errors
     if goals:
-        return "refused", re.sub(r"^(note: )?(\./)?", "", goals[0])[:200]
+        return "refused", shown_goal(goals[0])
     first = [*errors, *[it for it in lines if it.startswith("fn ") and not it.endswith(": proved")], *lines][0]
     return "bad", f"only a proof file no longer fits, so no goal was tried: {first[:300]}"
 
@@ -288,30 +243,92 @@ def lanes():
     return max(1, min(int(number) if number.isdigit() else len(os.sched_getaffinity(0)), memory))
 
 
+# How many wrong bodies one check tries at most.
+MOST_TOGETHER = 6
+
+
+class Batch:
+    """Wrong bodies of different functions of one crate, which one check tries. A function is proved over the contracts of the others, so none changes what
+    is said of another's. Each whose function meets no goal that refuses it is tried again, alone."""
+
+    def __init__(self, trial):
+        self.trials, self.crate, self.texts = [trial], trial.crate, trial.texts
+
+    def takes(self, trial):
+        """Takes the wrong body, if it can be tried with the others."""
+        if not (self.trials[0].is_of_bodies() and trial.is_of_bodies()) or len(self.trials) == MOST_TOGETHER:
+            return False
+        texts, _ = edited(trial.crate.folder, trial.edit, self.texts)
+        if trial.crate is not self.crate or texts is None or any(set(it.only) & set(trial.only) for it in self.trials):
+            return False
+        self.trials, self.texts = [*self.trials, trial], texts
+        return True
+
+    def run(self, kept):
+        began = time.monotonic()
+        if len(self.trials) > 1:
+            ran = check(self.trials[0].crates, self.crate, self.texts, kept, list(dict.fromkeys(name for it in self.trials for name in it.only)))
+            came, told = judged(ran, self.texts)
+            goals = goals_of(ran, self.texts)[0] if came == "refused" else []
+            for it in self.trials:
+                mine = [goal for goal in goals if self.owner_of(goal) is it]
+                if mine:
+                    it.came, it.told = "refused", shown_goal(mine[0])
+            took = (time.monotonic() - began) / len(self.trials)
+            for it in self.trials:
+                it.seconds = took
+        for it in self.trials:
+            if it.came != "refused":
+                it.run(kept)
+
+    def owner_of(self, goal):
+        """The wrong body in whose function, or in whose proof, a goal stands that was not proved, or none."""
+        at = re.match(r"(?:note: )?(?:\./)?(src|proofs)/(\S+?):(\d+):\d+: ", goal)
+        path = at and f"{at[1]}/{at[2]}"
+        if not at:
+            name = re.match(r"(?:fn )?(\S*?):? ", goal)[1].removeprefix(f"{self.crate.name}::")
+        elif at[1] == "proofs":
+            name = os.path.dirname(at[2]).replace("/", "::")
+        elif path in self.texts:
+            place = sum(len(row) + 1 for row in self.texts[path].split("\n")[: int(at[3]) - 1])
+            name = function_at(self.texts[path], place, module_of(path), homes_of(self.crate))
+        else:
+            return None
+        return next((it for it in self.trials if name and (name in it.functions or name in it.only)), None)
+
+
+def batches(trials):
+    """The trials in batches of neighbours, in which each wrong body stands once."""
+    found = []
+    for trial in trials:
+        if not any(it.takes(trial) for it in found):
+            found.append(Batch(trial))
+    return found
+
+
 class Lanes:
-    """Trials side by side, neighbours in one lane, each over what was checked of its crate before in that lane. A lane begins with a check of the
-    crate as it is, of all functions that its trials ask for, which is made once: where that is not proved, no trial counts."""
+    """Batches of trials side by side, neighbours in one lane, each over what was checked of its crate before in that lane. A lane begins with a check of
+    the crate as it is, of all functions that its trials ask for, which is made once: where that is not proved, no trial counts."""
 
     def __init__(self, trials, tell, until):
-        self.left, self.tell, self.until = list(trials), tell, until
+        self.left, self.tell, self.until = batches(trials), tell, until
         self.lock, self.trials = threading.Lock(), list(trials)
         self.first = {it.crate.name: threading.Lock() for it in trials}
         self.is_sound = {}
 
-    def begin(self, trial, folder):
-        """Makes the check of the crate as it is, once, and returns whether it is proved."""
-        name = trial.crate.name
-        with self.first[name]:
-            if name not in self.is_sound:
-                self.is_sound[name] = self.check_as_it_is(trial, folder)
-            return self.is_sound[name]
+    def begin(self, crate, folder):
+        """Makes the check of the crate as it is, once, and returns nothing where it is proved, and else what was said."""
+        with self.first[crate.name]:
+            if crate.name not in self.is_sound:
+                self.is_sound[crate.name] = self.check_as_it_is(crate, folder)
+            return self.is_sound[crate.name]
 
-    def check_as_it_is(self, trial, folder):
-        """Returns nothing where the crate is proved there, and else what was said. A function that the check knows by another name is asked for by its module."""
-        mine = [it for it in self.trials if it.crate.name == trial.crate.name and not it.fault]
+    def check_as_it_is(self, crate, folder):
+        """A function that the check knows by another name is asked for by its module."""
+        mine = [it for it in self.trials if it.crate is crate and not it.fault]
         while True:
             only = [] if any(not it.only for it in mine) else list(dict.fromkeys(path for it in mine for path in it.only))
-            ran = check(trial.crates, trial.crate, {}, folder, only, lanes())
+            ran = check(self.trials[0].crates, crate, {}, folder, only, lanes())
             last = ran.stdout.rstrip("\n").split("\n")[-1]
             unknown = re.search(r"`([^`]*)`", last.partition(" has no ")[2])
             if ran.returncode != 2 or not unknown or unknown[1] not in only:
@@ -326,19 +343,22 @@ class Lanes:
             with self.lock:
                 if not self.left or self.until and time.monotonic() > self.until:
                     return
-                trial = self.left.pop(0)
-            kept, fault = f"{room}/{trial.crate.name}.{number}", self.begin(trial, f"{room}/{trial.crate.name}")
+                batch = self.left.pop(0)
+            name = batch.crate.name
+            kept, fault = f"{room}/{name}.{number}", self.begin(batch.crate, f"{room}/{name}")
             for old in os.listdir(room):
                 if old.endswith(f".{number}") and old != os.path.basename(kept):
                     shutil.rmtree(f"{room}/{old}", ignore_errors=True)
             if fault:
-                trial.told = f"without the edit the crate is not proved here: {fault}"
+                for trial in batch.trials:
+                    trial.told = f"without the edit the crate is not proved here: {fault}"
             else:
                 if not os.path.isdir(kept):
-                    shutil.copytree(f"{room}/{trial.crate.name}", kept)
-                trial.run(kept)
+                    shutil.copytree(f"{room}/{name}", kept)
+                batch.run(kept)
             with self.lock:
-                self.tell(trial)
+                for trial in batch.trials:
+                    self.tell(trial)
 
 
 def try_all(trials, tell, until=None):
@@ -348,7 +368,7 @@ def try_all(trials, tell, until=None):
         with ThreadPoolExecutor(lanes()) as pool:
             for it in [pool.submit(work.lane, at, room) for at in range(lanes())]:
                 it.result()
-    return work.left
+    return [it for batch in work.left for it in batch.trials]
 
 
 # --- what is due
