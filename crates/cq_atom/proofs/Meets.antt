@@ -1,5 +1,5 @@
 -- Two lists of terms can meet exactly where the constants under each label agree.
-use Rattle.std.proofs.Common.{◌≡◌, ℕ, zero, suc, ◌<◌, ◌≤◌, ◌==◌, ◌⊎◌, inl, inr, below_more, Bool, true, false, List, map, length, refl, sym, ap, ◌∙◌, subst, arith, if◌then◌else◌, Option, Some, None, unwrap_or, get_or, bytes_eq}
+use Rattle.std.proofs.Common.{◌≡◌, ℕ, zero, suc, ◌<◌, ◌≤◌, ◌==◌, ◌⊎◌, inl, inr, below_more, Bool, true, false, List, [], ◌∷◌, map, length, refl, sym, ap, ◌∙◌, subst, arith, if◌then◌else◌, Option, Some, None, unwrap_or, get_or, bytes_eq}
 use Rattle.std.proofs.lemmas.List.{get_or-map, ext_get_or}
 use Rattle.std.proofs.lemmas.Bool.{eqb-true, eq-eqb}
 use Rattle.std.proofs.lemmas.Slice.Eq.{bytes_eq-Decides}
@@ -10,7 +10,7 @@ use Rattle.cq_atom.specs.declared.term.TermKind.TheVariants.{Constant, Variable}
 use Rattle.cq_atom.specs.Steps.Labels.{label_at, term_at, zero_value, Respects, RespectsTies, Tied, Agree, AreValid}
 use Rattle.std.proofs.Common.{rules}
 use Rattle.cq_atom.specs.Value.{IsValue}
-use Rattle.cq_atom.specs.Steps.Meets.{Values, value_of, CanMeet}
+use Rattle.cq_atom.specs.Steps.Meets.{Values, value_of, CanMeet, MayMeet}
 
 by_term : (t : TermContent) (P : Type 0) → ((c : ValueContent) → t ≡ Constant c → P) → ((x : List ℕ) → t ≡ Variable x → P) → P
 by_term (Constant c) P f g = f c refl
@@ -237,3 +237,21 @@ module _ (ls : List ℕ) (xs ys : List TermContent) (closed : IsClosed ls xs ys)
           let h' : i < length xs = simp length-map at h in
           value_at-map (by_class xs) xs i h' ∙ value_left i h' ∙ sym (value_right i h') ∙ sym (value_at-map (by_class ys) ys i (long_right i h')));
     }
+
+-- ---- before any label is given
+
+one_place : (l r : Values) (x y : TermContent) → value_of l x ≡ value_of r y → MayMeet x y
+one_place l r (Constant c) (Constant d) e = e
+one_place l r (Constant c) (Variable y) e = tt
+one_place l r (Variable x) (Constant d) e = tt
+one_place l r (Variable x) (Variable y) e = tt
+
+each_place : (l r : Values) (xs ys : List TermContent) (i : ℕ) (x y : TermContent) → map (value_of l) xs ≡ map (value_of r) ys → i < length xs → x ≡ get_or xs i x → y ≡ get_or ys i y → MayMeet x y
+each_place l r [] ys i x y e h p q = absurd (omega (arith, h))
+each_place l r (s ∷ xs) [] i x y e h p q = absurd cc
+each_place l r (s ∷ xs) (t ∷ ys) zero x y e h p q = one_place l r x y (ap (value_of l) p ∙ (cc e) ∙ sym (ap (value_of r) q))
+each_place l r (s ∷ xs) (t ∷ ys) (suc i) x y e h p q = each_place l r xs ys i x y (cc e) (let h' : suc i < suc (length xs) = h in omega arith) p q
+
+-- terms that can meet have no two different constants at a place
+pub meet_at : (xs ys : List TermContent) (i : ℕ) (x y : TermContent) → i < length xs → x ≡ get_or xs i x → y ≡ get_or ys i y → CanMeet xs ys → MayMeet x y
+meet_at xs ys i x y h p q m = each_place m.left m.right xs ys i x y m.same h p q

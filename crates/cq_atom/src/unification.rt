@@ -5,7 +5,7 @@
 
 ghost use Rattle.std.specs.Prelude.{◌≡◌, ◌↔◌, ◌+◌, ◌<◌, ◌≤◌, length, min, IsTrue};
 ghost use Rattle.cq_atom.specs.Steps.Labels.{AreOwn, Merged, SameVariable, Ties, EndsAt, EndsBelow, AgreesWith, Agree, AreValid};
-ghost use Rattle.cq_atom.specs.Steps.Meets.{CanMeet};
+ghost use Rattle.cq_atom.specs.Steps.Meets.{CanMeet, MayMeet};
 ghost use Rattle.cq_atom.specs.Unify.{Unify};
 
 use crate::atom::Atom;
@@ -105,11 +105,37 @@ fn agree<A: Allocator>(labels: &[usize], a: &[Term<A>], b: &[Term<A>]) -> bool
     true
 }
 
+/// Whether the terms are not two different constants.
+fn may_meet<A: Allocator>(a: &Term<A>, b: &Term<A>) -> bool
+    ensures { IsTrue result ↔ MayMeet a.now b.now }
+{
+    match (a.as_constant(), b.as_constant()) {
+        (Some(value), Some(other)) => value.is_same(other),
+        _ => true,
+    }
+}
+
+/// Whether there is no place with two different constants: the test that most pairs fail, before any label is given.
+fn may_meet_all<A: Allocator>(a: &[Term<A>], b: &[Term<A>]) -> bool
+    requires alike { length a.now ≡ length b.now }
+    ensures { CanMeet a.now b.now → IsTrue result }
+{
+    for i in 0..a.len() {
+        if !may_meet(&a[i], &b[i]) {
+            return false;
+        }
+    }
+    true
+}
+
 fn can_meet<A: Allocator>(a: &[Term<A>], b: &[Term<A>]) -> bool
     requires few { length a.now ≤ MAX_ARITY }
     ensures { IsTrue result ↔ CanMeet a.now b.now }
 {
     if a.len() != b.len() {
+        return false;
+    }
+    if !may_meet_all(a, b) {
         return false;
     }
     let mut labels = [0usize; MAX_ARITY];

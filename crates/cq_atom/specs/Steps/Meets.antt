@@ -19,3 +19,9 @@ pub record CanMeet (xs ys : List TermContent) : Type 0 where
   pub left_valid : (x : List ℕ) → IsValue (left x)
   pub right_valid : (x : List ℕ) → IsValue (right x)
   pub same : map (value_of left) xs ≡ map (value_of right) ys
+
+-- The terms are not two different constants.
+abbrev pub MayMeet : TermContent → TermContent → Type 0
+MayMeet (Constant c) (Constant d) = c ≡ d
+MayMeet (Constant c) (Variable y) = Unit {0}
+MayMeet (Variable x) t = Unit {0}
