@@ -167,21 +167,35 @@ class Trial:
 
     def run(self, kept):
         began = time.monotonic()
-        judge = lambda only: judged(check(self.crates, self.crate, self.texts, kept, only), self.texts)
         if self.fault:
             self.told = self.fault
             return
         if self.only:
-            self.came, self.told = judge(list(self.only))
+            self.came, self.told = judged(check_functions([self], self.texts, kept), self.texts)
         if not self.only or self.came != "refused":
-            self.came, self.told = judge([])
+            self.came, self.told = judged(check(self.crates, self.crate, self.texts, kept, []), self.texts)
             self.told += " (by a check of the whole crate)" * (self.came == "refused")
         self.seconds = time.monotonic() - began
 
 
-def check(crates, crate, texts, kept, only, jobs=1):
+def check_functions(trials, texts, kept):
+    """Checks the functions that these trials change, and what they call. A function that the check knows by another name is asked for by its module."""
+    while True:
+        only = list(dict.fromkeys(path for it in trials for path in it.only))
+        ran = check(trials[0].crates, trials[0].crate, texts, kept, only)
+        last = ran.stdout.rstrip("\n").split("\n")[-1]
+        unknown = re.search(r"`([^`]*)`", last.partition(" has no ")[2])
+        if ran.returncode != 2 or not unknown or unknown[1] not in only:
+            return ran
+        for it in trials:
+            module = it.only.pop(unknown[1], None)
+            if module is not None:
+                it.only[module] = module
+
+
+def check(crates, crate, texts, kept, only):
     """Checks a copy of the crate with these texts in place of its own, over what is kept there: these functions with what they call, or all."""
-    words = [f"{kit_folder()}/bin/rattle", "check", *checked_over(crates, crate), "--jobs", str(jobs), "--incremental", kept]
+    words = [f"{kit_folder()}/bin/rattle", "check", *checked_over(crates, crate), "--jobs", "1", "--incremental", kept]
     for it in only:
         words += ["--only", it]
     with tempfile.TemporaryDirectory(prefix="wrong-body-") as room:
@@ -243,6 +257,11 @@ def lanes():
     return max(1, min(int(number) if number.isdigit() else len(os.sched_getaffinity(0)), memory))
 
 
+def is_built(crate):
+    """Whether the crate was proved here, so that its library or its program was built."""
+    return any(os.path.exists(f"{crate.folder}/out/{it}") for it in (f"rlib/{crate.name}.rlib", crate.name))
+
+
 # How many wrong bodies one check tries at most.
 MOST_TOGETHER = 6
 
@@ -266,8 +285,12 @@ class Batch:
 
     def run(self, kept):
         began = time.monotonic()
+        if not is_built(self.crate):
+            for it in self.trials:
+                it.told = "without the edit the crate is not proved here"
+            return
         if len(self.trials) > 1:
-            ran = check(self.trials[0].crates, self.crate, self.texts, kept, list(dict.fromkeys(name for it in self.trials for name in it.only)))
+            ran = check_functions(self.trials, self.texts, kept)
             came, told = judged(ran, self.texts)
             goals = goals_of(ran, self.texts)[0] if came == "refused" else []
             for it in self.trials:
@@ -288,7 +311,8 @@ class Batch:
         if not at:
             name = re.match(r"(?:fn )?(\S*?):? ", goal)[1].removeprefix(f"{self.crate.name}::")
         elif at[1] == "proofs":
-            name = os.path.dirname(at[2]).replace("/", "::")
+            # The proof of a function that calls itself stands in a folder with a plus.
+            name = os.path.dirname(at[2]).replace("+", "").replace("/", "::")
         elif path in self.texts:
             place = sum(len(row) + 1 for row in self.texts[path].split("\n")[: int(at[3]) - 1])
             name = function_at(self.texts[path], place, module_of(path), homes_of(self.crate))
@@ -307,55 +331,32 @@ def batches(trials):
 
 
 class Lanes:
-    """Batches of trials side by side, neighbours in one lane, each over what was checked of its crate before in that lane. A lane begins with a check of
-    the crate as it is, of all functions that its trials ask for, which is made once: where that is not proved, no trial counts."""
+    """Batches of trials side by side. A lane goes on with its crate, over what it has checked of it before, and then takes one that no other lane has, or else
+    shares one. All are tried over crates that are proved as they are."""
 
     def __init__(self, trials, tell, until):
         self.left, self.tell, self.until = batches(trials), tell, until
-        self.lock, self.trials = threading.Lock(), list(trials)
-        self.first = {it.crate.name: threading.Lock() for it in trials}
-        self.is_sound = {}
+        self.lock, self.crate_of = threading.Lock(), {}
 
-    def begin(self, crate, folder):
-        """Makes the check of the crate as it is, once, and returns nothing where it is proved, and else what was said."""
-        with self.first[crate.name]:
-            if crate.name not in self.is_sound:
-                self.is_sound[crate.name] = self.check_as_it_is(crate, folder)
-            return self.is_sound[crate.name]
-
-    def check_as_it_is(self, crate, folder):
-        """A function that the check knows by another name is asked for by its module."""
-        mine = [it for it in self.trials if it.crate is crate and not it.fault]
-        while True:
-            only = [] if any(not it.only for it in mine) else list(dict.fromkeys(path for it in mine for path in it.only))
-            ran = check(self.trials[0].crates, crate, {}, folder, only, lanes())
-            last = ran.stdout.rstrip("\n").split("\n")[-1]
-            unknown = re.search(r"`([^`]*)`", last.partition(" has no ")[2])
-            if ran.returncode != 2 or not unknown or unknown[1] not in only:
-                return None if ran.returncode == 0 else last
-            for it in mine:
-                module = it.only.pop(unknown[1], None)
-                if module is not None:
-                    it.only[module] = module
+    def next(self, number):
+        """The batch that the lane takes next, or none."""
+        with self.lock:
+            if not self.left or self.until and time.monotonic() > self.until:
+                return None
+            mine, others = self.crate_of.get(number), {it for lane, it in self.crate_of.items() if lane != number}
+            found = [it for it in self.left if it.crate is mine] or [it for it in self.left if it.crate not in others] or self.left
+            self.left.remove(found[0])
+            self.crate_of[number] = found[0].crate
+            return found[0]
 
     def lane(self, number, room):
-        while True:
-            with self.lock:
-                if not self.left or self.until and time.monotonic() > self.until:
-                    return
-                batch = self.left.pop(0)
-            name = batch.crate.name
-            kept, fault = f"{room}/{name}.{number}", self.begin(batch.crate, f"{room}/{name}")
-            for old in os.listdir(room):
-                if old.endswith(f".{number}") and old != os.path.basename(kept):
-                    shutil.rmtree(f"{room}/{old}", ignore_errors=True)
-            if fault:
-                for trial in batch.trials:
-                    trial.told = f"without the edit the crate is not proved here: {fault}"
-            else:
-                if not os.path.isdir(kept):
-                    shutil.copytree(f"{room}/{name}", kept)
-                batch.run(kept)
+        kept = name = None
+        while batch := self.next(number):
+            if name != batch.crate.name:
+                shutil.rmtree(kept or f"{room}/none", ignore_errors=True)
+                name, kept = batch.crate.name, f"{room}/{batch.crate.name}.{number}"
+                os.mkdir(kept)
+            batch.run(kept)
             with self.lock:
                 for trial in batch.trials:
                     self.tell(trial)
