@@ -1,3 +1,4 @@
+pub mod Inserted
 pub mod Kept
 pub mod Lists
 pub mod Numbered

@@ -13,4 +13,6 @@ mod matching;
 #[cfg(test)]
 mod roster;
 #[cfg(test)]
+mod stores;
+#[cfg(test)]
 mod texts;

@@ -1,70 +1,52 @@
 //! Each growth of a call refused in turn.
 
-use crate::links::samples::{RING, comes, put_as, two_of_ring};
-use crate::texts::query;
-use cq_atom::Query;
+use crate::links::calls::Call;
+use crate::links::rows::{THIRD, TWO_OF_RING};
+use crate::stores::{Trial, tried_at};
 use cq_links::Links;
 use cq_tests_growths::{Outcome, Tried, refusals};
-use std::alloc::{AllocError, Allocator};
+use std::alloc::Allocator;
 
-/// Whether the last query of the ring closes it.
-fn is_closed<A: Allocator + Copy>(alloc: A, links: &mut Links<A>) -> bool {
-    let [_, _, third] = RING;
-    comes(alloc, links, 2, third) == Ok(true)
-}
+/// Two of the ring stand, and the last does not.
+const SHOWN: &[Call] = &[Call::Has(0, true), Call::Has(1, true), Call::Has(2, false)];
 
-/// The last query of the ring, posted where the others stand.
-struct Adding;
+const ADD: usize = 0;
 
-fn added<A: Allocator + Copy>(alloc: A, links: &mut Links<A>, query: &Query<A>) -> Outcome {
-    let [_, _, third] = RING;
-    match put_as(links, 2, query, third) {
-        Ok(right) => Outcome::done_if(right && links.has(2)),
-        Err(_) => Outcome::refused_if(!links.has(2) && is_closed(alloc, links)),
-    }
-}
+const COPY: usize = 1;
 
-fn tried_once<A: Allocator + Copy>(alloc: A) -> Result<Outcome, AllocError> {
-    let [_, _, third] = RING;
-    let query = query(alloc, third.text)?;
-    let mut links = two_of_ring(alloc)?;
-    Ok(added(alloc, &mut links, &query))
-}
+/// The trials, each at the place of its name.
+const TRIALS: &[Trial<'static, Call>] = &[
+    // The last query of the ring is posted where the others stand.
+    Trial {
+        before: &[TWO_OF_RING],
+        tried: THIRD,
+        shown: &[SHOWN],
+        after: &[&[Call::Has(2, true)]],
+    },
+    // The last one closes the ring in a copy.
+    Trial {
+        before: &[TWO_OF_RING],
+        tried: Call::Copy,
+        shown: &[SHOWN],
+        after: &[SHOWN, &[THIRD]],
+    },
+];
 
-impl Tried for Adding {
+/// The trial at the place.
+struct Trying<const PLACE: usize>;
+
+impl<const PLACE: usize> Tried for Trying<PLACE> {
     fn tried<A: Allocator + Copy>(alloc: A) -> Outcome {
-        tried_once(alloc).unwrap_or(Outcome::Unready)
+        tried_at::<A, Links<A>>(alloc, TRIALS, PLACE)
     }
 }
 
 #[test]
 fn refused_growth_in_add(rt: HostRuntime) {
-    assert!(rt; matches!(refusals::<Adding>(rt.alloc()), Ok(4..)));
-}
-
-/// A copy of the links between the others.
-struct Copying;
-
-fn copied<A: Allocator + Copy>(alloc: A, links: &Links<A>) -> Outcome {
-    match links.copy() {
-        Ok(copy) => Outcome::done_if(copy.has(0) && copy.has(1) && !copy.has(2)),
-        Err(_) => Outcome::refused_if(match links.copy() {
-            Ok(mut copy) => is_closed(alloc, &mut copy),
-            Err(_) => false,
-        }),
-    }
-}
-
-impl Tried for Copying {
-    fn tried<A: Allocator + Copy>(alloc: A) -> Outcome {
-        match two_of_ring(alloc) {
-            Ok(links) => copied(alloc, &links),
-            Err(_) => Outcome::Unready,
-        }
-    }
+    assert!(rt; matches!(refusals::<Trying<ADD>>(rt.alloc()), Ok(4..)));
 }
 
 #[test]
 fn refused_growth_in_copy(rt: HostRuntime) {
-    assert!(rt; matches!(refusals::<Copying>(rt.alloc()), Ok(4..)));
+    assert!(rt; matches!(refusals::<Trying<COPY>>(rt.alloc()), Ok(4..)));
 }

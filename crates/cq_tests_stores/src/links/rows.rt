@@ -1,106 +1,92 @@
 //! The worked rows.
 
-use crate::links::samples::{ALONE, MIXED, RING, all_come, comes, two_of_ring};
-use crate::texts::query;
-use cq_atom::{Meter, Query};
+use crate::links::calls::{Call, Posting};
+use crate::stores::{Apart, other_apart, other_of};
 use cq_links::Links;
-use std::alloc::{AllocError, Allocator};
 
-fn postings_hold<A: Allocator + Copy>(alloc: A) -> Result<bool, AllocError> {
-    let mut links = Links::begin(alloc);
-    let [first, second, third] = RING;
-    all_come(
-        alloc,
-        &mut links,
-        [first, second, third, ALONE, MIXED].as_slice(),
-    )
-}
+// A ring of three, each of whom waits for what the next one offers; the last closes it.
+const FIRST: Call = Call::Come(
+    0,
+    Posting {
+        text: "{Seat(Elaine, y)} Seat(Jerry, x) <- Row(x), Row(y)",
+        edges: &[],
+        tests: 0,
+    },
+);
+
+const SECOND: Call = Call::Come(
+    1,
+    Posting {
+        text: "{Seat(Kramer, y)} Seat(Elaine, x) <- Row(x), Row(y)",
+        edges: &[(1, 0, 0, 0)],
+        tests: 1,
+    },
+);
+
+const THIRD_TEXT: &str = "{Seat(Jerry, y)} Seat(Kramer, x) <- Row(x), Row(y)";
+
+pub const THIRD: Call = Call::Come(
+    2,
+    Posting {
+        text: THIRD_TEXT,
+        edges: &[(0, 0, 2, 0), (2, 0, 1, 0)],
+        tests: 2,
+    },
+);
+
+/// The first two of the ring at their places.
+pub const TWO_OF_RING: &[Call] = &[FIRST, SECOND];
+
+const ALONE_TEXT: &str = "{Aisle(x), Aisle(1)} Aisle(2), Window(x), Aisle(x) <- Row(x)";
+
+// A query that supplies itself: its own pairs are tested once, but for one that has two constants first.
+const ALONE: Call = Call::Come(
+    3,
+    Posting {
+        text: ALONE_TEXT,
+        edges: &[(3, 0, 3, 0), (3, 2, 3, 0), (3, 2, 3, 1)],
+        tests: 3,
+    },
+);
+
+// A number is no text: where the first arguments tell them apart there is no test, and where the second do there is
+// one that fails.
+const MIXED: Call = Call::Come(
+    4,
+    Posting {
+        text: "{Door(1), Gate(x, 1)} Door(\"1\"), Gate(y, \"1\") <- Row(x), Row(y)",
+        edges: &[],
+        tests: 1,
+    },
+);
 
 #[test]
 fn postings_make_their_edges(rt: HostRuntime) {
-    assert!(rt; postings_hold(rt.alloc()) == Ok(true));
+    let other = other_of::<_, Links>(rt.alloc(), &[TWO_OF_RING, &[THIRD, ALONE, MIXED]]);
+    assert!(rt; other == Ok(None), "{other:?}");
 }
 
-/// Posts the query at a place where none stands and takes it away again. Answers whether the place had it in between,
-/// and only then.
-fn stands_between<A: Allocator + Copy>(
-    links: &mut Links<A>,
-    place: usize,
-    query: &Query<A>,
-) -> Result<bool, AllocError> {
-    if links.has(place) {
-        return Ok(false);
-    }
-    let mut tests = Meter::new();
-    let _edges = links.add(place, query, &mut tests)?;
-    let stood = links.has(place);
-    links.remove(place, query);
-    Ok(stood && !links.has(place))
-}
-
-/// The same of the query of a text.
-fn comes_and_goes<A: Allocator + Copy>(
-    alloc: A,
-    links: &mut Links<A>,
-    place: usize,
-    text: &str,
-) -> Result<bool, AllocError> {
-    let query = query(alloc, text)?;
-    stands_between(links, place, &query)
-}
-
-fn all_go<A: Allocator + Copy>(alloc: A, links: &mut Links<A>) -> Result<bool, AllocError> {
-    let [_, second, third] = RING;
-    Ok(
-        comes_and_goes(alloc, links, 2, third.text)?
-            && comes_and_goes(alloc, links, 3, ALONE.text)?
-            && !comes_and_goes(alloc, links, 1, second.text)?
-            && comes(alloc, links, 2, third)?
-            && comes(alloc, links, 3, ALONE)?,
-    )
-}
-
-fn removals_hold<A: Allocator + Copy>(alloc: A) -> Result<bool, AllocError> {
-    let mut links = two_of_ring(alloc)?;
-    all_go(alloc, &mut links)
-}
+/// Queries that come and go where the place is free for them.
+const COMERS: &[Call] = &[
+    Call::ComeAndGo(2, THIRD_TEXT),
+    Call::ComeAndGo(3, ALONE_TEXT),
+    Call::Has(1, true),
+];
 
 #[test]
 fn removed_queries_are_gone(rt: HostRuntime) {
-    assert!(rt; removals_hold(rt.alloc()) == Ok(true));
+    let other = other_of::<_, Links>(rt.alloc(), &[TWO_OF_RING, COMERS, &[THIRD, ALONE]]);
+    assert!(rt; other == Ok(None), "{other:?}");
 }
 
-/// Whether the last query of the ring closes it in each of two copies, and the original has it in neither case.
-fn are_apart<A: Allocator + Copy>(
-    alloc: A,
-    links: &Links<A>,
-    one: &mut Links<A>,
-    other: &mut Links<A>,
-) -> Result<bool, AllocError> {
-    let [_, _, third] = RING;
-    Ok(comes(alloc, one, 2, third)? && comes(alloc, other, 2, third)? && !links.has(2))
-}
-
-fn second_is_apart<A: Allocator + Copy>(
-    alloc: A,
-    links: &Links<A>,
-    one: &mut Links<A>,
-) -> Result<bool, AllocError> {
-    let mut other = links.copy()?;
-    are_apart(alloc, links, one, &mut other)
-}
-
-fn both_are_apart<A: Allocator + Copy>(alloc: A, links: &Links<A>) -> Result<bool, AllocError> {
-    let mut one = links.copy()?;
-    second_is_apart(alloc, links, &mut one)
-}
-
-fn copies_hold<A: Allocator + Copy>(alloc: A) -> Result<bool, AllocError> {
-    let links = two_of_ring(alloc)?;
-    both_are_apart(alloc, &links)
-}
+/// The last query of the ring closes it in each of two copies, and the original has it in neither case.
+const APART: Apart<'static, Call> = Apart {
+    before: &[TWO_OF_RING],
+    calls: &[(1, THIRD), (2, THIRD), (0, Call::Has(2, false)), (0, THIRD)],
+};
 
 #[test]
 fn copies_are_apart(rt: HostRuntime) {
-    assert!(rt; copies_hold(rt.alloc()) == Ok(true));
+    let other = other_apart::<_, Links>(rt.alloc(), &APART);
+    assert!(rt; other == Ok(None), "{other:?}");
 }

@@ -148,10 +148,7 @@ fn change(draws: &mut Draws, twin: &mut Twin, node: usize) -> Result<bool, Alloc
         0 => Ok(twin.remove(node)),
         1 => twin.enable(node),
         2 => Ok(twin.disable(node)),
-        _ => {
-            twin.go_on_with_copy()?;
-            Ok(true)
-        }
+        _ => twin.go_on_with_copy(),
     }
 }
 
@@ -170,10 +167,10 @@ fn edit(
     come(alloc, draws, twin, node)
 }
 
-/// Whether the matcher shows what the lists have, and a copy does.
-fn is_kept(alloc: Global, twin: &Twin) -> Result<bool, AllocError> {
+/// Whether a copy of the matcher shows what the lists have.
+fn is_copied(alloc: Global, twin: &Twin) -> Result<bool, AllocError> {
     let copy = twin.kept.matcher().copy()?;
-    Ok(twin.holds(alloc)? && twin.is_shown_by(alloc, &copy)?)
+    twin.is_shown_by(alloc, &copy)
 }
 
 /// Whether each of fifty edits is made and kept.
@@ -184,7 +181,7 @@ fn keep_edits(
     seen: &mut Seen,
 ) -> Result<bool, AllocError> {
     for _ in 0..50 {
-        if !edit(alloc, draws, twin, seen)? || !is_kept(alloc, twin)? {
+        if !edit(alloc, draws, twin, seen)? || !twin.holds(alloc)? || !is_copied(alloc, twin)? {
             return Ok(false);
         }
         seen.look(twin.kept.matcher(), &twin.edges);
@@ -194,7 +191,7 @@ fn keep_edits(
 
 /// Whether a list of edits is kept that begins without nodes.
 fn keep_list(alloc: Global, draws: &mut Draws, seen: &mut Seen) -> Result<bool, AllocError> {
-    let mut twin = Twin::begin(alloc, usize::from(PLACES), 0)?;
+    let mut twin = Twin::begin(alloc, usize::from(PLACES))?;
     keep_edits(alloc, draws, &mut twin, seen)
 }
 

@@ -138,10 +138,10 @@ impl<A: Allocator + Copy> Guarded<A> {
     }
 
     /// Goes on with a copy in place of the matcher.
-    pub fn go_on_with_copy(&mut self) -> Result<(), AllocError> {
+    pub fn go_on_with_copy(&mut self) -> Result<bool, AllocError> {
         let copy = self.matcher.copy()?;
         drop(replace(&mut self.matcher, copy));
-        Ok(())
+        Ok(true)
     }
 }
 

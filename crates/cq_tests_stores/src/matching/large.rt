@@ -1,7 +1,7 @@
 //! A ring and a chain of ten thousand nodes: all come matched with the last one, and a break in the middle is told along
 //! them.
 
-use crate::matching::edges::{Ends, edge, edges_of};
+use crate::matching::edges::edge;
 use crate::matching::guarded::Guarded;
 use cq_atom::Meter;
 use cq_match::Edge;
@@ -66,33 +66,44 @@ fn break_and_mend<A: Allocator + Copy>(
 /// their matched providers then.
 struct Line {
     posts: u8,
-    closing: &'static [Ends],
+    closing: &'static [Edge],
     first: usize,
     lost: u64,
 }
 
-fn is_kept<A: Allocator + Copy>(
-    kept: &mut Guarded<A>,
-    line: &Line,
-    closing: &[Edge],
-) -> Result<bool, AllocError> {
+fn is_kept<A: Allocator + Copy>(kept: &mut Guarded<A>, line: &Line) -> Result<bool, AllocError> {
     Ok(
         come_unmatched(kept)?
-            && come_matched(kept, line.posts, closing)?
+            && come_matched(kept, line.posts, line.closing)?
             && break_and_mend(kept, line.first, line.lost)?,
     )
 }
 
 fn holds<A: Allocator + Copy>(alloc: A, line: &Line) -> Result<bool, AllocError> {
-    let closing = edges_of(alloc, line.closing)?;
     let mut kept = Guarded::begin(alloc, SIZE)?;
-    is_kept(&mut kept, line, &closing)
+    is_kept(&mut kept, line)
 }
+
+/// The edge from the last node to the one before it.
+const LAST: Edge = Edge {
+    provider: 9_999,
+    head: 0,
+    waiter: 9_998,
+    post: 0,
+};
 
 // The last node waits for node 0. Where the middle one goes, none is matched, and each has one edge.
 const RING: Line = Line {
     posts: 1,
-    closing: &[(9_999, 0, 9_998, 0), (0, 0, 9_999, 0)],
+    closing: &[
+        LAST,
+        Edge {
+            provider: 0,
+            head: 0,
+            waiter: 9_999,
+            post: 0,
+        },
+    ],
     first: SIZE,
     lost: 10_000,
 };
@@ -106,7 +117,7 @@ fn ring_of_ten_thousand(rt: HostRuntime) {
 // one edge, but node 0.
 const CHAIN: Line = Line {
     posts: 0,
-    closing: &[(9_999, 0, 9_998, 0)],
+    closing: &[LAST],
     first: 5_001,
     lost: 5_000,
 };

@@ -1,8 +1,9 @@
 //! The part of a falling list on which a node rests. What is expected was worked out by hand.
 
 use crate::matching::edges::Ends;
-use crate::matching::graphs::{Asked, Graph, other_graph};
+use crate::matching::graphs::{Asked, Graph, Scratch};
 use crate::matching::growths::{Asking, PARTS};
+use crate::stores::other_of;
 use cq_match::Reason;
 use cq_tests_growths::refusals;
 
@@ -30,21 +31,21 @@ const EDGES: &[Ends] = &[
     (3, 0, 8, 1),
 ];
 
-const PARTS_OF_FALLS: [Graph; 5] = [
+const PARTS_OF_FALLS: &[Graph] = &[
+    // 4 is not able.
     Graph {
-        name: "4 is not able",
         nodes: NODES,
         edges: EDGES,
         asked: Asked::PartFor(4, &[(4, Reason::NotAble)]),
     },
+    // 2 rests on 9.
     Graph {
-        name: "2 rests on 9",
         nodes: NODES,
         edges: EDGES,
         asked: Asked::PartFor(2, &[(9, Reason::Unmet(0)), (2, Reason::Unmet(1))]),
     },
+    // 8 is crowded.
     Graph {
-        name: "8 is crowded",
         nodes: NODES,
         edges: EDGES,
         asked: Asked::PartFor(
@@ -57,42 +58,36 @@ const PARTS_OF_FALLS: [Graph; 5] = [
             ],
         ),
     },
+    // 6 is matched.
     Graph {
-        name: "6 is matched",
         nodes: NODES,
         edges: EDGES,
         asked: Asked::PartFor(6, &[]),
     },
+    // 7 is not there.
     Graph {
-        name: "7 is not there",
         nodes: NODES,
         edges: EDGES,
         asked: Asked::PartFor(7, &[]),
     },
 ];
 
-#[test]
-fn parts_of_falls(rt: HostRuntime) {
-    let other = other_graph(rt.alloc(), PARTS_OF_FALLS.as_slice());
-    assert!(rt; other.is_none(), "{other:?}");
-}
-
 // Each of three nodes waits for the next, and the last is missing. Node 5 supplies itself, and waits for somebody else too.
-const PARTS_OF_RINGS: [Graph; 3] = [
+const PARTS_OF_RINGS: &[Graph] = &[
+    // The first of a broken ring.
     Graph {
-        name: "the first of a broken ring",
         nodes: &[(0, 1, true), (1, 1, true)],
         edges: &[(1, 0, 0, 0)],
         asked: Asked::PartFor(0, &[(1, Reason::Unmet(0)), (0, Reason::Unmet(0))]),
     },
+    // The second of a broken ring.
     Graph {
-        name: "the second of a broken ring",
         nodes: &[(0, 1, true), (1, 1, true)],
         edges: &[(1, 0, 0, 0)],
         asked: Asked::PartFor(1, &[(1, Reason::Unmet(0))]),
     },
+    // 5 supplies itself.
     Graph {
-        name: "5 supplies itself",
         nodes: &[(5, 2, true)],
         edges: &[(5, 0, 5, 0)],
         asked: Asked::PartFor(5, &[(5, Reason::Unmet(1))]),
@@ -100,9 +95,9 @@ const PARTS_OF_RINGS: [Graph; 3] = [
 ];
 
 #[test]
-fn parts_of_rings(rt: HostRuntime) {
-    let other = other_graph(rt.alloc(), PARTS_OF_RINGS.as_slice());
-    assert!(rt; other.is_none(), "{other:?}");
+fn worked_parts(rt: HostRuntime) {
+    let other = other_of::<_, Scratch>(rt.alloc(), &[PARTS_OF_FALLS, PARTS_OF_RINGS]);
+    assert!(rt; other == Ok(None), "{other:?}");
 }
 
 #[test]

@@ -7,116 +7,100 @@ ghost use Rattle.cq_tests_stores.specs.Guarded.{HasEnds};
 ghost use Rattle.cq_tests_stores.specs.Reasons.{AreNumbered};
 
 use crate::matching::edges::edge;
-use crate::matching::graphs::{Asked, Graph, other_graph};
+use crate::matching::graphs::{Asked, Graph, Scratch};
+use crate::stores::other_of;
 use cq_match::{Edge, Fall, Reason, falling};
 use std::alloc::{AllocError, Allocator};
 
 // Nodes 4 and 5 are not able, and nothing supplies node 9. Then node 2 falls, two of whose postconditions are fed by
 // nodes that fell, and node 3; then node 8, one of whose postconditions node 3 and node 5 feed. Nodes 1 and 6 stay.
-const FALLS_IN_ROUNDS: [Graph; 1] = [Graph {
-    name: "eight nodes",
-    nodes: &[
-        (8, 2, true),
-        (3, 1, true),
-        (5, 0, false),
-        (1, 0, true),
-        (9, 1, true),
-        (6, 1, true),
-        (2, 3, true),
-        (4, 1, false),
-    ],
-    edges: &[
-        (5, 0, 8, 1),
-        (1, 0, 8, 0),
-        (3, 0, 8, 1),
-        (9, 0, 3, 0),
-        (1, 0, 6, 0),
-        (5, 0, 2, 2),
-        (9, 0, 2, 1),
-        (1, 0, 2, 0),
-    ],
-    asked: Asked::Falling(&[
-        (4, Reason::NotAble),
-        (5, Reason::NotAble),
-        (9, Reason::Unmet(0)),
-        (2, Reason::Unmet(1)),
-        (3, Reason::Unmet(0)),
-        (8, Reason::Unmet(1)),
-    ]),
-}];
-
-#[test]
-fn falls_in_rounds(rt: HostRuntime) {
-    let other = other_graph(rt.alloc(), FALLS_IN_ROUNDS.as_slice());
-    assert!(rt; other.is_none(), "{other:?}");
-}
+const FALLS_IN_ROUNDS: &[Graph] = &[ // Eight nodes.
+    Graph {
+        nodes: &[
+            (8, 2, true),
+            (3, 1, true),
+            (5, 0, false),
+            (1, 0, true),
+            (9, 1, true),
+            (6, 1, true),
+            (2, 3, true),
+            (4, 1, false),
+        ],
+        edges: &[
+            (5, 0, 8, 1),
+            (1, 0, 8, 0),
+            (3, 0, 8, 1),
+            (9, 0, 3, 0),
+            (1, 0, 6, 0),
+            (5, 0, 2, 2),
+            (9, 0, 2, 1),
+            (1, 0, 2, 0),
+        ],
+        asked: Asked::Falling(&[
+            (4, Reason::NotAble),
+            (5, Reason::NotAble),
+            (9, Reason::Unmet(0)),
+            (2, Reason::Unmet(1)),
+            (3, Reason::Unmet(0)),
+            (8, Reason::Unmet(1)),
+        ]),
+    },
+];
 
 // Each of three nodes waits for the next, and the last for the first.
-const RINGS: [Graph; 2] = [
+const RINGS: &[Graph] = &[
+    // Whole.
     Graph {
-        name: "whole",
         nodes: &[(0, 1, true), (1, 1, true), (2, 1, true)],
         edges: &[(1, 0, 0, 0), (2, 0, 1, 0), (0, 0, 2, 0)],
         asked: Asked::Falling(&[]),
     },
+    // The last is missing.
     Graph {
-        name: "the last is missing",
         nodes: &[(0, 1, true), (1, 1, true)],
         edges: &[(1, 0, 0, 0)],
         asked: Asked::Falling(&[(1, Reason::Unmet(0)), (0, Reason::Unmet(0))]),
     },
 ];
 
-#[test]
-fn a_ring_falls_where_a_member_is_missing(rt: HostRuntime) {
-    let other = other_graph(rt.alloc(), RINGS.as_slice());
-    assert!(rt; other.is_none(), "{other:?}");
-}
-
 // Node 5 waits for itself, and then for somebody else too.
-const SELF_SUPPLIERS: [Graph; 3] = [
+const SELF_SUPPLIERS: &[Graph] = &[
+    // For itself alone.
     Graph {
-        name: "for itself alone",
         nodes: &[(5, 1, true)],
         edges: &[(5, 0, 5, 0)],
         asked: Asked::Falling(&[]),
     },
+    // For another too.
     Graph {
-        name: "for another too",
         nodes: &[(5, 2, true)],
         edges: &[(5, 0, 5, 0)],
         asked: Asked::Falling(&[(5, Reason::Unmet(1))]),
     },
+    // No node.
     Graph {
-        name: "no node",
         nodes: &[],
         edges: &[],
         asked: Asked::Falling(&[]),
     },
 ];
 
-#[test]
-fn what_supplies_itself_stays(rt: HostRuntime) {
-    let other = other_graph(rt.alloc(), SELF_SUPPLIERS.as_slice());
-    assert!(rt; other.is_none(), "{other:?}");
-}
-
 // Each of two nodes waits for the other.
-const PAIRS: [Graph; 3] = [
+const PAIRS: &[Graph] = &[
+    // Both are able.
     Graph {
-        name: "both are able",
         nodes: &[(0, 1, true), (1, 1, true)],
         edges: &[(0, 0, 1, 0), (1, 0, 0, 0)],
         asked: Asked::Falling(&[]),
     },
+    // The second is not.
     Graph {
-        name: "the second is not",
         nodes: &[(0, 1, true), (1, 1, false)],
         edges: &[(0, 0, 1, 0), (1, 0, 0, 0)],
         asked: Asked::Falling(&[(1, Reason::NotAble), (0, Reason::Unmet(0))]),
     },
+    // Neither is.
     Graph {
-        name: "neither is",
         nodes: &[(0, 1, false), (1, 1, false)],
         edges: &[(0, 0, 1, 0), (1, 0, 0, 0)],
         asked: Asked::Falling(&[(0, Reason::NotAble), (1, Reason::NotAble)]),
@@ -124,9 +108,12 @@ const PAIRS: [Graph; 3] = [
 ];
 
 #[test]
-fn who_is_not_able_falls_first(rt: HostRuntime) {
-    let other = other_graph(rt.alloc(), PAIRS.as_slice());
-    assert!(rt; other.is_none(), "{other:?}");
+fn worked_falls(rt: HostRuntime) {
+    let other = other_of::<_, Scratch>(
+        rt.alloc(),
+        &[FALLS_IN_ROUNDS, RINGS, SELF_SUPPLIERS, PAIRS],
+    );
+    assert!(rt; other == Ok(None), "{other:?}");
 }
 
 const SIZE: usize = 10_000;
@@ -189,26 +176,23 @@ fn fall_backwards<A: Allocator + Copy>(
     Ok(falls.len() == nodes.len() && are_backwards(&falls))
 }
 
-fn chain_nodes<A: Allocator>(alloc: A) -> Result<Vec<(usize, u8, bool), A>, AllocError> {
-    let mut nodes = Vec::new(alloc);
-    for node in 0..SIZE {
-        nodes.push((node, 1, true))?;
-    }
-    Ok(nodes)
-}
-
-fn chain_edges<A: Allocator>(alloc: A) -> Result<Vec<Edge, A>, AllocError> {
-    let mut edges = Vec::new(alloc);
+/// A chain of nodes, each of which waits for the next. Nothing supplies the last.
+fn fill_chain<A: Allocator>(
+    nodes: &mut Vec<(usize, u8, bool), A>,
+    edges: &mut Vec<Edge, A>,
+) -> Result<(), AllocError> {
+    nodes.push((0, 1, true))?;
     for node in 1..SIZE {
+        nodes.push((node, 1, true))?;
         edges.push(edge(node, node - 1))?;
     }
-    Ok(edges)
+    Ok(())
 }
 
-/// A chain of nodes, each of which waits for the next. Nothing supplies the last.
 fn chain_falls<A: Allocator + Copy>(alloc: A) -> Result<bool, AllocError> {
-    let nodes = chain_nodes(alloc)?;
-    let edges = chain_edges(alloc)?;
+    let mut nodes = Vec::new(alloc);
+    let mut edges = Vec::new(alloc);
+    fill_chain(&mut nodes, &mut edges)?;
     fall_backwards(alloc, &nodes, &edges)
 }
 

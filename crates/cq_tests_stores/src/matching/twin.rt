@@ -31,12 +31,12 @@ fn provided<A: Allocator>(matcher: &Matcher<A>, edges: &[Edge]) -> u64 {
 }
 
 impl<A: Allocator + Copy> Twin<A> {
-    /// No nodes, with room for so many, whose numbers are below as many, and for so many edges.
-    pub fn begin(alloc: A, places: usize, edges: usize) -> Result<Twin<A>, AllocError> {
+    /// No nodes, whose numbers are below `places`.
+    pub fn begin(alloc: A, places: usize) -> Result<Twin<A>, AllocError> {
         Ok(Twin {
             kept: Guarded::begin(alloc, places)?,
-            nodes: Vec::with_capacity(alloc, places)?,
-            edges: Vec::with_capacity(alloc, edges)?,
+            nodes: Vec::new(alloc),
+            edges: Vec::new(alloc),
             meter: Meter::new(),
             lost: 0,
             places,
@@ -62,7 +62,7 @@ impl<A: Allocator + Copy> Twin<A> {
     }
 
     /// Goes on with a copy in place of the matcher.
-    pub fn go_on_with_copy(&mut self) -> Result<(), AllocError> {
+    pub fn go_on_with_copy(&mut self) -> Result<bool, AllocError> {
         self.kept.go_on_with_copy()
     }
 

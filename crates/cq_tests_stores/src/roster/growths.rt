@@ -1,78 +1,11 @@
 //! Each growth of a call refused in turn.
 
-use crate::roster::samples::{WORKED, lists, put, seated, stands_as};
-use cq_atom::{Bad, Name};
+use crate::roster::calls::Call;
+use crate::roster::orders::{SEATS, STANDS, WORKED};
+use crate::stores::{Trial, tried_at};
 use cq_roster::{Roster, Seat};
 use cq_tests_growths::{Outcome, Tried, refusals};
-use std::alloc::{AllocError, Allocator};
-
-/// A call of a roster.
-enum Call {
-    /// A name that is not there is added at place 1.
-    Add,
-    /// The seats are listed.
-    List,
-    /// The roster is copied.
-    Copy,
-}
-
-/// A call that is tried, and the seats before it.
-struct Trial {
-    before: &'static [Seat<&'static str>],
-    call: Call,
-}
-
-fn copy_has_all<A: Allocator + Copy>(roster: &Roster<A>, count: usize) -> Result<bool, AllocError> {
-    let copy = roster.copy()?;
-    Ok(copy.len() == count)
-}
-
-/// Whether the call answers right.
-fn is_made<A: Allocator + Copy>(
-    roster: &mut Roster<A>,
-    name: &Name<A>,
-    trial: &Trial,
-) -> Result<bool, AllocError> {
-    match &trial.call {
-        Call::Add => Ok(put(roster, name, 1)? && roster.place_of(name) == Some(1)),
-        Call::List => lists(roster, trial.before),
-        Call::Copy => copy_has_all(roster, trial.before.len()),
-    }
-}
-
-fn copy_stands_as<A: Allocator + Copy>(
-    alloc: A,
-    roster: &Roster<A>,
-    seats: &[Seat<&str>],
-) -> Result<bool, Bad> {
-    let copy = roster.copy()?;
-    stands_as(alloc, &copy, seats)
-}
-
-/// What came of the call. Where it was refused, the roster and a copy of it stand as before, and the call made again
-/// answers right.
-fn outcome<A: Allocator + Copy>(
-    alloc: A,
-    roster: &mut Roster<A>,
-    name: &Name<A>,
-    trial: &Trial,
-) -> Outcome {
-    match is_made(roster, name, trial) {
-        Ok(right) => Outcome::done_if(right),
-        Err(_) => Outcome::refused_if(
-            roster.place_of(name).is_none()
-                && matches!(stands_as(alloc, roster, trial.before), Ok(true))
-                && matches!(copy_stands_as(alloc, roster, trial.before), Ok(true))
-                && is_made(roster, name, trial) == Ok(true),
-        ),
-    }
-}
-
-fn tried_once<A: Allocator + Copy>(alloc: A, trial: &Trial) -> Result<Outcome, Bad> {
-    let name = Name::new(alloc, "dot")?;
-    let mut roster = seated(alloc, trial.before)?;
-    Ok(outcome(alloc, &mut roster, &name, trial))
-}
+use std::alloc::Allocator;
 
 const ADD: usize = 0;
 
@@ -82,25 +15,46 @@ const LIST: usize = 2;
 
 const COPY: usize = 3;
 
+/// The roster has no seat.
+const EMPTY: &[Call] = &[
+    Call::At("dot", None),
+    Call::Stands(&[]),
+    Call::CopyStands(&[]),
+];
+
 /// The trials, each at the place of its name.
-const TRIALS: [Trial; 4] = [
+const TRIALS: &[Trial<'static, Call>] = &[
     Trial {
-        before: &WORKED,
-        call: Call::Add,
+        before: &[WORKED],
+        tried: Call::Add("dot", 1),
+        shown: &[STANDS],
+        after: &[&[Call::At("dot", Some(1))]],
     },
     // The first name of all.
     Trial {
         before: &[],
-        call: Call::Add,
+        tried: Call::Add("dot", 1),
+        shown: &[EMPTY],
+        after: &[&[
+            Call::At("dot", Some(1)),
+            Call::Stands(&[Seat {
+                name: "dot",
+                place: 1,
+            }]),
+        ]],
     },
     // That the one growth is refused is made up for by smaller ones.
     Trial {
-        before: &WORKED,
-        call: Call::List,
+        before: &[WORKED],
+        tried: Call::Lists(SEATS),
+        shown: &[STANDS],
+        after: &[STANDS],
     },
     Trial {
-        before: &WORKED,
-        call: Call::Copy,
+        before: &[WORKED],
+        tried: Call::Copy,
+        shown: &[STANDS],
+        after: &[STANDS],
     },
 ];
 
@@ -109,10 +63,7 @@ struct Trying<const PLACE: usize>;
 
 impl<const PLACE: usize> Tried for Trying<PLACE> {
     fn tried<A: Allocator + Copy>(alloc: A) -> Outcome {
-        match TRIALS.as_slice().get(PLACE) {
-            Some(trial) => tried_once(alloc, trial).unwrap_or(Outcome::Unready),
-            None => Outcome::Wrong,
-        }
+        tried_at::<A, Roster<A>>(alloc, TRIALS, PLACE)
     }
 }
 

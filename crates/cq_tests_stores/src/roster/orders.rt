@@ -1,102 +1,89 @@
 //! The worked roster with ample memory.
 
-use crate::roster::samples::{WORKED, lists, put, seated, stands_as};
-use cq_atom::{Bad, Name};
+use crate::roster::calls::Call;
+use crate::stores::{Apart, other_apart, other_of};
 use cq_roster::{Roster, Seat};
-use std::alloc::Allocator;
 
-fn is_absent<A: Allocator + Copy>(alloc: A, roster: &Roster<A>, text: &str) -> Result<bool, Bad> {
-    let name = Name::new(alloc, text)?;
-    Ok(roster.place_of(&name).is_none())
-}
+const CYD: Seat<&str> = Seat {
+    name: "cyd",
+    place: 7,
+};
 
-fn is_in_order<A: Allocator + Copy>(alloc: A, roster: &Roster<A>) -> Result<bool, Bad> {
-    Ok(
-        stands_as(alloc, roster, &WORKED)?
-            && lists(roster, &WORKED)?
-            && is_absent(alloc, roster, "dot")?,
-    )
-}
+const ANN: Seat<&str> = Seat {
+    name: "ann",
+    place: 0,
+};
 
-fn order_holds<A: Allocator + Copy>(alloc: A) -> Result<bool, Bad> {
-    let roster = seated(alloc, &WORKED)?;
-    is_in_order(alloc, &roster)
-}
+const BOB: Seat<&str> = Seat {
+    name: "bob",
+    place: 3,
+};
+
+/// The seats of the worked roster.
+pub const SEATS: &[Seat<&str>] = &[CYD, ANN, BOB];
+
+/// The worked roster, in the order in which the seats come.
+pub const WORKED: &[Call] = &[
+    Call::Add("cyd", 7),
+    Call::Add("ann", 0),
+    Call::Add("bob", 3),
+];
+
+/// What it shows.
+pub const STANDS: &[Call] = &[
+    Call::Stands(SEATS),
+    Call::CopyStands(SEATS),
+    Call::Lists(SEATS),
+    Call::At("cyd", Some(7)),
+    Call::At("ann", Some(0)),
+    Call::At("bob", Some(3)),
+    Call::At("dot", None),
+];
 
 #[test]
 fn seats_stand_as_they_came(rt: HostRuntime) {
-    assert!(rt; matches!(order_holds(rt.alloc()), Ok(true)));
+    let other = other_of::<_, Roster>(rt.alloc(), &[WORKED, STANDS]);
+    assert!(rt; other == Ok(None), "{other:?}");
 }
 
-/// The worked seats once the first name went and came again at a place of its own.
-const AGAIN: [Seat<&str>; 3] = [
-    Seat {
-        name: "ann",
-        place: 0,
-    },
-    Seat {
-        name: "bob",
-        place: 3,
-    },
-    Seat {
-        name: "cyd",
-        place: 1,
-    },
+/// The first name goes, and comes again at a place of its own.
+const AGAIN: &[Call] = &[
+    Call::Leave("cyd", 7),
+    Call::Stands(&[ANN, BOB]),
+    Call::Add("cyd", 1),
+    Call::Stands(&[
+        ANN,
+        BOB,
+        Seat {
+            name: "cyd",
+            place: 1,
+        },
+    ]),
+    Call::At("cyd", Some(1)),
+    Call::At("ann", Some(0)),
+    Call::At("bob", Some(3)),
 ];
-
-/// Takes the name away, and answers whether it had the place, and then none.
-fn leaves<A: Allocator + Copy>(roster: &mut Roster<A>, name: &Name<A>, place: usize) -> bool {
-    roster.remove(name) == Some(place)
-        && roster.remove(name).is_none()
-        && roster.place_of(name).is_none()
-}
-
-/// Whether the name leaves the worked roster, and comes again to go last.
-fn comes_again<A: Allocator + Copy>(
-    alloc: A,
-    roster: &mut Roster<A>,
-    name: &Name<A>,
-) -> Result<bool, Bad> {
-    Ok(
-        leaves(roster, name, 7)
-            && stands_as(alloc, roster, &AGAIN[..2])?
-            && put(roster, name, 1)?
-            && stands_as(alloc, roster, &AGAIN)?,
-    )
-}
-
-fn again_holds<A: Allocator + Copy>(alloc: A) -> Result<bool, Bad> {
-    let mut roster = seated(alloc, &WORKED)?;
-    let name = Name::new(alloc, "cyd")?;
-    comes_again(alloc, &mut roster, &name)
-}
 
 #[test]
 fn posted_again_goes_last(rt: HostRuntime) {
-    assert!(rt; matches!(again_holds(rt.alloc()), Ok(true)));
+    let other = other_of::<_, Roster>(rt.alloc(), &[WORKED, AGAIN]);
+    assert!(rt; other == Ok(None), "{other:?}");
 }
 
-/// Whether the copy stands once the name has left the worked roster.
-fn stands_alone<A: Allocator + Copy>(
-    alloc: A,
-    roster: &mut Roster<A>,
-    copy: &Roster<A>,
-) -> Result<bool, Bad> {
-    let name = Name::new(alloc, "ann")?;
-    Ok(
-        leaves(roster, &name, 0)
-            && stands_as(alloc, copy, &WORKED)?
-            && !stands_as(alloc, roster, &WORKED)?,
-    )
-}
-
-fn copy_holds<A: Allocator + Copy>(alloc: A) -> Result<bool, Bad> {
-    let mut roster = seated(alloc, &WORKED)?;
-    let copy = roster.copy()?;
-    stands_alone(alloc, &mut roster, &copy)
-}
+/// A name leaves the roster, and each of two copies still has it.
+const APART: Apart<'static, Call> = Apart {
+    before: &[WORKED],
+    calls: &[
+        (0, Call::Leave("ann", 0)),
+        (1, Call::Stands(SEATS)),
+        (1, Call::At("ann", Some(0))),
+        (2, Call::Stands(SEATS)),
+        (0, Call::Stands(&[CYD, BOB])),
+    ],
+};
 
 #[test]
 fn copy_stands_by_itself(rt: HostRuntime) {
-    assert!(rt; matches!(copy_holds(rt.alloc()), Ok(true)));
+    let other = other_apart::<_, Roster>(rt.alloc(), &APART);
+    assert!(rt; other == Ok(None), "{other:?}");
 }

@@ -2,7 +2,7 @@ use Rattle.std.proofs.Common.{◌≡◌, ℕ, nat_eq, List, [], ◌∷◌, map, 
 use Rattle.std.specs.Borrow.{Bor}
 use Rattle.std.specs.List.{list_any}
 use Rattle.cq_roster.specs.Roster.{SeatRecord, is_taken_place}
-use Rattle.cq_tests_stores.proofs.roster.samples.has_place.Goals as goal
+use Rattle.cq_tests_stores.proofs.roster.calls.has_place.Goals as goal
 
 -- the places of what is referred to
 taken : (place : ℕ) (seats : List (Bor SeatRecord)) → list_any (λ seat. nat_eq place seat.now.place) seats ≡ is_taken_place place (map (λ seat. seat.now) seats)

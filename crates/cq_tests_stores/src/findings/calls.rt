@@ -1,0 +1,178 @@
+//! Calls of findings, and of the tables that they are over, as the tests have them.
+
+use crate::stores::{Copied, Store, go_on_with_copy};
+use crate::texts::{Given, query, row};
+use cq_atom::{Meter, Query, Row};
+use cq_findings::Findings;
+use cq_rel::{Catalog, CatalogFault, Tables};
+use std::alloc::{AllocError, Allocator, Global};
+
+/// Tables over `T` of arity 2 and `U` of arity 1, and findings over them.
+#[derive(Drop)]
+pub struct Sample<A: Allocator = Global> {
+    tables: Tables<A>,
+    findings: Findings<A>,
+}
+
+/// A call of a sample.
+pub enum Call {
+    /// The query is put, and this is its place.
+    Add(&'static str, usize),
+    /// The row comes into the tables, which do not have it.
+    Come(&'static str),
+    /// The findings are brought up to the row, which has come, with so many visits.
+    Gain(&'static str, u64),
+    /// The row goes from the findings, with so many visits, and from the tables.
+    Lose(&'static str, u64),
+    /// The query at the place is taken away.
+    Withdraw(usize),
+    /// Whether a query stands at the place.
+    Has(usize, bool),
+    /// The places 0, 1, .. have so many groundings, and nothing stands at the next one.
+    Counts(&'static [usize]),
+    /// These are the readers of the relation.
+    Readers(&'static str, &'static [usize]),
+    /// A copy takes the place of the findings.
+    Copy,
+}
+
+fn declare<A: Allocator + Copy>(catalog: &mut Catalog<A>) -> Result<(), CatalogFault> {
+    catalog.declare("T", 2)?;
+    catalog.declare("U", 1)
+}
+
+fn begun_tables<A: Allocator + Copy>(alloc: A) -> Result<Tables<A>, AllocError> {
+    let mut catalog = Catalog::empty(alloc);
+    if declare(&mut catalog).is_err() {
+        return Err(AllocError);
+    }
+    Tables::begin(catalog)
+}
+
+/// Whether the query gets the place, by one visit.
+fn is_put<A: Allocator + Copy>(
+    findings: &mut Findings<A>,
+    tables: &Tables<A>,
+    query: &Query<A>,
+    place: usize,
+) -> Result<bool, AllocError> {
+    let mut visits = Meter::new();
+    let at = findings.add(query, tables, &mut visits)?;
+    Ok(at == place && visits.count() == 1)
+}
+
+/// Whether the row comes; a row that is there is want of memory.
+fn comes<A: Allocator + Copy>(tables: &mut Tables<A>, row: &Row<A>) -> Result<bool, AllocError> {
+    match tables.insert(row.copy()?) {
+        Ok(()) => Ok(true),
+        Err(_) => Err(AllocError),
+    }
+}
+
+fn is_gained<A: Allocator + Copy>(
+    findings: &mut Findings<A>,
+    tables: &Tables<A>,
+    row: &Row<A>,
+    told: u64,
+) -> Result<bool, AllocError> {
+    let mut visits = Meter::new();
+    findings.gain(tables, row, &mut visits)?;
+    Ok(visits.count() == told)
+}
+
+fn is_lost<A: Allocator + Copy>(
+    findings: &mut Findings<A>,
+    tables: &mut Tables<A>,
+    row: &Row<A>,
+    told: u64,
+) -> bool {
+    let mut visits = Meter::new();
+    findings.lose(row, &mut visits);
+    tables.delete(row) == Ok(()) && visits.count() == told
+}
+
+/// Takes the query away that stands at the place. Answers whether one stood there, and none does now.
+fn is_withdrawn<A: Allocator + Copy>(findings: &mut Findings<A>, place: usize) -> bool {
+    if !findings.has(place) {
+        return false;
+    }
+    findings.remove(place);
+    !findings.has(place) && findings.query(place).is_none()
+}
+
+fn count_at<A: Allocator + Copy>(findings: &Findings<A>, place: usize) -> Option<usize> {
+    match findings.groundings(place) {
+        Some(found) => Some(found.count()),
+        None => None,
+    }
+}
+
+fn are_counts<A: Allocator + Copy>(findings: &Findings<A>, counts: &[usize]) -> bool {
+    for (place, count) in counts.iter().enumerate() {
+        if !findings.has(place) || count_at(findings, place) != Some(*count) {
+            return false;
+        }
+    }
+    !findings.has(counts.len())
+}
+
+impl<A: Allocator + Copy> Copied for Findings<A> {
+    fn copied(&self) -> Result<Findings<A>, AllocError> {
+        self.copy()
+    }
+}
+
+impl<A: Allocator + Copy> Copied for Sample<A> {
+    fn copied(&self) -> Result<Sample<A>, AllocError> {
+        let tables = self.tables.copy()?;
+        Ok(Sample {
+            tables,
+            findings: self.findings.copy()?,
+        })
+    }
+}
+
+impl<A: Allocator + Copy> Store<A> for Sample<A> {
+    type Call = Call;
+
+    type Given = Given<A>;
+
+    fn begin(alloc: A) -> Result<Sample<A>, AllocError> {
+        let tables = begun_tables(alloc)?;
+        Ok(Sample {
+            tables,
+            findings: Findings::begin(alloc),
+        })
+    }
+
+    fn given(alloc: A, call: &Call) -> Result<Given<A>, AllocError> {
+        match call {
+            Call::Add(text, _) => query(alloc, text),
+            Call::Come(text) | Call::Gain(text, _) | Call::Lose(text, _) => { row(alloc, text) }
+            _ => Ok(Given::Nothing),
+        }
+    }
+
+    fn make(&mut self, _alloc: A, call: &Call, given: &Given<A>) -> Result<bool, AllocError> {
+        match (call, given) {
+            (Call::Add(_, place), Given::Query(query)) => {
+                is_put(&mut self.findings, &self.tables, query, *place)
+            }
+            (Call::Come(_), Given::Row(row)) => comes(&mut self.tables, row),
+            (Call::Gain(_, told), Given::Row(row)) => {
+                is_gained(&mut self.findings, &self.tables, row, *told)
+            }
+            (Call::Lose(_, told), Given::Row(row)) => {
+                Ok(is_lost(&mut self.findings, &mut self.tables, row, *told))
+            }
+            (Call::Withdraw(place), _) => Ok(is_withdrawn(&mut self.findings, *place)),
+            (Call::Has(place, there), _) => Ok(self.findings.has(*place) == *there),
+            (Call::Counts(counts), _) => Ok(are_counts(&self.findings, counts)),
+            (Call::Readers(relation, places), _) => {
+                Ok(self.findings.readers(relation) == *places)
+            }
+            (Call::Copy, _) => go_on_with_copy(&mut self.findings),
+            _ => Ok(false),
+        }
+    }
+}

@@ -1,0 +1,218 @@
+//! Stores that tables of calls drive. What drives them is generic in the store, since what is known of a store that is
+//! owned would be too much.
+
+use cq_tests_growths::Outcome;
+use std::alloc::{AllocError, Allocator};
+use std::mem::{drop, replace};
+
+/// A store, or what is asked as one.
+pub trait Store<A: Allocator + Copy>: Drop {
+    /// A call as a table has it, with what it is to show.
+    type Call;
+    /// What a call is made with.
+    type Given: Drop;
+
+    /// The store before the first call.
+    fn begin(alloc: A) -> Result<Self, AllocError>;
+
+    /// What the call is made with.
+    fn given(alloc: A, call: &Self::Call) -> Result<Self::Given, AllocError>;
+
+    /// Makes the call, and answers whether it is allowed and shows what it is to show.
+    fn make(
+        &mut self,
+        alloc: A,
+        call: &Self::Call,
+        given: &Self::Given,
+    ) -> Result<bool, AllocError>;
+}
+
+/// What can be copied.
+pub trait Copied: Drop {
+    fn copied(&self) -> Result<Self, AllocError>;
+}
+
+/// Goes on with a copy in place of the store.
+pub fn go_on_with_copy<S: Copied>(store: &mut S) -> Result<bool, AllocError> {
+    let copy = store.copied()?;
+    drop(replace(store, copy));
+    Ok(true)
+}
+
+fn is_right<A: Allocator + Copy, S: Store<A>>(
+    alloc: A,
+    store: &mut S,
+    call: &S::Call,
+) -> Result<bool, AllocError> {
+    let given = S::given(alloc, call)?;
+    store.make(alloc, call, &given)
+}
+
+/// The place of the first call that shows something else.
+fn other_in<A: Allocator + Copy, S: Store<A>>(
+    alloc: A,
+    store: &mut S,
+    calls: &[S::Call],
+) -> Result<Option<usize>, AllocError> {
+    for (place, call) in calls.iter().enumerate() {
+        if !is_right(alloc, store, call)? {
+            return Ok(Some(place));
+        }
+    }
+    Ok(None)
+}
+
+/// The same of calls in parts: the place of the part, and that in it.
+fn other_call<A: Allocator + Copy, S: Store<A>>(
+    alloc: A,
+    store: &mut S,
+    parts: &[&[S::Call]],
+) -> Result<Option<(usize, usize)>, AllocError> {
+    for (part, calls) in parts.iter().enumerate() {
+        if let Some(place) = other_in(alloc, store, calls)? {
+            return Ok(Some((part, place)));
+        }
+    }
+    Ok(None)
+}
+
+/// The same of a store that begins.
+pub fn other_of<A: Allocator + Copy, S: Store<A>>(
+    alloc: A,
+    parts: &[&[S::Call]],
+) -> Result<Option<(usize, usize)>, AllocError> {
+    let mut store = S::begin(alloc)?;
+    other_call(alloc, &mut store, parts)
+}
+
+/// The same of cases, for each of which a store begins: the place of the case, and that in it.
+pub fn other_case<A: Allocator + Copy, S: Store<A>>(
+    alloc: A,
+    cases: &[&[S::Call]],
+) -> Result<Option<(usize, usize)>, AllocError> {
+    for (place, case) in cases.iter().enumerate() {
+        if let Some((_, call)) = other_of::<A, S>(alloc, &[case])? {
+            return Ok(Some((place, call)));
+        }
+    }
+    Ok(None)
+}
+
+/// Calls of a store, and then calls of it, which is 0, and of two copies that are made of it, 1 and 2.
+pub struct Apart<'t, C> {
+    pub before: &'t [&'t [C]],
+    pub calls: &'t [(usize, C)],
+}
+
+fn other_of_three<A: Allocator + Copy, S: Store<A>>(
+    alloc: A,
+    store: &mut S,
+    one: &mut S,
+    other: &mut S,
+    calls: &[(usize, S::Call)],
+) -> Result<Option<usize>, AllocError> {
+    for (place, (number, call)) in calls.iter().enumerate() {
+        let right = match *number {
+            0 => is_right(alloc, store, call)?,
+            1 => is_right(alloc, one, call)?,
+            _ => is_right(alloc, other, call)?,
+        };
+        if !right {
+            return Ok(Some(place));
+        }
+    }
+    Ok(None)
+}
+
+fn other_beside_one<A: Allocator + Copy, S: Store<A> + Copied>(
+    alloc: A,
+    store: &mut S,
+    one: &mut S,
+    calls: &[(usize, S::Call)],
+) -> Result<Option<usize>, AllocError> {
+    let mut other = store.copied()?;
+    other_of_three(alloc, store, one, &mut other, calls)
+}
+
+fn other_of_copies<A: Allocator + Copy, S: Store<A> + Copied>(
+    alloc: A,
+    store: &mut S,
+    apart: &Apart<S::Call>,
+) -> Result<Option<usize>, AllocError> {
+    if other_call(alloc, store, apart.before)?.is_some() {
+        return Err(AllocError);
+    }
+    let mut one = store.copied()?;
+    other_beside_one(alloc, store, &mut one, apart.calls)
+}
+
+/// The place of the first call behind the copying that shows something else.
+pub fn other_apart<A: Allocator + Copy, S: Store<A> + Copied>(
+    alloc: A,
+    apart: &Apart<S::Call>,
+) -> Result<Option<usize>, AllocError> {
+    let mut store = S::begin(alloc)?;
+    other_of_copies(alloc, &mut store, apart)
+}
+
+/// A call whose growths are refused, and calls that show what stands: before it and where it was refused, and behind it.
+pub struct Trial<'t, C> {
+    pub before: &'t [&'t [C]],
+    pub tried: C,
+    pub shown: &'t [&'t [C]],
+    pub after: &'t [&'t [C]],
+}
+
+/// What came of the call. Behind one that was refused all stands as before, and the call made again is right. What is
+/// refused behind the call is no refusal of it.
+fn outcome<A: Allocator + Copy, S: Store<A>>(
+    alloc: A,
+    store: &mut S,
+    trial: &Trial<S::Call>,
+    given: &S::Given,
+) -> Outcome {
+    match store.make(alloc, &trial.tried, given) {
+        Ok(right) => Outcome::done_if(
+            right && matches!(other_call(alloc, store, trial.after), Ok(None) | Err(_)),
+        ),
+        Err(_) => Outcome::refused_if(
+            other_call(alloc, store, trial.shown) == Ok(None)
+                && store.make(alloc, &trial.tried, given) == Ok(true)
+                && other_call(alloc, store, trial.after) == Ok(None),
+        ),
+    }
+}
+
+fn tried_behind<A: Allocator + Copy, S: Store<A>>(
+    alloc: A,
+    store: &mut S,
+    trial: &Trial<S::Call>,
+) -> Result<Outcome, AllocError> {
+    if other_call(alloc, store, trial.before)?.is_some()
+        || other_call(alloc, store, trial.shown)?.is_some()
+    {
+        return Ok(Outcome::Wrong);
+    }
+    let given = S::given(alloc, &trial.tried)?;
+    Ok(outcome(alloc, store, trial, &given))
+}
+
+fn tried_once<A: Allocator + Copy, S: Store<A>>(
+    alloc: A,
+    trial: &Trial<S::Call>,
+) -> Result<Outcome, AllocError> {
+    let mut store = S::begin(alloc)?;
+    tried_behind(alloc, &mut store, trial)
+}
+
+/// What came of the trial at the place.
+pub fn tried_at<A: Allocator + Copy, S: Store<A>>(
+    alloc: A,
+    trials: &[Trial<S::Call>],
+    place: usize,
+) -> Outcome {
+    match trials.get(place) {
+        Some(trial) => tried_once::<A, S>(alloc, trial).unwrap_or(Outcome::Unready),
+        None => Outcome::Wrong,
+    }
+}
