@@ -1,9 +1,14 @@
 -- The numbers of the queries that wait.
-use Rattle.std.proofs.Common.{◌≡◌, ℕ, ◌+◌, zero-add, ◌<◌, Bool, true, false, List, [], ◌∷◌, length, map, get_or, refl, sym, ap, subst, ◌∙◌, arith, Some}
-use Rattle.std.specs.Prelude.{not, Result, Ok, Err, IfOk}
+use Rattle.std.proofs.Common.{◌≡◌, ℕ, ◌+◌, zero-add, add-zero, ◌<◌, ◌≤◌, Bool, true, false, eqb, cond, List, [], ◌∷◌, ◌++◌, length, map, take, get_or, refl, sym, ap, subst, ◌∙◌, arith, Some}
+use Rattle.std.specs.Prelude.{not, if◌then◌else◌, Result, Ok, Err, IfOk, Option, None}
 use Rattle.std.specs.List.{All, Contains, enumerate_from, position, position_or_len, prefix_len}
 use Rattle.std.specs.Str.{bytes_eq}
-use Rattle.std.proofs.lemmas.List.{get_or-map, length-map}
+use Rattle.std.specs.Option.{is_some}
+use Rattle.std.proofs.lemmas.Bool.{eq-eqb, ltb-true, ltb-false, lt-ltb, le-ltb, ne_eqb}
+use Rattle.std.proofs.Math.Dec.{ltb}
+use Rattle.std.proofs.lemmas.List.{get_or-map, length-map, length-take-le, length-append, take_more}
+use Rattle.std.proofs.lemmas.List.Folds.{position_or_len_push}
+use Rattle.std.proofs.lemmas.List.Sums.{prefix_len-le-length}
 use Rattle.std.proofs.lemmas.List.Elements.{All-filter, All-from_get_or, Contains-get_or}
 use Rattle.std.proofs.lemmas.List.FromFn.{get_or-enumerate_from, length-enumerate_from}
 use Rattle.std.proofs.lemmas.List.Quantifiers.{position-Some}
@@ -19,6 +24,7 @@ use Rattle.cq_board.specs.Board.{is_able, is_matched_at, nodes_of, place_of}
 use Rattle.cq_board.specs.Waiting.{is_waiting}
 use Rattle.cq_board.proofs.Pieces.{by_bool}
 use Rattle.cq_show.specs.Steps.Falls.{AreFalls}
+use Rattle.cq_show.specs.Steps.Resting.{first_of}
 
 -- what three clauses say of a value
 pub all_three : {X Y : Type 0} (r : Result X Y) (P Q R S : X → Type 0) → ((x : X) → P x → Q x → R x → S x) → IfOk r P → IfOk r Q → IfOk r R → IfOk r S
@@ -58,7 +64,7 @@ module _ (pool : PoolRecord) where
       subst (Contains (numbers (nodes_of pool))) (number_at n 0 low)
       (Contains-get_or (numbers (nodes_of pool)) n 0 (let m = how_many in omega (arith, low, m)))
 
-  falls_low : (falls : List Fall) → AreFalls pool falls → All (λ (fall : Fall). fall.node < length pool.pending) falls
+  pub falls_low : (falls : List Fall) → AreFalls pool falls → All (λ (fall : Fall). fall.node < length pool.pending) falls
   falls_low falls all =
       let d : Fall = record { node = 0; reason = NotAble } in
       All-from_get_or (λ (fall : Fall). fall.node < length pool.pending) falls d
@@ -100,3 +106,47 @@ number_is_place {X} name read xs pending same =
     let many : length xs ≡ length pending = sym (length-map xs read) ∙ ap length same ∙ length-map pending name_of in
     let front : position_or_len (λ (x : X). bytes_eq name (read x)) xs ≡ position_or_len (is_named name) pending = sym (prefix_map other read xs) ∙ ap (prefix_len other) same ∙ prefix_map other name_of pending in
     rw (front, many) refl
+
+-- one more name is numbered
+pub position_more : {X : Type 0} (p : X → Bool) (xs : List X) (i : ℕ) (d : X) → i < length xs → position p (take (i + 1) xs) ≡ first_of (position p (take i xs)) (if p (get_or xs i d) then Some i else None)
+position_more {X} p xs i d low =
+    let front = take i xs in
+    let x = get_or xs i d in
+    let at = position_or_len p front in
+    let many : length front ≡ i = length-take-le i xs (omega (arith, low)) in
+    let longer : take (i + 1) xs ≡ front ++ x ∷ [] = take_more xs i d low in
+    let grown : length (front ++ x ∷ []) ≡ i + 1 = length-append front (x ∷ []) ∙ ap (λ (n : ℕ). n + 1) many in
+    let push : position_or_len p (front ++ x ∷ []) ≡ cond (eqb at (length front)) (length front + cond (p x) 0 1) at = position_or_len_push p front x in
+    ap (position p) longer ∙
+    by_bool (ltb at (length front)) (position p (front ++ x ∷ []) ≡ first_of (position p front) (if p x then Some i else None))
+    (λ t.
+    let less : at < length front = ltb-true at (length front) t in
+    let other : eqb at (length front) ≡ false = ne_eqb at (length front) (λ e. let equal : at ≡ length front = e in omega (arith, less, equal)) in
+    let stays : position_or_len p (front ++ x ∷ []) ≡ at = push ∙ rw other refl in
+    let under : ltb at (length (front ++ x ∷ [])) ≡ true = lt-ltb at (length (front ++ x ∷ [])) (omega (arith, less, many, grown)) in
+    rw (stays, under, t) refl)
+    (λ f.
+    let over : length front ≤ at = ltb-false at (length front) f in
+    let at_end : at ≡ length front = let most = prefix_len-le-length (λ y. not (p y)) front in omega (arith, over, most) in
+    let here : eqb at (length front) ≡ true = eq-eqb at (length front) at_end in
+    by_bool (p x) (position p (front ++ x ∷ []) ≡ first_of (position p front) (if p x then Some i else None))
+    (λ y.
+    let stays : position_or_len p (front ++ x ∷ []) ≡ i = push ∙ rw (here, y) (add-zero (length front) ∙ many) in
+    let under : ltb i (length (front ++ x ∷ [])) ≡ true = lt-ltb i (length (front ++ x ∷ [])) (omega (arith, grown)) in
+    rw (stays, under, f, y) refl)
+    (λ n.
+    let past : position_or_len p (front ++ x ∷ []) ≡ i + 1 = push ∙ rw (here, n) (ap (λ (m : ℕ). m + 1) many) in
+    let over_all : ltb (i + 1) (length (front ++ x ∷ [])) ≡ false = le-ltb (i + 1) (length (front ++ x ∷ [])) (omega (arith, grown)) in
+    rw (past, over_all, f, n) refl))
+
+pub first_alone : (found : Option ℕ) → first_of found None ≡ found
+first_alone None = refl
+first_alone (Some n) = refl
+
+pub first_there : (found other : Option ℕ) → is_some found ≡ true → first_of found other ≡ found
+first_there None other h = absurd (let never : false ≡ true = h in cc)
+first_there (Some n) other h = refl
+
+pub first_new : (found other : Option ℕ) → is_some found ≡ false → first_of found other ≡ other
+first_new None other h = refl
+first_new (Some n) other h = absurd (let never : false ≡ true = sym h in cc)

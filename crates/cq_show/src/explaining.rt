@@ -1,8 +1,8 @@
 //! Why the queries of a board wait, put on a page line by line.
 
-ghost use Rattle.std.specs.Prelude.{◌≡◌, ◌<◌, ◌==◌, length, map, filter, string_bytes, true, false, [], Some, IfOk, OnOk};
-ghost use Rattle.std.specs.List.{All, position};
-ghost use Rattle.std.specs.List.Sorted.{IsNonDecreasingBy};
+ghost use Rattle.std.specs.Prelude.{◌≡◌, ◌<◌, ◌==◌, ℕ, List, length, map, filter, string_bytes, true, false, [], Some, IfOk, OnOk};
+ghost use Rattle.std.specs.HashMap.{get_by};
+ghost use Rattle.std.specs.List.{All};
 ghost use Rattle.std.specs.Option.{option_copied};
 ghost use Rattle.std.specs.Str.{bytes_eq};
 ghost use Rattle.cq_match.specs.Falling.{IsUnmatched};
@@ -13,24 +13,32 @@ ghost use Rattle.cq_board.specs.Named.{matched_named};
 ghost use Rattle.cq_board.specs.Near.{miss_read, post_named};
 ghost use Rattle.cq_board.specs.Waiting.{is_waiting, IsReasonPart};
 ghost use Rattle.cq_show.specs.Steps.Falls.{AreFalls};
+ghost use Rattle.cq_show.specs.Steps.Resting.{ArePlaces};
 ghost use Rattle.cq_show.specs.Explain.{ArePieces, AreProviders, IsExplanation, atom_or_none, head_named, name_of_number, near_words, missing_words, wait_word, only_words, IsUnmetTold, IsReasonTold, IsStep, IsToldBy, IsTold, waiting_names};
 
 use crate::listing::{Listing, name_or_none};
+use crate::numbering::{Numbers, numbers_of};
+use crate::resting::{edges_into, part_at, place_in, places_of};
 use cq_atom::{Atom, Bad, Name};
 use cq_board::{Board, NearMiss};
-use cq_match::{Edge, Fall, Reason, part_for};
+use cq_match::{Edge, Fall, Reason};
 use cq_text::print_atom;
 use std::alloc::{AllocError, Allocator};
 
-/// A board, the names of its pending queries in posting order, all edges, and the falls of the queries that wait.
+/// A board, the names of its pending queries in posting order, all edges, and the falls of the queries that wait; the number of
+/// each name, and the place of each fall by its number.
 #[derive(Drop)]
-struct Fallen<'a, A: Allocator> {
+struct Fallen<'a, 'n, A: Allocator> {
     board: &'a Board<A>,
     names: &'a [&'a Name<A>],
     edges: &'a [Edge],
     falls: &'a [Fall],
+    numbers: &'a Numbers<'n, A>,
+    places: &'a [usize],
     ghost named: { map (λ name. name.now) names.now ≡ map name_of board.now.pending },
     ghost listed: { edges.now ≡ edges_of board.now.pending },
+    ghost numbered: { (name : List ℕ) → get_by (λ k. bytes_eq name k.now) numbers.now ≡ place_of name board.now.pending },
+    ghost placed: { ArePlaces falls.now places.now },
 }
 
 /// The atom in its printed form; nothing where there is none.
@@ -128,18 +136,6 @@ fn missing<A: Allocator + Copy>(
     missing_words(alloc, board, &near)
 }
 
-/// The edges to the query of that number, which stand side by side.
-fn edges_into(edges: &[Edge], waiter: usize) -> &[Edge]
-    requires { IsNonDecreasingBy (λ edge. edge.waiter) edges.now }
-    ensures { result.now ≡ filter (λ edge. edge.waiter == waiter) edges.now }
-{
-    let below = edges.partition_point(|edge| edge.waiter < waiter);
-    let (_, rest) = edges.split_at(below);
-    let count = rest.partition_point(|edge| edge.waiter <= waiter);
-    let (at, _) = rest.split_at(count);
-    at
-}
-
 /// The numbers of the queries from which those of the edges come that lead to a postcondition at that place.
 fn senders<A: Allocator>(alloc: A, edges: &[Edge], post: u8) -> Result<Vec<usize, A>, AllocError>
     ensures { IfOk result (λ senders. senders.items ≡ map (λ edge. edge.provider) (filter (λ edge. edge.post == post) edges.now)) }
@@ -156,7 +152,7 @@ fn senders<A: Allocator>(alloc: A, edges: &[Edge], post: u8) -> Result<Vec<usize
 /// The numbers of the providers of a postcondition, each once.
 fn providers_of<A: Allocator + Copy>(
     alloc: A,
-    fallen: &Fallen<'_, A>,
+    fallen: &Fallen<'_, '_, A>,
     waiter: usize,
     post: u8,
 ) -> Result<Vec<usize, A>, AllocError>
@@ -218,7 +214,7 @@ fn unmet<A: Allocator + Copy>(
 /// What is told of an unmet postcondition, whose providers have these numbers.
 fn unmet_words<A: Allocator + Copy>(
     alloc: A,
-    fallen: &Fallen<'_, A>,
+    fallen: &Fallen<'_, '_, A>,
     name: &Name<A>,
     post: u8,
     providers: &[usize],
@@ -235,7 +231,7 @@ fn unmet_words<A: Allocator + Copy>(
 
 fn post_reason<A: Allocator + Copy>(
     alloc: A,
-    fallen: &Fallen<'_, A>,
+    fallen: &Fallen<'_, '_, A>,
     name: &Name<A>,
     waiter: usize,
     post: u8,
@@ -252,7 +248,7 @@ fn post_reason<A: Allocator + Copy>(
 
 fn reason_words<A: Allocator + Copy>(
     alloc: A,
-    fallen: &Fallen<'_, A>,
+    fallen: &Fallen<'_, '_, A>,
     name: &Name<A>,
     fall: &Fall,
 ) -> Result<String<A>, AllocError>
@@ -266,7 +262,7 @@ fn reason_words<A: Allocator + Copy>(
 
 fn step_line<A: Allocator + Copy>(
     alloc: A,
-    fallen: &Fallen<'_, A>,
+    fallen: &Fallen<'_, '_, A>,
     fall: &Fall,
 ) -> Result<String<A>, AllocError>
     requires { fall.now.node < length fallen.now.names.now }
@@ -282,7 +278,7 @@ fn step_line<A: Allocator + Copy>(
 /// Puts a step for each of the falls on an empty page.
 fn put_steps<A: Allocator + Copy>(
     alloc: A,
-    fallen: &Fallen<'_, A>,
+    fallen: &Fallen<'_, '_, A>,
     part: &[Fall],
     page: &mut String<A>,
 ) -> Result<(), AllocError>
@@ -299,20 +295,22 @@ fn put_steps<A: Allocator + Copy>(
 /// The part of the falls that tells why the query of that number waits.
 fn part_of<A: Allocator + Copy>(
     alloc: A,
-    fallen: &Fallen<'_, A>,
+    fallen: &Fallen<'_, '_, A>,
     number: usize,
 ) -> Result<Vec<Fall, A>, AllocError>
     requires fell { AreFalls fallen.now.board.now fallen.now.falls.now }
+    requires waits { IsUnmatched (nodes_of fallen.now.board.now) (edges_of fallen.now.board.now.pending) number }
     ensures low { IfOk result (λ part. All (λ fall. fall.node < length fallen.now.names.now) part.items) }
-    ensures part { IfOk result (λ part. IsUnmatched (nodes_of fallen.now.board.now) (edges_of fallen.now.board.now.pending) number → IsReasonPart fallen.now.board.now number part.items) }
+    ensures part { IfOk result (λ part. IsReasonPart fallen.now.board.now number part.items) }
 {
-    part_for(alloc, fallen.edges, fallen.falls, number)
+    let place = place_in(fallen.places, number);
+    part_at(alloc, fallen.edges, fallen.falls, fallen.places, place)
 }
 
 /// Why the query of that name and number waits.
 fn waiting_words<A: Allocator + Copy>(
     alloc: A,
-    fallen: &Fallen<'_, A>,
+    fallen: &Fallen<'_, '_, A>,
     name: &Name<A>,
     number: usize,
 ) -> Result<String<A>, AllocError>
@@ -353,18 +351,16 @@ fn settled_words<A: Allocator + Copy>(
     format!(in alloc; "{name} is matched\n")
 }
 
-/// The number of the first of these names that is that one.
-fn number_of<A: Allocator>(names: &[&Name<A>], wanted: &Name<A>) -> Option<usize>
-    ensures { result ≡ position (λ name. bytes_eq wanted.now name.now) names.now }
+/// The number of the query of that name.
+fn number_of<A: Allocator>(fallen: &Fallen<'_, '_, A>, wanted: &Name<A>) -> Option<usize>
+    ensures { result ≡ place_of wanted.now fallen.now.board.now.pending }
 {
-    names
-        .iter()
-        .position(|name| wanted.as_str() == name.as_str())
+    fallen.numbers.get(wanted.as_str()).copied()
 }
 
 fn told_of_name<A: Allocator + Copy>(
     alloc: A,
-    fallen: &Fallen<'_, A>,
+    fallen: &Fallen<'_, '_, A>,
     name: &Name<A>,
 ) -> Result<String<A>, AllocError>
     requires fell { AreFalls fallen.now.board.now fallen.now.falls.now }
@@ -373,7 +369,7 @@ fn told_of_name<A: Allocator + Copy>(
     if !is_waiting(fallen.board, name) {
         return settled_words(alloc, fallen.board, name);
     }
-    match number_of(fallen.names, name) {
+    match number_of(fallen, name) {
         Some(number) => waiting_words(alloc, fallen, name, number),
         None => unreachable!(),
     }
@@ -381,7 +377,7 @@ fn told_of_name<A: Allocator + Copy>(
 
 fn told<A: Allocator + Copy>(
     alloc: A,
-    fallen: &Fallen<'_, A>,
+    fallen: &Fallen<'_, '_, A>,
     word: &str,
 ) -> Result<String<A>, AllocError>
     requires fell { AreFalls fallen.now.board.now fallen.now.falls.now }
@@ -397,7 +393,7 @@ fn told<A: Allocator + Copy>(
 /// Puts what is told of each of the words on an empty page.
 fn put_told<A: Allocator + Copy>(
     alloc: A,
-    fallen: &Fallen<'_, A>,
+    fallen: &Fallen<'_, '_, A>,
     words: &[&str],
     page: &mut String<A>,
 ) -> Result<(), AllocError>
@@ -423,11 +419,15 @@ fn put_words<A: Allocator + Copy>(
     let names = board.names()?;
     let edges = board.edges_by_place()?;
     let falls = board.falls()?;
+    let numbers = numbers_of(alloc, &names)?;
+    let places = places_of(alloc, &falls, names.len())?;
     let fallen = Fallen {
         board,
         names: &names,
         edges: &edges,
         falls: &falls,
+        numbers: &numbers,
+        places: &places,
     };
     put_told(alloc, &fallen, words, page)
 }
@@ -452,7 +452,7 @@ fn waiting<'a, A: Allocator + Copy>(
 /// Why queries of a board wait, told of each of the words in their order. Of a name under which a query waits it is a line
 /// `NAME waits`, and below it a line for each query on which that one rests, itself last, with its reason; of a name under which
 /// a query is matched a line that says so; nothing of any other word. All queries fall once, in the time of [`Board::falls`]; then
-/// each word has the time of a walk through names and falls, and each line that of its providers.
+/// each line has the time of its providers, up to sorting, and where there is none, that of [`Board::near_misses`].
 ///
 /// # Errors
 /// `AllocError` where a growth was refused.

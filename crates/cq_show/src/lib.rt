@@ -12,8 +12,10 @@ mod explaining;
 mod graphing;
 mod limits;
 mod listing;
+mod numbering;
 mod page;
 mod quoting;
+mod resting;
 mod sheet;
 mod walking;
 

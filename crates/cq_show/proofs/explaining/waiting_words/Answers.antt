@@ -8,6 +8,9 @@ use Rattle.cq_show.proofs.explaining.waiting_words.Goals as goal
 whole : (name steps : List ℕ) → name ++ (codes " waits\n" ++ steps) ≡ name ++ codes " waits\n" ++ steps
 whole name steps = simp append_assoc
 
+pub part_of-requires-clause-waits : goal.part_of-requires-clause-waits
+part_of-requires-clause-waits g c = unmatched_at c.args.fallen.now.board.now c.args.name.now c.args.number c.requires.waits c.requires.there
+
 pub put_steps-requires : goal.put_steps-requires
 put_steps-requires g c = rw c.deref.ensures.value c.in_ok-part.ensures.low
 
@@ -24,7 +27,7 @@ returns g c =
       place = c.args.number;
       there = c.requires.there;
       part = part;
-      reason = c.in_ok-part.ensures.part (unmatched_at pool c.args.name.now c.args.number c.requires.waits c.requires.there);
+      reason = c.in_ok-part.ensures.part;
       steps = c.as_str-steps.result.now;
       told = steps;
       is = is;

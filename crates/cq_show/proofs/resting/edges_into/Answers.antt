@@ -3,7 +3,7 @@ use Rattle.std.specs.List.Sorted.{IsNonDecreasingBy}
 use Rattle.std.proofs.lemmas.List.Sorted.{IsPartitionPoint-from_clause, IsPartitionedBy-ltb, IsPartitionedBy-leb, IsNonDecreasingBy-drop}
 use Rattle.cq_match.specs.declared.edge.Edge.{Edge}
 use Rattle.cq_match.proofs.Grouped.{between-by}
-use Rattle.cq_show.proofs.explaining.edges_into.Goals as goal
+use Rattle.cq_show.proofs.resting.edges_into.Goals as goal
 
 pub returns : goal.returns
 returns c =
