@@ -69,7 +69,7 @@ def split_generics(text):
 def items_of(text):
     """The items of a formatted source, one by one."""
     found, rows = [], []
-    for row in re.sub(r"(?m)^\s*(//|#!).*\n", "", text).split("\n"):
+    for row in re.sub(r"(?m)^[ \t]*(//|#!).*\n", "", text).split("\n"):
         if row.strip():
             rows.append(row)
         if row[:1].strip() and re.search(r"[;}]$", row.rstrip()):
@@ -134,13 +134,15 @@ def source_pieces(text, shown, opened):
 def specs_pieces(text):
     """What a file of definitions states, in pieces of the same kind."""
     found = []
-    for piece in re.split(r"\n\s*\n", re.sub(r"(?m)^\s*--.*\n", "", text)):
-        if piece.startswith(" ") and found:
-            found[-1] += "\n" + piece
+    for piece in re.split(r"\n\s*\n", re.sub(r"(?m)^[ \t]*--.*\n", "", text)):
+        rows = piece.strip("\n").split("\n")
+        while rows and re.match(r"(pub )?(use|mod)\b", rows[0]):
+            found.append(rows.pop(0))
+        if rows and rows[0].startswith(" ") and found:
+            found[-1] += "\n" + "\n".join(rows)
         else:
-            rows = piece.strip("\n").split("\n")
-            found += rows if all(re.match(r"(pub )?(use|mod)\b", it) for it in rows) else [piece]
-    for piece in filter(str.strip, found):
+            found.append("\n".join(rows))
+    for piece in filter(None, map(str.strip, found)):
         if re.match(r"(pub )?use\b", piece):
             yield from imports(piece)
         elif not re.match(r"(pub )?mod\b", piece):
@@ -172,7 +174,7 @@ def stated_below(crates, name):
 
 def uncommented(file):
     """A text without the lines that are comments."""
-    return re.sub(r"(?m)^\s*(//|--).*\n", "", text_of(file))
+    return re.sub(r"(?m)^[ \t]*(//|--).*\n", "", text_of(file))
 
 
 def sum_of(crates, name):
