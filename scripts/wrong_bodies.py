@@ -344,10 +344,10 @@ class Lanes:
             if not self.left or self.until and time.monotonic() > self.until:
                 return None
             mine, others = self.crate_of.get(number), {it for lane, it in self.crate_of.items() if lane != number}
-            found = [it for it in self.left if it.crate is mine] or [it for it in self.left if it.crate not in others] or self.left
-            self.left.remove(found[0])
-            self.crate_of[number] = found[0].crate
-            return found[0]
+            batch = ([it for it in self.left if it.crate is mine] or [it for it in self.left if it.crate not in others] or self.left)[0]
+            self.left.remove(batch)
+            self.crate_of[number] = batch.crate
+            return batch
 
     def lane(self, number, room):
         kept = name = None
