@@ -1,7 +1,7 @@
 -- Edits that were accepted one behind another.
 use mathlib.Core.List.{IsPrefix}
 use Rattle.std.proofs.Common.{◌≡◌, ℕ, ◌+◌, ◌<◌, ◌≤◌, List, [], ◌∷◌, ◌++◌, Option, None, length, take, fold, sym, ap, ◌∙◌, subst, arith, length-append}
-use Rattle.std.proofs.lemmas.List.{length-map, map-append, take-append-le}
+use Rattle.std.proofs.lemmas.List.{map-append, take-append-le}
 use Rattle.std.proofs.lemmas.Grind.{fold-append}
 use Rattle.cq_desk.specs.History.{History}
 use Rattle.cq_desk.specs.Replies.{AreAccepted, journal_edits}
@@ -23,16 +23,15 @@ module _ {E C W : Type 0} (after : C → E → C) (why : C → E → Option W) w
   accepted_front o xs ys p all = accepted_before o xs p.0 (subst (AreAccepted after why o) (sym p.1) all)
 
   -- an entry more
-  pub entered : (working now opening : C) (history shown : History E) (pending : List E) (js ks : List (Entry E)) (entry : Entry E) (limit handed published : ℕ) → IsInStep after why working opening history shown pending js limit handed published
+  pub entered : (working now opening : C) (history shown : History (Entry E)) (pending : List (Entry E)) (js ks : List (Entry E)) (entry : Entry E) (limit handed published : ℕ) → IsInStep after why working opening history shown pending js limit handed published
       → ks ≡ js ++ entry ∷ [] → length js < limit → why working entry.edit ≡ None → now ≡ after working entry.edit → IsInStep after why now opening history shown pending ks limit handed published
   entered working now opening history shown pending js ks entry limit handed published p is room none next =
       let es = journal_edits js in
       let edits : journal_edits ks ≡ es ++ entry.edit ∷ [] = ap journal_edits is ∙ map-append (λ e. e.edit) js (entry ∷ []) in
       let count : length ks ≡ length js + 1 = ap length is ∙ length-append js (entry ∷ []) in
-      let short : handed ≤ length es = let n = p.handed_within in omega (arith, n, length-map js (λ e. e.edit)) in
       record {
         works = next ∙ (ap (λ c. after c entry.edit) p.works ∙ (sym (fold-append after opening es (entry.edit ∷ [])) ∙ ap (fold after opening) (sym edits)));
-        told = p.told ∙ (sym (take-append-le handed es (entry.edit ∷ []) short) ∙ ap (take handed) (sym edits));
+        told = p.told ∙ (sym (take-append-le handed js (entry ∷ []) p.handed_within) ∙ ap (take handed) (sym is));
         handed_within = let n = p.handed_within in omega (arith, n, count);
         counts = p.counts;
         front = p.front;

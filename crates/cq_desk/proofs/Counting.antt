@@ -1,8 +1,7 @@
 -- Counts of what sessions have seen, and the front of a journal that is published.
 use mathlib.Core.List.{IsPrefix}
-use Rattle.std.proofs.Common.{◌≡◌, ℕ, zero, suc, ◌<◌, ◌≤◌, List, [], ◌∷◌, ◌++◌, length, map, take, get_or, set, replicate, Result, Ok, Err, OnOk, OnErr, sym, ap, ◌∙◌, subst, append_assoc, arith, length-append}
+use Rattle.std.proofs.Common.{◌≡◌, ℕ, zero, suc, ◌<◌, ◌≤◌, List, [], ◌∷◌, ◌++◌, length, take, get_or, set, replicate, Result, Ok, Err, OnOk, OnErr, sym, ap, ◌∙◌, subst, append_assoc, arith, length-append}
 use Rattle.std.proofs.Math.Seq.{take-append_seam}
-use Rattle.std.proofs.lemmas.List.{take-map, length-map}
 use Rattle.cq_desk.specs.History.{History, edits_of}
 use Rattle.cq_desk.specs.Plain.{AreWithin}
 use Rattle.cq_desk.proofs.Cutting.{within-more}
@@ -22,13 +21,11 @@ within-get most (m ∷ counts) zero d l w = w.0
 within-get most (m ∷ counts) (suc i) d l w = within-get most counts i d (omega (arith, l)) w.1
 
 -- what is published stands in front
-pub front_left : {E J : Type 0} (f : J → E) (t p : List E) (js : List J) → IsPrefix (t ++ p) (map f js) → t ≡ map f (take (length t) js)
-front_left f t p js told =
-    sym (take-append_seam t (p ++ told.0)) ∙ (ap (take (length t)) (sym (append_assoc t p told.0) ∙ told.1) ∙ take-map f (length t) js)
+pub front_left : {J : Type 0} (t p js : List J) → IsPrefix (t ++ p) js → t ≡ take (length t) js
+front_left t p js told = sym (take-append_seam t (p ++ told.0)) ∙ ap (take (length t)) (sym (append_assoc t p told.0) ∙ told.1)
 
-pub front_short : {E J : Type 0} (f : J → E) (t p : List E) (js : List J) → IsPrefix (t ++ p) (map f js) → length t ≤ length js
-front_short f t p js told =
-    omega (arith, length-append t p, length-append (t ++ p) told.0, ap length told.1, length-map js f)
+pub front_short : {J : Type 0} (t p js : List J) → IsPrefix (t ++ p) js → length t ≤ length js
+front_short t p js told = omega (arith, length-append t p, length-append (t ++ p) told.0, ap length told.1)
 
 -- what was seen stays within what is published, whether a publish is refused or not
 pub published_within : {E N R : Type 0} (result : Result N R) (now was : History E) (es : List E) (counts : List ℕ) → OnOk result (edits_of now ≡ es) → OnErr result (now ≡ was) → length (edits_of was) ≤ length es → AreWithin (length (edits_of was)) counts → AreWithin (length (edits_of now)) counts

@@ -1,11 +1,13 @@
--- What the lengths of a list of edits cut it into.
+-- What the lengths of a list of entries cut it into.
 use Rattle.std.proofs.Common.{◌≡◌, ℕ, ◌<◌, ◌≤◌, List, [], ◌∷◌, ◌++◌, length, take, drop, refl, sym, ap, ◌∙◌, subst, fold, arith, length-append}
 use Rattle.std.proofs.lemmas.List.{take-append-le, take_all, take-append-drop, drop_all, length-drop}
 use Rattle.cq_desk.specs.History.{History, edits_of, grown}
 use Rattle.cq_desk.specs.Plain.{cut_at, last_length, AreWithin, IsPublished}
+use Rattle.cq_desk.specs.Replies.{journal_edits}
+use Rattle.cq_desk.specs.declared.journal.Entry.{Entry}
 use Rattle.cq_desk.proofs.Histories.{edits-snoc}
 
--- One edit more cuts nothing anew.
+-- One entry more cuts nothing anew.
 pub cut-append : {E : Type 0} (start : ℕ) (lengths : List ℕ) (es more : List E) → AreWithin (length es) lengths → cut_at start lengths (es ++ more) ≡ cut_at start lengths es
 cut-append start [] es more w = refl
 cut-append start (end ∷ lengths) es more w =
@@ -46,13 +48,13 @@ cut_grown es lengths longer published k is last all short =
     ∙ (cut_off es lengths longer published k is last all ∙ sym (grown-some (cut_at 0 lengths es) (drop published es) (omega (arith, n, short))))
 
 module _ {C E : Type 0} (after : C → E → C) where
-  -- One edit more is pending.
-  pub appended : (opening shown next : C) (es fs : List E) (e : E) (lengths : List ℕ) (published taken : ℕ) → fs ≡ es ++ e ∷ [] → IsPublished after opening shown next es lengths published taken → IsPublished after opening shown next fs lengths published taken
+  -- One entry more is pending.
+  pub appended : (opening shown next : C) (es fs : List (Entry E)) (e : Entry E) (lengths : List ℕ) (published taken : ℕ) → fs ≡ es ++ e ∷ [] → IsPublished after opening shown next es lengths published taken → IsPublished after opening shown next fs lengths published taken
   appended opening shown next es fs e lengths published taken is inv =
       let more = length-append es (e ∷ []) in let p = inv.published_within in let t = inv.taken_within in
       subst (λ z. IsPublished after opening shown next z lengths published taken) (sym is) record {
-        shows = inv.shows ∙ ap (fold after opening) (sym (take-append-le published es (e ∷ []) p));
-        follows = inv.follows ∙ ap (fold after opening) (sym (take-append-le taken es (e ∷ []) t));
+        shows = inv.shows ∙ ap (λ z. fold after opening (journal_edits z)) (sym (take-append-le published es (e ∷ []) p));
+        follows = inv.follows ∙ ap (λ z. fold after opening (journal_edits z)) (sym (take-append-le taken es (e ∷ []) t));
         cuts = ap edits_of (cut-append 0 lengths es (e ∷ []) inv.lengths_within) ∙ (inv.cuts ∙ sym (take-append-le published es (e ∷ []) p));
         last = inv.last;
         published_within = omega (arith, more, p);
@@ -60,12 +62,12 @@ module _ {C E : Type 0} (after : C → E → C) where
         lengths_within = within-more (length es) (length (es ++ e ∷ [])) lengths inv.lengths_within (omega (arith, more));
       }
 
-  -- The two states are changed over, where the next one has taken all edits in.
-  pub changed_over : (opening shown next new old : C) (es : List E) (lengths longer : List ℕ) (published taken k : ℕ) → longer ≡ lengths ++ k ∷ [] → k ≡ length es → taken ≡ length es → new ≡ next → old ≡ shown → IsPublished after opening shown next es lengths published taken → IsPublished after opening new old es longer k published
+  -- The two states are changed over, where the next one has taken the edits of all entries in.
+  pub changed_over : (opening shown next new old : C) (es : List (Entry E)) (lengths longer : List ℕ) (published taken k : ℕ) → longer ≡ lengths ++ k ∷ [] → k ≡ length es → taken ≡ length es → new ≡ next → old ≡ shown → IsPublished after opening shown next es lengths published taken → IsPublished after opening new old es longer k published
   changed_over opening shown next new old es lengths longer published taken k is all done now was inv =
       let whole = take_all k es (omega (arith, all)) in
       record {
-        shows = now ∙ (inv.follows ∙ ap (λ z. fold after opening (take z es)) (done ∙ sym all));
+        shows = now ∙ (inv.follows ∙ ap (λ z. fold after opening (journal_edits (take z es))) (done ∙ sym all));
         follows = was ∙ inv.shows;
         cuts = ap edits_of (cut_off es lengths longer published k is inv.last all) ∙ (edits-snoc (cut_at 0 lengths es) (drop published es)
             ∙ (ap (λ z. z ++ drop published es) inv.cuts ∙ (take-append-drop published es ∙ sym whole)));

@@ -1,7 +1,7 @@
 -- What histories hold, and what they leave.
 use mathlib.Core.List.{IsPrefix}
-use Rattle.std.proofs.Common.{◌≡◌, ℕ, zero, suc, ◌+◌, ◌<◌, List, [], ◌∷◌, ◌++◌, length, map, take, drop, get_or, refl, sym, ap, ◌∙◌, subst, append_assoc, arith, length-append}
-use Rattle.std.proofs.lemmas.List.{append-nil, length-map, take_more, take_all}
+use Rattle.std.proofs.Common.{◌≡◌, ℕ, zero, suc, ◌+◌, ◌<◌, List, [], ◌∷◌, ◌++◌, length, take, drop, get_or, refl, sym, ap, ◌∙◌, subst, append_assoc, arith, length-append}
+use Rattle.std.proofs.lemmas.List.{append-nil, take_more, take_all}
 use Rattle.std.proofs.Math.Seq.{drop-append_seam}
 use Rattle.cq_desk.specs.History.{edits_of, grown}
 
@@ -13,22 +13,15 @@ pub edits-grown : {E : Type 0} (h : List (List E)) (p : List E) → edits_of (gr
 edits-grown h [] = sym (append-nil (edits_of h))
 edits-grown h (e ∷ es) = edits-snoc h (e ∷ es)
 
-get_or-map' : {A B : Type 0} (f : A → B) (xs : List A) (n : ℕ) (d : A) → get_or (map f xs) n (f d) ≡ f (get_or xs n d)
-get_or-map' f [] n d = refl
-get_or-map' f (x ∷ xs) zero d = refl
-get_or-map' f (x ∷ xs) (suc n) d = get_or-map' f xs n d
-
 -- one more is handed over
-pub tells_more : {E J : Type 0} (f : J → E) (h p q : List E) (n : ℕ) (js : List J) (j : J) → n < length js → j ≡ get_or js n j → q ≡ p ++ f j ∷ []
-    → h ++ p ≡ take n (map f js) → h ++ q ≡ take (n + 1) (map f js)
-tells_more f h p q n js j within at is was =
-    let short : n < length (map f js) = omega (arith, length-map js f) in
-    ap (λ z. h ++ z) is ∙ (sym (append_assoc h p (f j ∷ [])) ∙ (ap (λ z. z ++ f j ∷ []) was
-    ∙ (ap (λ z. take n (map f js) ++ z ∷ []) (ap f at ∙ sym (get_or-map' f js n j)) ∙ sym (take_more (map f js) n (f j) short))))
+pub tells_more : {J : Type 0} (h p q : List J) (n : ℕ) (js : List J) (j : J) → n < length js → j ≡ get_or js n j → q ≡ p ++ j ∷ []
+    → h ++ p ≡ take n js → h ++ q ≡ take (n + 1) js
+tells_more h p q n js j within at is was =
+    ap (λ z. h ++ z) is ∙ (sym (append_assoc h p (j ∷ [])) ∙ (ap (λ z. z ++ j ∷ []) was ∙ (ap (λ z. take n js ++ z ∷ []) at ∙ sym (take_more js n j within))))
 
 -- all is handed over
-pub tells_all : {E J : Type 0} (f : J → E) (h p : List E) (n : ℕ) (js : List J) → n ≡ length js → h ++ p ≡ take n (map f js) → h ++ p ≡ map f js
-tells_all f h p n js all is = is ∙ take_all n (map f js) (omega (arith, length-map js f))
+pub tells_all : {J : Type 0} (h p : List J) (n : ℕ) (js : List J) → n ≡ length js → h ++ p ≡ take n js → h ++ p ≡ js
+tells_all h p n js all is = is ∙ take_all n js (omega (arith, all))
 
 pub rest_is : {E : Type 0} (h p t : List E) → h ++ p ≡ t → p ≡ drop (length h) t
 rest_is h p t is = sym (drop-append_seam h p) ∙ ap (drop (length h)) is

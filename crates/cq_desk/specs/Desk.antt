@@ -19,11 +19,11 @@ abbrev pub with_entry : {P E : Type 0} → ℕ → E → DeskRecord P E → Desk
 with_entry author edit desk = record desk { journal = desk.journal ++ record { author = author; edit = edit } ∷ [] }
 
 -- Working state, publisher and journal agree. The working content is what the journal leaves over the opening content; the
--- publications, then what is pending, are the entries handed over; what is shown is a front of the history, and is counted. Each entry was
+-- publications, then what is pending, are the entries handed over, with their authors; what is shown is a front of the history, and is counted. Each entry was
 -- accepted after those before it, and there are no more of them than the limit.
-pub record IsInStep {E C W : Type 0} (after : C → E → C) (why : C → E → Option W) (working opening : C) (history shown : History E) (pending : List E) (journal : List (Entry E)) (limit handed published : ℕ) : Type 0 where
+pub record IsInStep {E C W : Type 0} (after : C → E → C) (why : C → E → Option W) (working opening : C) (history shown : History (Entry E)) (pending : List (Entry E)) (journal : List (Entry E)) (limit handed published : ℕ) : Type 0 where
   pub works : working ≡ fold after opening (journal_edits journal)
-  pub told : edits_of history ++ pending ≡ take handed (journal_edits journal)
+  pub told : edits_of history ++ pending ≡ take handed journal
   pub handed_within : handed ≤ length journal
   pub counts : published ≡ length (edits_of shown)
   pub front : BeginsWith history shown

@@ -17,8 +17,8 @@ use std::marker::Model;
 
 /// A journal, the working state that it leaves, and a publisher. Contracts see the publisher, the
 /// journal and its limit. That the working state is what the journal leaves over the publisher's
-/// opening content, and that published edits, then those pending or not yet handed over, are the
-/// journal's, stands in this type.
+/// opening content, and that published entries, then those pending or not yet handed over, are the
+/// journal's, authors included, stands in this type.
 #[derive(Drop)]
 pub struct Desk<L: Live, P: Publisher<L>, A: Allocator = Global> {
     working: L,
@@ -66,10 +66,10 @@ impl<L: Live, P: Publisher<L>, A: Allocator + Copy> Desk<L, P, A> {
         &self.working
     }
 
-    /// The publisher. Its publications and what is pending are the first edits of the journal.
+    /// The publisher. Its publications and what is pending are the first entries of the journal, with their authors.
     pub fn publisher(&self) -> &P
         ensures same { result.now ≡ self.now.publisher }
-        ensures told { IsPrefix (edits_of (P.history result.now) ++ P.pending result.now) (journal_edits self.now.journal) }
+        ensures told { IsPrefix (edits_of (P.history result.now) ++ P.pending result.now) self.now.journal }
         ensures front { BeginsWith (P.history result.now) (P.shown result.now) }
     {
         &self.publisher
@@ -128,16 +128,17 @@ impl<L: Live, P: Publisher<L>, A: Allocator + Copy> Desk<L, P, A> {
         ensures limit { self.new.limit ≡ self.old.limit }
         ensures opening { P.opening self.new.publisher ≡ P.opening self.old.publisher }
         ensures count { IfOk result (λ count. count ≡ length self.old.journal) }
-        ensures history { OnOk result (P.history self.new.publisher ≡ grown (P.history self.old.publisher) (drop (length (edits_of (P.history self.old.publisher))) (journal_edits self.old.journal))) }
-        ensures all { OnOk result (edits_of (P.history self.new.publisher) ≡ journal_edits self.old.journal) }
+        ensures history { OnOk result (P.history self.new.publisher ≡ grown (P.history self.old.publisher) (drop (length (edits_of (P.history self.old.publisher))) self.old.journal)) }
+        ensures all { OnOk result (edits_of (P.history self.new.publisher) ≡ self.old.journal) }
         ensures shown { OnOk result (P.shown self.new.publisher ≡ P.history self.new.publisher) }
         ensures refused { OnErr result (P.shown self.new.publisher ≡ P.shown self.old.publisher) }
         ensures begins { BeginsWith (P.history self.new.publisher) (P.history self.old.publisher) }
-        ensures told { IsPrefix (edits_of (P.history self.new.publisher) ++ P.pending self.new.publisher) (journal_edits self.old.journal) }
+        ensures told { IsPrefix (edits_of (P.history self.new.publisher) ++ P.pending self.new.publisher) self.old.journal }
     {
         while self.handed < self.journal.len() {
-            let edit = L::copy_edit(&self.journal[self.handed].edit)?;
-            self.publisher.append(edit)?;
+            let entry = &self.journal[self.handed];
+            let edit = L::copy_edit(&entry.edit)?;
+            self.publisher.append(entry.author, edit)?;
             self.handed += 1;
         }
         self.publisher.publish(leave)?;
@@ -176,9 +177,9 @@ impl<L: Live, P: Publisher<L>, A: Allocator + Copy> Desk<L, P, A> {
         ensures journal { IfOk result (λ submitted. self.new.journal ≡ self.old.journal ++ entries_by author (accepted asked.items submitted.replies.items)) }
         ensures tried { IfOk result (λ submitted. MatchEnd submitted.end (λ _. length submitted.replies.items ≡ length asked.items) (length submitted.replies.items < length asked.items) (length submitted.replies.items ≡ length asked.items)) }
         ensures count { IfOk result (λ submitted. MatchEnd submitted.end (λ count. count ≡ length self.new.journal) ⊤ ⊤) }
-        ensures shown { IfOk result (λ submitted. MatchEnd submitted.end (λ _. edits_of (P.shown self.new.publisher) ≡ journal_edits self.new.journal) (self.new.publisher ≡ self.old.publisher) (P.shown self.new.publisher ≡ P.shown self.old.publisher)) }
-        ensures last { IfOk result (λ submitted. MatchEnd submitted.end (λ _. StandsLast (accepted asked.items submitted.replies.items) (P.shown self.new.publisher)) ⊤ ⊤) }
-        ensures history { IfOk result (λ submitted. MatchEnd submitted.end (λ _. P.history self.new.publisher ≡ grown (P.history self.old.publisher) (drop (length (edits_of (P.history self.old.publisher))) (journal_edits self.new.journal))) ⊤ ⊤) }
+        ensures shown { IfOk result (λ submitted. MatchEnd submitted.end (λ _. edits_of (P.shown self.new.publisher) ≡ self.new.journal) (self.new.publisher ≡ self.old.publisher) (P.shown self.new.publisher ≡ P.shown self.old.publisher)) }
+        ensures last { IfOk result (λ submitted. MatchEnd submitted.end (λ _. StandsLast (entries_by author (accepted asked.items submitted.replies.items)) (P.shown self.new.publisher)) ⊤ ⊤) }
+        ensures history { IfOk result (λ submitted. MatchEnd submitted.end (λ _. P.history self.new.publisher ≡ grown (P.history self.old.publisher) (drop (length (edits_of (P.history self.old.publisher))) self.new.journal)) ⊤ ⊤) }
         ensures all { IfOk result (λ submitted. MatchEnd submitted.end (λ _. P.shown self.new.publisher ≡ P.history self.new.publisher) ⊤ ⊤) }
         ensures begins { BeginsWith (P.history self.new.publisher) (P.history self.old.publisher) }
         ensures err { OnErr result (self.new ≡ self.old) }
@@ -204,9 +205,9 @@ impl<L: Live, P: Publisher<L>, A: Allocator + Copy> Desk<L, P, A> {
         ensures journal { IfOk result (λ submitted. self.new.journal ≡ self.old.journal ++ entries_by author (accepted asked.items submitted.replies.items)) }
         ensures tried { IfOk result (λ submitted. MatchEnd submitted.end (λ _. length submitted.replies.items ≡ length asked.items) (length submitted.replies.items < length asked.items) (length submitted.replies.items ≡ length asked.items)) }
         ensures count { IfOk result (λ submitted. MatchEnd submitted.end (λ count. count ≡ length self.new.journal) ⊤ ⊤) }
-        ensures shown { IfOk result (λ submitted. MatchEnd submitted.end (λ _. edits_of (P.shown self.new.publisher) ≡ journal_edits self.new.journal) (self.new.publisher ≡ self.old.publisher) (P.shown self.new.publisher ≡ P.shown self.old.publisher)) }
-        ensures last { IfOk result (λ submitted. MatchEnd submitted.end (λ _. StandsLast (accepted asked.items submitted.replies.items) (P.shown self.new.publisher)) ⊤ ⊤) }
-        ensures history { IfOk result (λ submitted. MatchEnd submitted.end (λ _. P.history self.new.publisher ≡ grown (P.history self.old.publisher) (drop (length (edits_of (P.history self.old.publisher))) (journal_edits self.new.journal))) ⊤ ⊤) }
+        ensures shown { IfOk result (λ submitted. MatchEnd submitted.end (λ _. edits_of (P.shown self.new.publisher) ≡ self.new.journal) (self.new.publisher ≡ self.old.publisher) (P.shown self.new.publisher ≡ P.shown self.old.publisher)) }
+        ensures last { IfOk result (λ submitted. MatchEnd submitted.end (λ _. StandsLast (entries_by author (accepted asked.items submitted.replies.items)) (P.shown self.new.publisher)) ⊤ ⊤) }
+        ensures history { IfOk result (λ submitted. MatchEnd submitted.end (λ _. P.history self.new.publisher ≡ grown (P.history self.old.publisher) (drop (length (edits_of (P.history self.old.publisher))) self.new.journal)) ⊤ ⊤) }
         ensures all { IfOk result (λ submitted. MatchEnd submitted.end (λ _. P.shown self.new.publisher ≡ P.history self.new.publisher) ⊤ ⊤) }
         ensures begins { BeginsWith (P.history self.new.publisher) (P.history self.old.publisher) }
         ensures passed { IfOk result (λ submitted. MatchEnd submitted.end (λ _. G.passed gate.old (length self.new.journal) (length (edits_of (P.shown self.old.publisher))) gate.new) (gate.new ≡ gate.old) (G.passed gate.old (length self.new.journal) (length (edits_of (P.shown self.old.publisher))) gate.new)) }

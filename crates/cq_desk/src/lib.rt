@@ -1,11 +1,11 @@
 //! The desk and the floor: the order in which edits came, what they leave, and what of it is published.
 //!
 //! A journal is the list of the accepted edits with their authors. A [`Desk`] keeps one over any
-//! [`Live`] state, takes each accepted edit into its working state at once, and hands the edits over
+//! [`Live`] state, takes each accepted edit into its working state at once, and hands the entries over
 //! to a [`Publisher`], which shows what the published ones leave. [`Plain`] is a publisher over one
 //! state, and a board is a live state. The desk's type says that the working state is what the journal
-//! leaves over the publisher's opening content, and that the published edits, then those pending or
-//! not yet handed over, are the journal's (`specs/Desk`).
+//! leaves over the publisher's opening content, and that the published entries, then those pending or
+//! not yet handed over, are the journal's, authors included (`specs/Desk`).
 //!
 //! A [`Floor`] is a desk over a `Plain` that several sessions look at. It is proved against the floor
 //! machine (`specs/Machine`), which keeps a journal, a published count and what each session has seen,

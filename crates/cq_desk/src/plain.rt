@@ -2,23 +2,25 @@
 
 ghost use Rattle.std.specs.Prelude.{◌≡◌, [], fold, IfOk};
 ghost use Rattle.cq_desk.specs.History.{edits_of};
+ghost use Rattle.cq_desk.specs.Replies.{journal_edits};
 
+use crate::journal::Entry;
 use crate::live::{Live, NoMemory};
 use crate::publisher::Publisher;
 use std::alloc::{Allocator, Global};
 use std::marker::Model;
 use std::mem;
 
-/// A publisher that shows one state and keeps the next one beside it. A publish takes the edits that
-/// the next state lacks into it, one by one, and changes the two over when all are in; it copies no
-/// state. Contracts see the opening content, the publications and the pending edits: that the shown
+/// A publisher that shows one state and keeps the next one beside it. A publish takes the edits of
+/// the entries that the next state lacks into it, one by one, and changes the two over when all are in; it copies no
+/// state. Contracts see the opening content, the publications and the pending entries: that the shown
 /// state is what the publications leave over the opening content stands in this type.
 #[derive(Drop)]
 pub struct Plain<L: Live, A: Allocator = Global> {
     opening: L,
     shown: L,
     next: L,
-    edits: Vec<L::Edit, A>,
+    entries: Vec<Entry<L::Edit>, A>,
     lengths: Vec<usize, A>,
     published: usize,
     taken: usize,
@@ -30,13 +32,13 @@ impl<L: Live, A: Allocator> Model for Plain<L, A> {
 
     ghost Value = { PlainRecord L.Content L.Edit };
 
-    ghost view = { λ p. record { opening = L.content p.opening; history = cut_at 0 p.lengths.items p.edits.items; pending = drop p.published p.edits.items } };
+    ghost view = { λ p. record { opening = L.content p.opening; history = cut_at 0 p.lengths.items p.entries.items; pending = drop p.published p.entries.items } };
 
-    ghost invariant = { λ p. IsPublished L.after (L.content p.opening) (L.content p.shown) (L.content p.next) p.edits.items p.lengths.items p.published p.taken };
+    ghost invariant = { λ p. IsPublished L.after (L.content p.opening) (L.content p.shown) (L.content p.next) p.entries.items p.lengths.items p.published p.taken };
 }
 
 impl<L: Live, A: Allocator + Copy> Plain<L, A> {
-    /// Shows the state. The list of edits grows with the allocator later on.
+    /// Shows the state. The list of entries grows with the allocator later on.
     ///
     /// # Errors
     /// `NoMemory` where a growth was refused.
@@ -49,7 +51,7 @@ impl<L: Live, A: Allocator + Copy> Plain<L, A> {
             opening,
             shown: state,
             next,
-            edits: Vec::new(alloc),
+            entries: Vec::new(alloc),
             lengths: Vec::new(alloc),
             published: 0,
             taken: 0,
@@ -58,7 +60,7 @@ impl<L: Live, A: Allocator + Copy> Plain<L, A> {
 
     /// The state that is shown, which is what the publications leave.
     pub fn published(&self) -> &L
-        ensures { L.content result.now ≡ fold L.after self.now.opening (edits_of self.now.history) }
+        ensures { L.content result.now ≡ fold L.after self.now.opening (journal_edits (edits_of self.now.history)) }
     {
         &self.shown
     }
@@ -75,24 +77,24 @@ impl<L: Live, A: Allocator + Copy> Publisher<L> for Plain<L, A> {
 
     ghost pending = { λ p. p.pending };
 
-    fn append(&mut self, edit: L::Edit) -> Result<(), NoMemory> {
-        self.edits.push(edit)?;
+    fn append(&mut self, author: usize, edit: L::Edit) -> Result<(), NoMemory> {
+        self.entries.push(Entry { author, edit })?;
         Ok(())
     }
 
     fn publish(&mut self, _leave: &()) -> Result<(), NoMemory> {
-        if self.published == self.edits.len() {
+        if self.published == self.entries.len() {
             return Ok(());
         }
         self.lengths.reserve(1)?;
-        while self.taken < self.edits.len() {
-            let _ = self.next.admit(&self.edits[self.taken])?;
+        while self.taken < self.entries.len() {
+            let _ = self.next.admit(&self.entries[self.taken].edit)?;
             self.taken += 1;
         }
         mem::swap(&mut self.shown, &mut self.next);
         // The state that was shown lacks the edits of this publication.
         self.taken = self.published;
-        self.published = self.edits.len();
+        self.published = self.entries.len();
         self.lengths.push_reserved(self.published);
         Ok(())
     }

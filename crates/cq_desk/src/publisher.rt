@@ -1,11 +1,12 @@
-//! Where edits are published.
+//! Where entries are published.
 
 ghost use Rattle.std.specs.Prelude.{◌≡◌, ◌+◌, ◌<◌, List, [], ◌∷◌, ◌++◌, length, OnOk, OnErr};
 ghost use Rattle.cq_desk.specs.History.{History, edits_of, grown, BeginsWith};
+ghost use Rattle.cq_desk.specs.declared.journal.Entry.{Entry};
 
 use crate::live::{Live, NoMemory};
 
-/// What takes edits over an opening content, and shows what the published ones leave.
+/// What takes entries over an opening content, and shows what the edits of the published ones leave.
 pub trait Publisher<L: Live>: Drop {
     /// What a publish is lent: the leave to wait, where it waits for anyone.
     type Leave;
@@ -13,25 +14,25 @@ pub trait Publisher<L: Live>: Drop {
     // The content before the first edit.
     ghost opening: { Self → L.Content };
 
-    // The publications, those among them whose publish was refused.
-    ghost history: { Self → History L.Edit };
+    // The publications of entries, those among them whose publish was refused.
+    ghost history: { Self → History (Entry L.Edit) };
 
     // The publications that are shown.
-    ghost shown: { Self → History L.Edit };
+    ghost shown: { Self → History (Entry L.Edit) };
 
-    // The edits that stand in no publication yet.
-    ghost pending: { Self → List L.Edit };
+    // The entries that stand in no publication yet.
+    ghost pending: { Self → List (Entry L.Edit) };
 
-    /// Adds a pending edit.
+    /// Adds a pending entry: the edit under the author's number.
     ///
     /// # Errors
     /// `NoMemory` where a growth was refused. Nothing has changed then.
-    fn append(&mut self, edit: L::Edit) -> Result<(), NoMemory>
+    fn append(&mut self, author: usize, edit: L::Edit) -> Result<(), NoMemory>
         requires { length (edits_of (history self.old)) + length (pending self.old) < u64.MAX }
         ensures opening { opening self.new ≡ opening self.old }
         ensures history { history self.new ≡ history self.old }
         ensures shown { shown self.new ≡ shown self.old }
-        ensures ok { OnOk result (pending self.new ≡ pending self.old ++ edit ∷ []) }
+        ensures ok { OnOk result (pending self.new ≡ pending self.old ++ record { author = author; edit = edit } ∷ []) }
         ensures err { OnErr result (pending self.new ≡ pending self.old) };
 
     /// Publishes all that is pending as one publication, and shows it. Where nothing is pending it
@@ -39,7 +40,7 @@ pub trait Publisher<L: Live>: Drop {
     ///
     /// # Errors
     /// `NoMemory` where a growth was refused. What is shown stays then, and history and pending
-    /// edits together stay the same in the same order; the next publish goes on from there.
+    /// entries together stay the same in the same order; the next publish goes on from there.
     fn publish(&mut self, leave: &Self::Leave) -> Result<(), NoMemory>
         ensures opening { opening self.new ≡ opening self.old }
         ensures begins { BeginsWith (history self.new) (history self.old) }

@@ -2,11 +2,12 @@
 use Rattle.std.specs.Prelude.{ℕ, List, [], map}
 use Rattle.std.specs.List.{range_with_len}
 use Rattle.cq_desk.specs.History.{History}
+use Rattle.cq_desk.specs.declared.journal.Entry.{Entry}
 
--- The session's number, and the publications that it has seen or heard of; of a look, those that it shows.
+-- The session's number, and the publications of entries that it has seen or heard of; of a look, those that it shows.
 pub record SessionRecord (E : Type 0) : Type 0 where
   pub number : ℕ
-  pub history : History E
+  pub history : History (Entry E)
 
 -- So many sessions, numbered from 0, that have seen nothing.
 abbrev pub newcomers : {E : Type 0} → ℕ → List (SessionRecord E)

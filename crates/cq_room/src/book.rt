@@ -6,7 +6,7 @@ ghost use Rattle.cq_room.specs.Steps.Rules.{head_of};
 use crate::mark::Mark;
 use crate::names::RoomName;
 use crate::trail::Trail;
-use cq_desk::Live;
+use cq_desk::{Entry, Live};
 use logbook::{Gain, Plain, Play, Rule, Seen, Start, Word};
 use std::marker::PhantomData;
 
@@ -49,14 +49,14 @@ impl<E> Play<Mark<E>, u64> for Add {
     ghost then = { Adds };
 }
 
-/// Adding an edit.
-impl<E> Plain<E, Mark<E>, u64> for Add {
+/// Adding an entry.
+impl<E> Plain<Entry<E>, Mark<E>, u64> for Add {
     ghost use Rattle.std.specs.Prelude.{None};
     ghost use Rattle.cq_room.specs.declared.mark.Mark.TheVariants.{Entered};
 
-    ghost ask = { λ edit. Entered edit };
+    ghost ask = { λ entry. Entered entry };
 
-    ghost state = { λ edit. None };
+    ghost state = { λ entry. None };
 }
 
 /// Adding the end of a publication.

@@ -2,7 +2,7 @@
 
 ghost use Rattle.std.specs.Prelude.{◌≡◌, ◌<◌, [], length, MatchBool};
 ghost use Rattle.cq_desk.specs.History.{BeginsWith, edits_of};
-ghost use Rattle.cq_room.specs.Marks.{WereAccepted, edits_in, publications, fresh_in};
+ghost use Rattle.cq_room.specs.Marks.{WereAccepted, entries_in, publications, fresh_in};
 
 use crate::names::RoomName;
 use crate::trail::Trail;
@@ -10,7 +10,7 @@ use cq_desk::Live;
 use std::marker::Model;
 
 /// What a publish hands on, for other sessions to hear: that so much is published. Contracts see its
-/// history.
+/// history: publications of entries, each an edit with its author.
 #[derive(Drop)]
 pub struct Front<L: Live, N: RoomName<L::Content>> {
     pub(crate) trail: Trail<L, N>,
@@ -19,19 +19,20 @@ pub struct Front<L: Live, N: RoomName<L::Content>> {
 impl<L: Live, N: RoomName<L::Content>> Model for Front<L, N> {
     ghost use Rattle.std.specs.Prelude.{◌≡◌, []};
     ghost use Rattle.cq_desk.specs.History.{History};
-    ghost use Rattle.cq_room.specs.Marks.{WereAccepted, edits_in, publications, fresh_in};
+    ghost use Rattle.cq_desk.specs.declared.journal.Entry.{Entry};
+    ghost use Rattle.cq_room.specs.Marks.{WereAccepted, entries_in, publications, fresh_in};
 
-    ghost Value = { History L.Edit };
+    ghost Value = { History (Entry L.Edit) };
 
     ghost view = { λ f. publications f.trail };
 
-    ghost invariant = { λ f. (fresh_in f.trail ≡ []) × WereAccepted L.after L.why N.opening (edits_in f.trail) };
+    ghost invariant = { λ f. (fresh_in f.trail ≡ []) × WereAccepted L.after L.why N.opening (entries_in f.trail) };
 }
 
 impl<L: Live, N: RoomName<L::Content>> Front<L, N> {
     pub(crate) fn over(trail: Trail<L, N>) -> Front<L, N>
         requires fresh { fresh_in trail ≡ [] }
-        requires accepted { WereAccepted L.after L.why N.opening (edits_in trail) }
+        requires accepted { WereAccepted L.after L.why N.opening (entries_in trail) }
         ensures { result ≡ publications trail }
     {
         Front { trail }

@@ -3,7 +3,7 @@
 ghost use Rattle.std.specs.Prelude.{◌≡◌, ◌<◌, ◌^◌, ◌++◌, ◌∷◌, [], None, length, IfOk, OnOk, OnErr, MatchResult};
 ghost use mathlib.Core.List.{IsPrefix};
 ghost use Rattle.cq_desk.specs.History.{grown};
-ghost use Rattle.cq_room.specs.Marks.{WereAccepted, edits_in, publications, fresh_in};
+ghost use Rattle.cq_room.specs.Marks.{WereAccepted, entries_in, publications, fresh_in};
 ghost use Rattle.cq_room.specs.Steps.Pair.{last_of, ends_at};
 
 use crate::book::Book;
@@ -14,7 +14,7 @@ use crate::room::Watched;
 use crate::session::Session;
 use crate::shown::{Shown, Step};
 use crate::trail::Trail;
-use cq_desk::{Live, NoMemory, Publisher};
+use cq_desk::{Entry, Live, NoMemory, Publisher};
 use crossbeam_utils::rule::Unruled;
 use left_right::reader::Reader;
 use std::alloc::{AllocError, Allocator, Global};
@@ -30,7 +30,7 @@ pub(crate) type PairReader<L, N, A> = Reader<Shown<L, N>, (), Unruled, A>;
 /// A publisher that shows one of two copies and changes the other. A publish takes the edits that each
 /// copy lacks into it, one by one; it copies no state, and waits for those who still look at the copy
 /// that it changes. Contracts see the opening content, the publications with those whose publish was
-/// refused, those that are shown, and the pending edits: that what is shown is what its publications
+/// refused, those that are shown, and the pending entries: that what is shown is what its publications
 /// leave over the opening content stands in its type.
 #[derive(Drop)]
 pub struct Pair<L: Live, N: RoomName<L::Content>, R: Wait + Drop, A: Allocator = Global> {
@@ -74,7 +74,7 @@ fn settle<L: Live, N: RoomName<L::Content>, R: Wait + Drop, A: Allocator + Copy>
     }
 }
 
-/// Ends the publication, if an edit stands behind the last one.
+/// Ends the publication, if an entry stands behind the last one.
 fn end<L: Live, N: RoomName<L::Content>, R: Wait + Drop, A: Allocator + Copy>(
     copies: &mut Copies<Shown<L, N>, Step<L, N>, R, A>,
     waiting: &mut Option<Step<L, N>>,
@@ -145,7 +145,7 @@ impl<L: Live, N: RoomName<L::Content>, R: Wait + Drop, A: Allocator + Copy> Pair
     pub(crate) fn shown(&self) -> Trail<L, N>
         ensures shown { publications result ≡ self.now.shown }
         ensures whole { fresh_in result ≡ [] }
-        ensures accepted { WereAccepted L.after L.why N.opening (edits_in result) }
+        ensures accepted { WereAccepted L.after L.why N.opening (entries_in result) }
     {
         self.copies.shown().trail().again()
     }
@@ -171,16 +171,17 @@ impl<L: Live, N: RoomName<L::Content>, R: Wait + Drop, A: Allocator + Copy> Publ
 
     ghost pending = { λ p. p.pending };
 
-    fn append(&mut self, edit: L::Edit) -> Result<(), NoMemory> {
+    fn append(&mut self, author: usize, edit: L::Edit) -> Result<(), NoMemory> {
         settle(&mut self.copies, &mut self.waiting)?;
         if self.trail.entries() >= MOST {
             return Err(NoMemory);
         }
         let mut trail = self.trail.again();
-        if !trail.enter(&self.book, &edit) {
+        let entry = Entry { author, edit };
+        if !trail.enter(&self.book, &entry) {
             return Err(NoMemory);
         }
-        let step = Step::over(Some(edit), trail.again());
+        let step = Step::over(Some(entry), trail.again());
         if let Err(step) = self.copies.append(step) {
             self.waiting = Some(step);
         }

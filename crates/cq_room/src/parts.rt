@@ -176,7 +176,7 @@ fn knows_all<L: Live, N: RoomName<L::Content>, P: Watched<L, N>, A: Allocator + 
 ) -> bool
 where
     P::Leave: Wait,
-    ensures { MatchBool result (All (λ session. IsPrefix (edits_of session.history) (journal_edits desk.now.journal)) sessions.now) ⊤ }
+    ensures { MatchBool result (All (λ session. IsPrefix (edits_of session.history) desk.now.journal) sessions.now) ⊤ }
 {
     for session in sessions {
         if !knows(desk, session) {
@@ -194,7 +194,7 @@ fn await_all<L: Live, N: RoomName<L::Content>, P: Watched<L, N>, A: Allocator + 
 )
 where
     P::Leave: Wait,
-    ensures { All (λ session. IsPrefix (edits_of session.history) (journal_edits desk.now.journal)) sessions.now }
+    ensures { All (λ session. IsPrefix (edits_of session.history) desk.now.journal) sessions.now }
 {
     if knows_all(desk, sessions) {
         return;
@@ -207,12 +207,13 @@ impl<L: Live, N: RoomName<L::Content>, P: Watched<L, N>, A: Allocator + Copy> Ro
 where
     P::Leave: Wait,
 {
-    /// Ends the room, and gives its desk back. Sessions that are not handed in go on with what is
+    /// Ends the room, and gives its desk back. Its journal begins with what each session has seen, and so
+    /// has their entries under the authors that they were seen with. Sessions that are not handed in go on with what is
     /// shown, until the desk is dropped.
     pub fn close(self, rt: &P::Leave, sessions: Vec<Session<L, N, A>, A>) -> Desk<L, P, A>
         ensures opening { P.opening result.publisher ∷ [] ≡ N.opening }
         ensures limit { result.limit ≡ N.limit }
-        ensures seen { All (λ session. IsPrefix (edits_of session.history) (journal_edits result.journal)) sessions.items }
+        ensures seen { All (λ session. IsPrefix (edits_of session.history) result.journal) sessions.items }
         ensures accepted { AreAccepted L.after L.why (P.opening result.publisher) (journal_edits result.journal) }
         ensures within { length result.journal ≤ result.limit }
     {

@@ -3,8 +3,8 @@
 ghost use Rattle.std.specs.Prelude.{◌≡◌, ℕ, ◌<◌, [], ◌∷◌, ◌++◌, length, None, IfOk, OnErr, MatchBool, MatchOption, ⊤};
 ghost use mathlib.Core.List.{IsPrefix};
 ghost use Rattle.cq_desk.specs.History.{edits_of};
-ghost use Rattle.cq_desk.specs.Replies.{MatchEnd, accepted, entries_by, journal_edits};
-ghost use Rattle.cq_room.specs.Marks.{edits_in};
+ghost use Rattle.cq_desk.specs.Replies.{MatchEnd, accepted, entries_by};
+ghost use Rattle.cq_room.specs.Marks.{entries_in};
 ghost use Rattle.cq_room.specs.Receipts.{AreReplies, IsPassed};
 ghost use Rattle.cq_room.specs.Steps.Receipts.{IsPublished};
 
@@ -24,7 +24,7 @@ where
 {
     /// The trail of the whole history.
     fn logged(&self) -> &Trail<L, N>
-        ensures { edits_in result.now ≡ edits_of (Self.history self.now) ++ Self.pending self.now };
+        ensures { entries_in result.now ≡ edits_of (Self.history self.now) ++ Self.pending self.now };
 
     /// A front with the publications that are shown.
     fn front(&self) -> Front<L, N>
@@ -81,14 +81,14 @@ impl<L: Live, N: RoomName<L::Content>, P: Publisher<L>, A: Allocator> Room<L, N,
     }
 }
 
-/// Whether the journal begins with what the session has seen. It always does.
+/// Whether the journal begins with what the session has seen, authors included. It always does.
 pub(crate) fn knows<L: Live, N: RoomName<L::Content>, P: Watched<L, N>, A: Allocator + Copy>(
     desk: &Desk<L, P, A>,
     session: &Session<L, N, A>,
 ) -> bool
 where
     P::Leave: Wait,
-    ensures { MatchBool result (IsPrefix (edits_of session.now.history) (journal_edits desk.now.journal)) ⊤ }
+    ensures { MatchBool result (IsPrefix (edits_of session.now.history) desk.now.journal) ⊤ }
 {
     session.is_behind(desk.publisher().logged())
 }
@@ -99,7 +99,7 @@ where
 {
     /// Returns where the journal begins with what the session has seen, which is always so.
     fn await_known(&self, rt: &P::Leave, session: &Session<L, N, A>)
-        ensures { IsPrefix (edits_of session.now.history) (journal_edits self.now.journal) }
+        ensures { IsPrefix (edits_of session.now.history) self.now.journal }
     {
         if knows(&self.desk, session) {
             return;
@@ -127,12 +127,12 @@ where
         asked: Vec<L::Edit, A>,
         gate: &mut G,
     ) -> Result<Receipt<L, N, A>, NoMemory>
-        ensures seen { IfOk result (λ _. IsPrefix (edits_of session.now.history) (journal_edits self.old.journal)) }
-        ensures replies { IfOk result (λ receipt. AreReplies L.after L.why N.opening N.limit (journal_edits self.old.journal) asked.items receipt.submitted.replies.items) }
+        ensures seen { IfOk result (λ _. IsPrefix (edits_of session.now.history) self.old.journal) }
+        ensures replies { IfOk result (λ receipt. AreReplies L.after L.why N.opening N.limit self.old.journal asked.items receipt.submitted.replies.items) }
         ensures journal { IfOk result (λ receipt. self.new.journal ≡ self.old.journal ++ entries_by session.now.number (accepted asked.items receipt.submitted.replies.items)) }
         ensures tried { IfOk result (λ receipt. MatchEnd receipt.submitted.end (λ _. length receipt.submitted.replies.items ≡ length asked.items) (length receipt.submitted.replies.items < length asked.items) (length receipt.submitted.replies.items ≡ length asked.items)) }
         ensures front { IfOk result (λ receipt. MatchEnd receipt.submitted.end
-            (λ count. MatchOption receipt.front ⊥ (λ front. IsPublished (journal_edits self.old.journal) asked.items receipt.submitted.replies.items count front))
+            (λ count. MatchOption receipt.front ⊥ (λ front. IsPublished self.old.journal session.now.number asked.items receipt.submitted.replies.items count front))
             (receipt.front ≡ None)
             (receipt.front ≡ None)) }
         ensures passed { IfOk result (λ receipt. MatchEnd receipt.submitted.end

@@ -3,7 +3,7 @@
 ghost use Rattle.std.specs.Prelude.{◌≡◌, ◌⊎◌, [], length, MatchBool, MatchOption, IfOk, IfErr};
 ghost use mathlib.Core.List.{IsPrefix};
 ghost use Rattle.cq_desk.specs.History.{BeginsWith, edits_of};
-ghost use Rattle.cq_room.specs.Marks.{Leaves, WereAccepted, edits_in, publications, fresh_in};
+ghost use Rattle.cq_room.specs.Marks.{Leaves, WereAccepted, entries_in, publications, fresh_in};
 ghost use Rattle.cq_room.specs.Receipts.{Heard};
 
 use crate::front::Front;
@@ -29,13 +29,13 @@ pub struct Session<L: Live, N: RoomName<L::Content>, A: Allocator = Global> {
 impl<L: Live, N: RoomName<L::Content>, A: Allocator> Model for Session<L, N, A> {
     ghost use Rattle.std.specs.Prelude.{◌≡◌, []};
     ghost use Rattle.cq_room.specs.Sessions.{SessionRecord};
-    ghost use Rattle.cq_room.specs.Marks.{WereAccepted, edits_in, publications, fresh_in};
+    ghost use Rattle.cq_room.specs.Marks.{WereAccepted, entries_in, publications, fresh_in};
 
     ghost Value = { SessionRecord L.Edit };
 
     ghost view = { λ s. record { number = s.number; history = publications s.trail } };
 
-    ghost invariant = { λ s. (fresh_in s.trail ≡ []) × WereAccepted L.after L.why N.opening (edits_in s.trail) };
+    ghost invariant = { λ s. (fresh_in s.trail ≡ []) × WereAccepted L.after L.why N.opening (entries_in s.trail) };
 }
 
 /// A session that is looking. While it looks, a publish may wait for it, and nothing else does.
@@ -49,13 +49,13 @@ pub struct Look<L: Live, N: RoomName<L::Content>, A: Allocator = Global> {
 impl<L: Live, N: RoomName<L::Content>, A: Allocator> Model for Look<L, N, A> {
     ghost use Rattle.std.specs.Prelude.{◌≡◌, []};
     ghost use Rattle.cq_room.specs.Sessions.{SessionRecord};
-    ghost use Rattle.cq_room.specs.Marks.{WereAccepted, edits_in, publications, fresh_in};
+    ghost use Rattle.cq_room.specs.Marks.{WereAccepted, entries_in, publications, fresh_in};
 
     ghost Value = { SessionRecord L.Edit };
 
     ghost view = { λ s. record { number = s.number; history = publications s.trail } };
 
-    ghost invariant = { λ s. (fresh_in s.trail ≡ []) × (s.reading.part.value.marks ≡ s.trail) × WereAccepted L.after L.why N.opening (edits_in s.trail) };
+    ghost invariant = { λ s. (fresh_in s.trail ≡ []) × (s.reading.part.value.marks ≡ s.trail) × WereAccepted L.after L.why N.opening (entries_in s.trail) };
 }
 
 impl<L: Live, N: RoomName<L::Content>, A: Allocator> Drop for Look<L, N, A> {
@@ -77,7 +77,7 @@ impl<L: Live, N: RoomName<L::Content>, A: Allocator> Session<L, N, A> {
         number: usize,
     ) -> Session<L, N, A>
         requires fresh { fresh_in trail ≡ [] }
-        requires accepted { WereAccepted L.after L.why N.opening (edits_in trail) }
+        requires accepted { WereAccepted L.after L.why N.opening (entries_in trail) }
         ensures { result ≡ record { number = number; history = publications trail } }
     {
         Session {
@@ -111,7 +111,7 @@ impl<L: Live, N: RoomName<L::Content>, A: Allocator> Session<L, N, A> {
 
     /// Whether the trail begins with what the session has seen.
     pub(crate) fn is_behind(&self, trail: &Trail<L, N>) -> bool
-        ensures { MatchBool result (IsPrefix (edits_of self.now.history) (edits_in trail.now)) (Unit {0}) }
+        ensures { MatchBool result (IsPrefix (edits_of self.now.history) (entries_in trail.now)) (Unit {0}) }
     {
         self.trail.begins(trail)
     }

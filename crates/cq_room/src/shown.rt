@@ -1,19 +1,19 @@
 //! What is shown: a state, and the trail that it has taken in.
 
 ghost use Rattle.std.specs.Prelude.{◌≡◌};
-ghost use Rattle.cq_room.specs.Marks.{Leaves, WereAccepted, edits_in};
+ghost use Rattle.cq_room.specs.Marks.{Leaves, WereAccepted, entries_in};
 ghost use Rattle.cq_room.specs.Steps.Marks.{Ends};
 
 use crate::mark::Mark;
 use crate::names::RoomName;
 use crate::trail::Trail;
-use cq_desk::Live;
+use cq_desk::{Entry, Live};
 use left_right::Absorb;
 use std::alloc::AllocError;
 use std::marker::Model;
 
 /// A state with the trail that it has taken in. Contracts see the trail's marks and the content. That
-/// the content is what the trail's edits leave over the room's opening content, and that each of these
+/// the content is what the edits of the trail's entries leave over the room's opening content, and that each of these
 /// was accepted after those before it, stands in this type, so it holds of each copy at any time.
 #[derive(Drop)]
 pub struct Shown<L: Live, N: RoomName<L::Content>> {
@@ -23,19 +23,19 @@ pub struct Shown<L: Live, N: RoomName<L::Content>> {
 
 impl<L: Live, N: RoomName<L::Content>> Model for Shown<L, N> {
     ghost use Rattle.cq_room.specs.Seen.{ShownRecord};
-    ghost use Rattle.cq_room.specs.Marks.{Leaves, WereAccepted, edits_in};
+    ghost use Rattle.cq_room.specs.Marks.{Leaves, WereAccepted, entries_in};
 
     ghost Value = { ShownRecord L.Edit L.Content };
 
     ghost view = { λ s. record { marks = s.trail; content = L.content s.state } };
 
-    ghost invariant = { λ s. Leaves L.after N.opening (edits_in s.trail) (L.content s.state) × WereAccepted L.after L.why N.opening (edits_in s.trail) };
+    ghost invariant = { λ s. Leaves L.after N.opening (entries_in s.trail) (L.content s.state) × WereAccepted L.after L.why N.opening (entries_in s.trail) };
 }
 
 /// One mark more, with the trail that it ends. Contracts see that trail's marks.
 #[derive(Drop)]
 pub struct Step<L: Live, N: RoomName<L::Content>> {
-    edit: Option<L::Edit>,
+    entry: Option<Entry<L::Edit>>,
     trail: Trail<L, N>,
 }
 
@@ -48,14 +48,14 @@ impl<L: Live, N: RoomName<L::Content>> Model for Step<L, N> {
 
     ghost view = { λ s. s.trail };
 
-    ghost invariant = { λ s. Ends s.trail s.edit };
+    ghost invariant = { λ s. Ends s.trail s.entry };
 }
 
 impl<L: Live, N: RoomName<L::Content>> Shown<L, N> {
     /// The state over the trail that leaves it.
     pub(crate) fn over(state: L, trail: Trail<L, N>) -> Shown<L, N>
-        requires leaves { Leaves L.after N.opening (edits_in trail) (L.content state) }
-        requires accepted { WereAccepted L.after L.why N.opening (edits_in trail) }
+        requires leaves { Leaves L.after N.opening (entries_in trail) (L.content state) }
+        requires accepted { WereAccepted L.after L.why N.opening (entries_in trail) }
         ensures { (result.marks ≡ trail) × (result.content ≡ L.content state) }
     {
         Shown { state, trail }
@@ -64,8 +64,8 @@ impl<L: Live, N: RoomName<L::Content>> Shown<L, N> {
     /// The state.
     pub(crate) fn state(&self) -> &L
         ensures content { L.content result.now ≡ self.now.content }
-        ensures leaves { Leaves L.after N.opening (edits_in self.now.marks) (L.content result.now) }
-        ensures accepted { WereAccepted L.after L.why N.opening (edits_in self.now.marks) }
+        ensures leaves { Leaves L.after N.opening (entries_in self.now.marks) (L.content result.now) }
+        ensures accepted { WereAccepted L.after L.why N.opening (entries_in self.now.marks) }
     {
         &self.state
     }
@@ -73,20 +73,20 @@ impl<L: Live, N: RoomName<L::Content>> Shown<L, N> {
     /// The trail.
     pub(crate) fn trail(&self) -> &Trail<L, N>
         ensures marks { result.now ≡ self.now.marks }
-        ensures leaves { Leaves L.after N.opening (edits_in self.now.marks) self.now.content }
-        ensures accepted { WereAccepted L.after L.why N.opening (edits_in self.now.marks) }
+        ensures leaves { Leaves L.after N.opening (entries_in self.now.marks) self.now.content }
+        ensures accepted { WereAccepted L.after L.why N.opening (entries_in self.now.marks) }
     {
         &self.trail
     }
 }
 
 impl<L: Live, N: RoomName<L::Content>> Step<L, N> {
-    /// The step that enters the edit, or ends a publication where there is none.
-    pub(crate) fn over(edit: Option<L::Edit>, trail: Trail<L, N>) -> Step<L, N>
-        requires { Ends trail edit }
+    /// The step that adds the entry, or ends a publication where there is none.
+    pub(crate) fn over(entry: Option<Entry<L::Edit>>, trail: Trail<L, N>) -> Step<L, N>
+        requires { Ends trail entry }
         ensures { result ≡ trail }
     {
-        Step { edit, trail }
+        Step { entry, trail }
     }
 }
 
@@ -97,7 +97,7 @@ impl<L: Live, N: RoomName<L::Content>> Absorb<Step<L, N>> for Shown<L, N> {
 
     ghost applied = { λ _ step. step };
 
-    /// Takes the step's edit into the state.
+    /// Takes the edit of the step's entry into the state.
     ///
     /// # Errors
     /// Where a growth was refused. Nothing has changed then, and the step can be taken later.
@@ -109,12 +109,12 @@ impl<L: Live, N: RoomName<L::Content>> Absorb<Step<L, N>> for Shown<L, N> {
         if !self.trail.is_followed_by(&operation.trail) {
             return Err(AllocError);
         }
-        match &operation.edit {
+        match &operation.entry {
             None => {
                 self.trail = operation.trail.again();
                 Ok(())
             }
-            Some(edit) => match self.state.admit(edit) {
+            Some(entry) => match self.state.admit(&entry.edit) {
                 Ok(None) => {
                     self.trail = operation.trail.again();
                     Ok(())

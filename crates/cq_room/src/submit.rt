@@ -3,7 +3,8 @@
 ghost use Rattle.std.specs.Prelude.{◌≡◌, ℕ, ◌<◌, List, ◌++◌, length, None, IfNone, IfOk, IfSome, OnErr, MatchOption};
 ghost use mathlib.Core.List.{IsPrefix};
 ghost use Rattle.cq_desk.specs.History.{StandsLast, edits_of};
-ghost use Rattle.cq_desk.specs.Replies.{MatchEnd, accepted};
+ghost use Rattle.cq_desk.specs.Replies.{MatchEnd, accepted, entries_by};
+ghost use Rattle.cq_desk.specs.declared.journal.Entry.{Entry};
 ghost use Rattle.cq_room.specs.Receipts.{AreNumbered, AreReplies, Heard, IsPassed, entered_before};
 
 use crate::names::RoomName;
@@ -32,10 +33,10 @@ impl<L: Live, N: RoomName<L::Content>, A: Allocator + Copy> Session<L, N, A> {
         ensures tried { IfOk result (λ receipt. MatchEnd receipt.submitted.end (λ _. length receipt.submitted.replies.items ≡ length asked.items) (length receipt.submitted.replies.items < length asked.items) (length receipt.submitted.replies.items ≡ length asked.items)) }
         ensures seen { IfOk result (λ receipt. IfSome receipt.front (λ front. IsPrefix (edits_of self.old.history) (entered_before front asked.items receipt.submitted.replies.items))) }
         ensures replies { IfOk result (λ receipt. IfSome receipt.front (λ front. AreReplies L.after L.why N.opening N.limit (entered_before front asked.items receipt.submitted.replies.items) asked.items receipt.submitted.replies.items)) }
-        ensures last { IfOk result (λ receipt. IfSome receipt.front (λ front. edits_of front ≡ entered_before front asked.items receipt.submitted.replies.items ++ accepted asked.items receipt.submitted.replies.items)) }
-        ensures publication { IfOk result (λ receipt. IfSome receipt.front (λ front. StandsLast (accepted asked.items receipt.submitted.replies.items) front)) }
-        ensures numbered { IfOk result (λ receipt. IfSome receipt.front (λ front. AreNumbered (edits_of front) asked.items receipt.submitted.replies.items)) }
-        ensures unpublished { IfOk result (λ receipt. IfNone receipt.front ((before : List L.Edit) × IsPrefix (edits_of self.old.history) before × AreReplies L.after L.why N.opening N.limit before asked.items receipt.submitted.replies.items)) }
+        ensures last { IfOk result (λ receipt. IfSome receipt.front (λ front. edits_of front ≡ entered_before front asked.items receipt.submitted.replies.items ++ entries_by self.old.number (accepted asked.items receipt.submitted.replies.items))) }
+        ensures publication { IfOk result (λ receipt. IfSome receipt.front (λ front. StandsLast (entries_by self.old.number (accepted asked.items receipt.submitted.replies.items)) front)) }
+        ensures numbered { IfOk result (λ receipt. IfSome receipt.front (λ front. AreNumbered (edits_of front) self.old.number asked.items receipt.submitted.replies.items)) }
+        ensures unpublished { IfOk result (λ receipt. IfNone receipt.front ((before : List (Entry L.Edit)) × IsPrefix (edits_of self.old.history) before × AreReplies L.after L.why N.opening N.limit before asked.items receipt.submitted.replies.items)) }
         ensures heard { IfOk result (λ receipt. MatchOption receipt.front (self.new ≡ self.old) (λ front. Heard self.old self.new front)) }
         ensures err { OnErr result (self.new ≡ self.old) }
     {
@@ -61,10 +62,10 @@ impl<L: Live, N: RoomName<L::Content>, A: Allocator + Copy> Session<L, N, A> {
         ensures tried { IfOk result (λ receipt. MatchEnd receipt.submitted.end (λ _. length receipt.submitted.replies.items ≡ length asked.items) (length receipt.submitted.replies.items < length asked.items) (length receipt.submitted.replies.items ≡ length asked.items)) }
         ensures seen { IfOk result (λ receipt. IfSome receipt.front (λ front. IsPrefix (edits_of self.old.history) (entered_before front asked.items receipt.submitted.replies.items))) }
         ensures replies { IfOk result (λ receipt. IfSome receipt.front (λ front. AreReplies L.after L.why N.opening N.limit (entered_before front asked.items receipt.submitted.replies.items) asked.items receipt.submitted.replies.items)) }
-        ensures last { IfOk result (λ receipt. IfSome receipt.front (λ front. edits_of front ≡ entered_before front asked.items receipt.submitted.replies.items ++ accepted asked.items receipt.submitted.replies.items)) }
-        ensures publication { IfOk result (λ receipt. IfSome receipt.front (λ front. StandsLast (accepted asked.items receipt.submitted.replies.items) front)) }
-        ensures numbered { IfOk result (λ receipt. IfSome receipt.front (λ front. AreNumbered (edits_of front) asked.items receipt.submitted.replies.items)) }
-        ensures unpublished { IfOk result (λ receipt. IfNone receipt.front ((before : List L.Edit) × IsPrefix (edits_of self.old.history) before × AreReplies L.after L.why N.opening N.limit before asked.items receipt.submitted.replies.items)) }
+        ensures last { IfOk result (λ receipt. IfSome receipt.front (λ front. edits_of front ≡ entered_before front asked.items receipt.submitted.replies.items ++ entries_by self.old.number (accepted asked.items receipt.submitted.replies.items))) }
+        ensures publication { IfOk result (λ receipt. IfSome receipt.front (λ front. StandsLast (entries_by self.old.number (accepted asked.items receipt.submitted.replies.items)) front)) }
+        ensures numbered { IfOk result (λ receipt. IfSome receipt.front (λ front. AreNumbered (edits_of front) self.old.number asked.items receipt.submitted.replies.items)) }
+        ensures unpublished { IfOk result (λ receipt. IfNone receipt.front ((before : List (Entry L.Edit)) × IsPrefix (edits_of self.old.history) before × AreReplies L.after L.why N.opening N.limit before asked.items receipt.submitted.replies.items)) }
         ensures heard { IfOk result (λ receipt. MatchOption receipt.front (self.new ≡ self.old) (λ front. Heard self.old self.new front)) }
         ensures passed { IfOk result (λ receipt. MatchEnd receipt.submitted.end
             (λ count. IsPassed G.passed gate.old gate.new count (length (accepted asked.items receipt.submitted.replies.items)))

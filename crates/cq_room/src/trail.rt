@@ -2,13 +2,13 @@
 
 ghost use Rattle.std.specs.Prelude.{◌≡◌, ◌+◌, ◌<◌, ◌^◌, ◌++◌, ◌∷◌, ◌⊎◌, [], length, MatchBool, ⊤};
 ghost use mathlib.Core.List.{IsPrefix};
-ghost use Rattle.cq_room.specs.Marks.{edits_in, fresh_in};
+ghost use Rattle.cq_room.specs.Marks.{entries_in, fresh_in};
 ghost use Rattle.cq_room.specs.declared.mark.Mark.TheVariants.{Entered, Cut};
 
 use crate::book::{Add, Book, End, Length, Nothing};
 use crate::mark::Mark;
 use crate::names::RoomName;
-use cq_desk::Live;
+use cq_desk::{Entry, Live};
 use logbook::{Offer, Seen};
 use std::marker::{Model, PhantomData};
 
@@ -25,13 +25,13 @@ pub struct Trail<L: Live, N: RoomName<L::Content>> {
 impl<L: Live, N: RoomName<L::Content>> Model for Trail<L, N> {
     ghost use Rattle.std.specs.Prelude.{◌≡◌, List, length};
     ghost use Rattle.cq_room.specs.declared.mark.Mark.{Mark};
-    ghost use Rattle.cq_room.specs.Marks.{edits_in, fresh_in};
+    ghost use Rattle.cq_room.specs.Marks.{entries_in, fresh_in};
 
     ghost Value = { List (Mark L.Edit) };
 
     ghost view = { λ t. t.seen.log };
 
-    ghost invariant = { λ t. (t.entries ≡ length t.seen.log) × (t.seen.book ≡ N.book) × (t.count ≡ length (edits_in t.seen.log)) × (t.fresh ≡ length (fresh_in t.seen.log)) };
+    ghost invariant = { λ t. (t.entries ≡ length t.seen.log) × (t.seen.book ≡ N.book) × (t.count ≡ length (entries_in t.seen.log)) × (t.fresh ≡ length (fresh_in t.seen.log)) };
 }
 
 impl<L: Live, N: RoomName<L::Content>> Trail<L, N> {
@@ -56,14 +56,14 @@ impl<L: Live, N: RoomName<L::Content>> Trail<L, N> {
         self.entries
     }
 
-    /// How many edits it has.
+    /// How many entries it has.
     pub(crate) fn count(&self) -> u64
-        ensures { result ≡ length (edits_in self.now) }
+        ensures { result ≡ length (entries_in self.now) }
     {
         self.count
     }
 
-    /// How many edits stand behind the last publication.
+    /// How many entries stand behind the last publication.
     pub(crate) fn fresh(&self) -> u64
         ensures { result ≡ length (fresh_in self.now) }
     {
@@ -122,18 +122,18 @@ impl<L: Live, N: RoomName<L::Content>> Trail<L, N> {
         self.entries < next.entries && next.entries - self.entries == 1
     }
 
-    /// Adds an edit to all that was seen, and says whether it did. It did not where the history is
+    /// Adds an entry to all that was seen, and says whether it did. It did not where the history is
     /// longer: nothing changes then.
-    pub(crate) fn enter(&mut self, book: &Book<L, N>, edit: &L::Edit) -> bool
+    pub(crate) fn enter(&mut self, book: &Book<L, N>, entry: &Entry<L::Edit>) -> bool
         requires room { length self.old < 2 ^ 62 }
-        ensures { MatchBool result (self.new ≡ self.old ++ Entered edit.now ∷ []) (self.new ≡ self.old) }
+        ensures { MatchBool result (self.new ≡ self.old ++ Entered entry.now ∷ []) (self.new ≡ self.old) }
     {
         let mut seen = self.seen.again();
         let mut offer: Offer<Mark<L::Edit>, u64, Length, Nothing> = seen.plain::<
             Nothing,
-            L::Edit,
+            Entry<L::Edit>,
             Add,
-        >(edit);
+        >(entry);
         let mut pen = seen.no_pen();
         let entries = self.entries;
         let found = book

@@ -4,6 +4,7 @@ use Rattle.std.specs.Prelude.{Result, Ok, Err, IfOk, codes}
 use Rattle.std.specs.List.{flat_map, range_with_len}
 use Rattle.std.proofs.lemmas.List.FromFn.{length-range_with_len}
 use Rattle.cq_desk.specs.History.{edits_of}
+use Rattle.cq_desk.specs.Replies.{journal_edits}
 use Rattle.cq_room.specs.Sessions.{SessionRecord, newcomers}
 use Rattle.cq_board.specs.Pool.{PoolRecord}
 use Rattle.cq_board.specs.Edits.{Edit}
@@ -173,9 +174,9 @@ room_served form opening opening1 limit limit1 sheet rest sheet' files sheets kn
 }
 
 -- newcomers know of nothing
-pub newcomers_know : {F : Type 0} (count : ℕ) (files : List F) → count ≡ length files → map (λ (s : SessionRecord Edit). edits_of s.history) (newcomers count) ≡ map (λ _. []) files
+pub newcomers_know : {F : Type 0} (count : ℕ) (files : List F) → count ≡ length files → map (λ (s : SessionRecord Edit). journal_edits (edits_of s.history)) (newcomers count) ≡ map (λ _. []) files
 newcomers_know count files e =
-    map_map (λ (s : SessionRecord Edit). edits_of s.history) (λ k. record { number = k; history = [] }) (range_with_len 0 count) ∙ map_same [] (range_with_len 0 count) files (length-range_with_len 0 count ∙ e)
+    map_map (λ (s : SessionRecord Edit). journal_edits (edits_of s.history)) (λ k. record { number = k; history = [] }) (range_with_len 0 count) ∙ map_same [] (range_with_len 0 count) files (length-range_with_len 0 count ∙ e)
 
 -- a fault of serving is none of writing
 pub not_written : (fault : ServeFault) (P Q : Type 0) → Q → IfWritten (run_fault fault) P Q

@@ -5,7 +5,8 @@ ghost use mathlib.Core.List.{IsPrefix};
 ghost use Rattle.cq_board.specs.Edits.{Edit as EditContent};
 ghost use Rattle.cq_board.specs.Pool.{PoolRecord};
 ghost use Rattle.cq_desk.specs.History.{StandsLast, edits_of};
-ghost use Rattle.cq_desk.specs.Replies.{MatchEnd, accepted};
+ghost use Rattle.cq_desk.specs.Replies.{MatchEnd, accepted, entries_by, journal_edits};
+ghost use Rattle.cq_desk.specs.declared.journal.Entry.{Entry};
 ghost use Rattle.cq_room.specs.Receipts.{AreNumbered, AreReplies, Heard, entered_before};
 ghost use Rattle.cq_sessions.specs.Steps.Sheets.{IsEven};
 ghost use Rattle.cq_sessions.specs.Steps.Clients.{IsOpened, TakesEdits, IsSubmission, Submits, opened_pool};
@@ -34,7 +35,7 @@ pub(crate) trait Client<A: Allocator>: Drop {
 
     ghost limit: { ℕ };
 
-    // The entries that the client has seen or heard of.
+    // The edits of the entries that the client has seen or heard of.
     ghost known: { Self → List EditContent };
 
     /// Submits the edits that wait, takes the replies down, and answers how many entries are published. It waits for those who
@@ -63,7 +64,8 @@ pub(crate) struct Hall<
     pub(crate) room: &'a Room<L, N, Pair<L, N, R, A>, A>,
 }
 
-/// A session at its place in a room. It is away only in the course of a look. Contracts see the entries that it knows of.
+/// A session at its place in a room. It is away only in the course of a look. Contracts see the edits of the entries
+/// that it knows of.
 #[derive(Drop)]
 pub(crate) struct BoardClient<
     'a,
@@ -107,7 +109,7 @@ impl<
     ) -> BoardClient<'a, L, N, R, A>
         requires opened { IsOpened N.opening }
         requires takes { TakesEdits L.after L.why }
-        ensures { result ≡ edits_of session.history }
+        ensures { result ≡ journal_edits (edits_of session.history) }
     {
         BoardClient {
             hall,
@@ -117,7 +119,7 @@ impl<
 
     /// The session.
     pub(crate) fn into_session(self) -> Session<L, N, A>
-        ensures { edits_of result.history ≡ self.entry }
+        ensures { journal_edits (edits_of result.history) ≡ self.entry }
     {
         let BoardClient { hall: _, session } = self;
         match session {
@@ -155,10 +157,10 @@ fn submit_in<L: Live, N: RoomName<L::Content>, R: Wait + Drop, A: Allocator + Co
     ensures tried { IfOk result (λ receipt. MatchEnd receipt.submitted.end (λ _. length receipt.submitted.replies.items ≡ length asked.items) (length receipt.submitted.replies.items < length asked.items) (length receipt.submitted.replies.items ≡ length asked.items)) }
     ensures seen { IfOk result (λ receipt. IfSome receipt.front (λ front. IsPrefix (edits_of session.old.history) (entered_before front asked.items receipt.submitted.replies.items))) }
     ensures replies { IfOk result (λ receipt. IfSome receipt.front (λ front. AreReplies L.after L.why N.opening N.limit (entered_before front asked.items receipt.submitted.replies.items) asked.items receipt.submitted.replies.items)) }
-    ensures last { IfOk result (λ receipt. IfSome receipt.front (λ front. edits_of front ≡ entered_before front asked.items receipt.submitted.replies.items ++ accepted asked.items receipt.submitted.replies.items)) }
-    ensures publication { IfOk result (λ receipt. IfSome receipt.front (λ front. StandsLast (accepted asked.items receipt.submitted.replies.items) front)) }
-    ensures numbered { IfOk result (λ receipt. IfSome receipt.front (λ front. AreNumbered (edits_of front) asked.items receipt.submitted.replies.items)) }
-    ensures unpublished { IfOk result (λ receipt. IfNone receipt.front ((before : List L.Edit) × IsPrefix (edits_of session.old.history) before × AreReplies L.after L.why N.opening N.limit before asked.items receipt.submitted.replies.items)) }
+    ensures last { IfOk result (λ receipt. IfSome receipt.front (λ front. edits_of front ≡ entered_before front asked.items receipt.submitted.replies.items ++ entries_by session.old.number (accepted asked.items receipt.submitted.replies.items))) }
+    ensures publication { IfOk result (λ receipt. IfSome receipt.front (λ front. StandsLast (entries_by session.old.number (accepted asked.items receipt.submitted.replies.items)) front)) }
+    ensures numbered { IfOk result (λ receipt. IfSome receipt.front (λ front. AreNumbered (edits_of front) session.old.number asked.items receipt.submitted.replies.items)) }
+    ensures unpublished { IfOk result (λ receipt. IfNone receipt.front ((before : List (Entry L.Edit)) × IsPrefix (edits_of session.old.history) before × AreReplies L.after L.why N.opening N.limit before asked.items receipt.submitted.replies.items)) }
     ensures heard { IfOk result (λ receipt. MatchOption receipt.front (session.new ≡ session.old) (λ front. Heard session.old session.new front)) }
     ensures err { OnErr result (session.new ≡ session.old) }
 {
@@ -178,7 +180,7 @@ fn submit_by<
 ) -> Result<Submission<A>, ServeFault>
     requires opened { IsOpened N.opening }
     requires takes { TakesEdits L.after L.why }
-    ensures { IfOk result (λ submission. IsSubmission (opened_pool N.opening) N.limit (edits_of session.old.history) (edits_of session.new.history) asked.items submission.replies.items submission.published) }
+    ensures { IfOk result (λ submission. IsSubmission (opened_pool N.opening) N.limit (journal_edits (edits_of session.old.history)) (journal_edits (edits_of session.new.history)) asked.items submission.replies.items submission.published) }
 {
     let receipt = match submit_in(hall.rt, hall.room, session, asked) {
         Ok(receipt) => receipt,
@@ -201,7 +203,7 @@ fn submit_waiting<
     requires opened { IsOpened N.opening }
     requires takes { TakesEdits L.after L.why }
     requires even { IsEven sheet.old }
-    ensures { IfOk result (λ published. Submits (opened_pool N.opening) N.limit (edits_of session.old.history) sheet.old (edits_of session.new.history) sheet.new published) }
+    ensures { IfOk result (λ published. Submits (opened_pool N.opening) N.limit (journal_edits (edits_of session.old.history)) sheet.old (journal_edits (edits_of session.new.history)) sheet.new published) }
 {
     let submission = submit_by(hall, session, sheet.take())?;
     sheet.end(&submission.replies)?;

@@ -5,6 +5,7 @@ ghost use Rattle.std.specs.List.{flat_map};
 ghost use Rattle.std.specs.Io.KnownBytes.{Appends};
 ghost use Rattle.cq_text.specs.Device.{TakesFront};
 ghost use Rattle.cq_desk.specs.History.{edits_of};
+ghost use Rattle.cq_desk.specs.Replies.{journal_edits};
 ghost use Rattle.cq_report.specs.Run.{IsOfSessions, failures_of};
 ghost use Rattle.cq_sessions.specs.Script.{form_line, declaration_line, limits_line, entries_from, replies_from, sheets_from};
 ghost use Rattle.cq_sessions.specs.Sessions.{Ran, IfWritten, Wrote, WroteFrontOf, pool_of};
@@ -190,7 +191,7 @@ fn clients<
 ) -> Result<Vec<BoardClient<'a, L, N, R, A>, A>, AllocError>
     requires opened { IsOpened N.opening }
     requires takes { TakesEdits L.after L.why }
-    ensures { IfOk result (λ clients. clients.items ≡ map (λ session. edits_of session.history) sessions.items) }
+    ensures { IfOk result (λ clients. clients.items ≡ map (λ session. journal_edits (edits_of session.history)) sessions.items) }
 {
     let mut clients = Vec::new(alloc);
     for session in sessions {
@@ -209,7 +210,7 @@ fn sessions_of<
     alloc: A,
     clients: Vec<BoardClient<'_, L, N, R, A>, A>,
 ) -> Result<Vec<Session<L, N, A>, A>, AllocError>
-    ensures { IfOk result (λ sessions. map (λ session. edits_of session.history) sessions.items ≡ clients.entry.items) }
+    ensures { IfOk result (λ sessions. map (λ session. journal_edits (edits_of session.history)) sessions.items ≡ clients.entry.items) }
 {
     let mut sessions = Vec::new(alloc);
     for client in clients {
@@ -242,8 +243,8 @@ fn serve_in<
     requires even { IsEven sheet.old }
     requires asked { sheet.old.asked ≡ [] }
     requires files { 0 < length files.now }
-    requires fresh { map (λ session. edits_of session.history) sessions.items ≡ map (λ _. []) files.now }
-    ensures { IfOk result (λ served. AllServed form (opened_pool N.opening) N.limit sheet.old rest.now sheet.new (map (λ file. file.items) files.now) served.sheets.items (map (λ session. edits_of session.history) served.clients.items)) }
+    requires fresh { map (λ session. journal_edits (edits_of session.history)) sessions.items ≡ map (λ _. []) files.now }
+    ensures { IfOk result (λ served. AllServed form (opened_pool N.opening) N.limit sheet.old rest.now sheet.new (map (λ file. file.items) files.now) served.sheets.items (map (λ session. journal_edits (edits_of session.history)) served.clients.items)) }
 {
     let clients = clients(alloc, hall, sessions)?;
     let Served { clients, sheets } = serve_all(rt, alloc, form, clients, sheet, rest, files, gate)?;
@@ -283,7 +284,7 @@ fn close<A: Allocator + Copy, L: Live<Edit = Edit<A>>, N: RoomName<L::Content>, 
 ) -> Result<(), ServeFault>
 where
     P::Leave: Wait,
-    ensures { OnOk result (PutEntries (map (λ session. edits_of session.history) sessions.items) (numbers_told setup.now.numbers (map (λ sheet. sheet.numbers) sheets.now)) (string_bytes page.old) (string_bytes page.new)) }
+    ensures { OnOk result (PutEntries (map (λ session. journal_edits (edits_of session.history)) sessions.items) (numbers_told setup.now.numbers (map (λ sheet. sheet.numbers) sheets.now)) (string_bytes page.old) (string_bytes page.new)) }
 {
     let desk = room.close(rt, sessions);
     let put = put_told(alloc, desk.journal(), setup, sheets, page);

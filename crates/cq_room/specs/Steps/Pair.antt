@@ -14,7 +14,7 @@ abbrev pub ends_at : {M : Type 0} → M → List M → Option M → M
 ends_at marks steps None = last_of marks steps
 ends_at marks steps (Some step) = step
 
--- What the copies show, the pending steps and the step that waits are in step with the trail of the whole history. What is shown ends in no edit: all of its edits stand in publications.
+-- What the copies show, the pending steps and the step that waits are in step with the trail of the whole history. What is shown ends in no entry: all of its entries stand in publications.
 pub record IsPaired {E C : Type 0} (opening : List C) (content : C) (shown : List (Mark E)) (steps : List (List (Mark E))) (waiting : Option (List (Mark E))) (trail : List (Mark E)) : Type 0 where
   pub opened : opening ≡ opening_or content opening ∷ []
   pub begins : IsPrefix shown trail

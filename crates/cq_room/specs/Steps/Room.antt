@@ -6,4 +6,4 @@ use Rattle.cq_desk.specs.History.{History}
 -- The accepted edits with their authors, and the publications that are shown.
 pub record LockedRecord (E : Type 0) : Type 0 where
   pub journal : List (Entry E)
-  pub shown : History E
+  pub shown : History (Entry E)

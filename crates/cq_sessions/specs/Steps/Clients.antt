@@ -4,16 +4,17 @@ use Rattle.cq_board.specs.declared.edit.Why.{Why}
 use Rattle.cq_board.specs.Pool.{PoolRecord, opening_pool}
 use Rattle.cq_board.specs.Edits.{Edit, why, pool_after}
 use Rattle.cq_desk.specs.History.{edits_of}
+use Rattle.cq_desk.specs.Replies.{journal_edits}
 use Rattle.cq_desk.specs.declared.reply.Reply.{Reply}
 use Rattle.cq_room.specs.Sessions.{SessionRecord}
 use Rattle.cq_sessions.specs.Script.{Sheet}
 use Rattle.cq_sessions.specs.Sessions.{Submitted, EndsFile}
 use Rattle.cq_sessions.specs.Steps.Sheets.{SheetRecord, told_in, whole}
 
--- The entries that a session knows of, and none where there is no session.
+-- The edits of the entries that a session knows of, and none where there is no session.
 abbrev pub known_in : Option (SessionRecord Edit) → List Edit
 known_in None = []
-known_in (Some session) = edits_of session.history
+known_in (Some session) = journal_edits (edits_of session.history)
 
 abbrev pub IsSeated : Option (SessionRecord Edit) → Type 0
 IsSeated None = ⊥

@@ -1,8 +1,7 @@
 use Rattle.std.proofs.Common.{All, take}
 use mathlib.Core.List.{IsPrefix}
 use Rattle.cq_desk.specs.History.{edits_of}
-use Rattle.cq_desk.specs.Replies.{journal_edits}
 use Rattle.cq_room.proofs.parts.knows_all.Given as goal
 
 abbrev pub invariant-loop-session : goal.invariant-loop-session
-invariant-loop-session g l = All (λ s. IsPrefix (edits_of s.history) (journal_edits l.desk.journal)) (take l.session-index l.sessions)
+invariant-loop-session g l = All (λ s. IsPrefix (edits_of s.history) l.desk.journal) (take l.session-index l.sessions)

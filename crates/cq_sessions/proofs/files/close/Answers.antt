@@ -1,9 +1,10 @@
 use Rattle.std.proofs.Common.{◌++◌, map, ap, subst, ◌∙◌}
 use Rattle.std.specs.Prelude.{string_bytes, Result, Ok, Err, OnOk}
-use Rattle.std.proofs.lemmas.List.Elements.{All-map}
+use Rattle.std.proofs.lemmas.List.Elements.{All-map, All-weaker}
 use mathlib.Core.List.{IsPrefix}
 use Rattle.cq_desk.specs.History.{edits_of}
 use Rattle.cq_desk.specs.Replies.{journal_edits}
+use Rattle.cq_sessions.proofs.Clients.{prefix_journal}
 use Rattle.cq_sessions.specs.Script.{entries_from}
 use Rattle.cq_sessions.specs.Steps.Rooms.{AreTold, numbers_told}
 use Rattle.cq_sessions.proofs.files.close.Goals as goal
@@ -15,7 +16,8 @@ returns g c =
     on_ok_both c.put_told-put.result
     (λ told e. record {
       journal = journal;
-      begins = All-map (λ known. IsPrefix known (journal_edits journal)) (λ session. edits_of session.history) c.args.sessions.items c.close-desk.ensures.seen;
+      begins = All-map (λ known. IsPrefix known (journal_edits journal)) (λ session. journal_edits (edits_of session.history)) c.args.sessions.items
+          (All-weaker (λ session. IsPrefix (edits_of session.history) journal) (λ session. IsPrefix (journal_edits (edits_of session.history)) (journal_edits journal)) (λ session p. prefix_journal (edits_of session.history) journal p) c.args.sessions.items c.close-desk.ensures.seen);
       told = subst (λ z. AreTold z numbers) c.journal.ensures.value told;
       put = e ∙ ap (λ z. string_bytes c.args.page.now ++ entries_from 1 z) c.journal.ensures.value;
     }) c.put_told-put.ensures.told c.put_told-put.ensures.put

@@ -1,5 +1,5 @@
 use Rattle.std.proofs.Common.{rules, ◌≡◌, ◌+◌, ◌-◌, ◌<◌, ◌≤◌, ◌^◌, [], ◌∷◌, ◌++◌, length, take, drop, refl, ap, sym, ◌∙◌, subst, fold, arith, length-take}
-use Rattle.std.proofs.lemmas.List.{append-nil, length-map, take_all}
+use Rattle.std.proofs.lemmas.List.{append-nil, take_all}
 use Rattle.cq_desk.specs.History.{edits_of, grown, BeginsWith}
 use Rattle.cq_desk.specs.Replies.{AreAccepted, journal_edits}
 use Rattle.cq_desk.proofs.Histories.{tells_more, tells_all, told_length, rest_is, edits-grown, same_told, begins_itself, begins_on, begins_same, told_front}
@@ -9,7 +9,7 @@ pub append-requires : goal.append-requires
 append-requires g c = let d = c.loop-self.self-inside in
     let h = edits_of (g.P.Publisher.history d.publisher) in
     let p = g.P.Publisher.pending d.publisher in
-    let es = journal_edits d.journal.items in
+    let es = d.journal.items in
     let n : length h + length p ≡ length (take d.handed es) = told_length h p (take d.handed es) c.loop-self.invariant.0.told in
     let m = length-take d.handed es in
     let o : c.len.result < 2 ^ 64 = c.len.type_inv in
@@ -20,11 +20,12 @@ append-requires g c = let d = c.loop-self.self-inside in
 
 pub loop-self-preserved : goal.loop-self-preserved
 loop-self-preserved g c = let d = c.loop-self.self-inside in let inv = c.loop-self.invariant in let kept = c.in_ok-append.ensures in
-    let now : g.P.Publisher.pending c.append.new.self ≡ g.P.Publisher.pending d.publisher ++ c.in_ok-edit.edit ∷ [] = search rules in
-    let edit : c.in_ok-edit.edit ≡ c.index.result.now.edit = search rules in (
+    let entry = c.index-entry.result.now in
+    let now : g.P.Publisher.pending c.append.new.self ≡ g.P.Publisher.pending d.publisher ++ record { author = entry.author; edit = c.in_ok-edit.edit } ∷ [] = search rules in
+    let edit : c.in_ok-edit.edit ≡ entry.edit = search rules in (
       record {
         works = inv.0.works ∙ ap (λ o. fold g.L.Live.after o (journal_edits d.journal.items)) (sym kept.opening);
-        told = ap (λ h. edits_of h ++ g.P.Publisher.pending c.append.new.self) kept.history ∙ tells_more (λ e. e.edit) (edits_of (g.P.Publisher.history d.publisher)) (g.P.Publisher.pending d.publisher) _ d.handed d.journal.items c.index.result.now (search rules) (search rules) (now ∙ ap (λ e. g.P.Publisher.pending d.publisher ++ e ∷ []) edit) inv.0.told;
+        told = ap (λ h. edits_of h ++ g.P.Publisher.pending c.append.new.self) kept.history ∙ tells_more (edits_of (g.P.Publisher.history d.publisher)) (g.P.Publisher.pending d.publisher) _ d.handed d.journal.items entry (search rules) (search rules) (now ∙ ap (λ e. g.P.Publisher.pending d.publisher ++ record { author = entry.author; edit = e } ∷ []) edit) inv.0.told;
         handed_within = search rules;
         counts = inv.0.counts ∙ ap (λ h. length (edits_of h)) (sym kept.shown);
         front = subst (λ h. BeginsWith h (g.P.Publisher.shown c.append.new.self)) (sym kept.history) (subst (BeginsWith (g.P.Publisher.history d.publisher)) (sym kept.shown) inv.0.front);
@@ -50,7 +51,7 @@ invariant_of-self-2 g c = let d = c.loop-self.self-inside in let inv = c.loop-se
       works = inv.0.works ∙ ap (λ o. fold g.L.Live.after o (journal_edits d.journal.items)) (sym kept.opening);
       told = ap (λ p. edits_of (g.P.Publisher.history now) ++ p) none ∙ (append-nil _ ∙ whole);
       handed_within = inv.0.handed_within;
-      counts = all ∙ sym (ap (λ h. length (edits_of h)) shows ∙ ap length (whole ∙ take_all d.handed (journal_edits d.journal.items) (omega (arith, length-map d.journal.items (λ e. e.edit)))) ∙ length-map d.journal.items (λ e. e.edit));
+      counts = all ∙ sym (ap (λ h. length (edits_of h)) shows ∙ ap length (whole ∙ take_all d.handed d.journal.items (omega (arith, all))));
       front = subst (BeginsWith (g.P.Publisher.history now)) (sym shows) (begins_itself (g.P.Publisher.history now));
       accepted = subst (λ o. AreAccepted g.L.Live.after g.L.Live.why o (journal_edits d.journal.items)) (sym kept.opening) inv.0.accepted;
       within = inv.0.within;
@@ -62,11 +63,11 @@ returns-clause-history g c = let d = c.loop-self.self-inside in let inv = c.loop
     let all : d.handed ≡ length d.journal.items = search rules in
     let none : g.P.Publisher.pending now ≡ [] = search rules in
     let history : g.P.Publisher.history now ≡ grown (g.P.Publisher.history d.publisher) (g.P.Publisher.pending d.publisher) = sym (ap (grown (g.P.Publisher.history now)) none) ∙ c.publish.ensures.together in
-    let h = edits_of (g.P.Publisher.history d.publisher) in let p = g.P.Publisher.pending d.publisher in let es = journal_edits d.journal.items in
-    let whole : h ++ p ≡ es = tells_all (λ e. e.edit) h p d.handed d.journal.items all inv.0.told in
+    let h = edits_of (g.P.Publisher.history d.publisher) in let p = g.P.Publisher.pending d.publisher in let es = d.journal.items in
+    let whole : h ++ p ≡ es = tells_all h p d.handed d.journal.items all inv.0.told in
     let rest : p ≡ drop (length h) es = rest_is h p es whole in
     let was : g.P.Publisher.history d.publisher ≡ g.P.Publisher.history a.publisher = inv.4 ∙ ap (λ v. g.P.Publisher.history v.publisher) c.self.view_is in
-    let journal : es ≡ journal_edits a.journal = ap (λ v. journal_edits v.items) inv.1 ∙ ap (λ v. journal_edits v.journal) c.self.view_is in
+    let journal : es ≡ a.journal = ap (λ v. v.items) inv.1 ∙ ap (λ v. v.journal) c.self.view_is in
     history ∙ (ap (grown (g.P.Publisher.history d.publisher)) rest ∙ (ap (λ k. grown k (drop (length (edits_of k)) es)) was ∙ ap (λ z. grown (g.P.Publisher.history a.publisher) (drop (length (edits_of (g.P.Publisher.history a.publisher))) z)) journal))
 
 pub returns-clause-all : goal.returns-clause-all
@@ -76,8 +77,8 @@ returns-clause-all g c = let d = c.loop-self.self-inside in let inv = c.loop-sel
     let none : g.P.Publisher.pending now ≡ [] = search rules in
     let history : g.P.Publisher.history now ≡ grown (g.P.Publisher.history d.publisher) (g.P.Publisher.pending d.publisher) = sym (ap (grown (g.P.Publisher.history now)) none) ∙ c.publish.ensures.together in
     let h = edits_of (g.P.Publisher.history d.publisher) in let p = g.P.Publisher.pending d.publisher in
-    ap edits_of history ∙ (edits-grown (g.P.Publisher.history d.publisher) p ∙ (tells_all (λ e. e.edit) h p d.handed d.journal.items all inv.0.told
-    ∙ (ap (λ v. journal_edits v.items) inv.1 ∙ ap (λ v. journal_edits v.journal) c.self.view_is)))
+    ap edits_of history ∙ (edits-grown (g.P.Publisher.history d.publisher) p ∙ (tells_all h p d.handed d.journal.items all inv.0.told
+    ∙ (ap (λ v. v.items) inv.1 ∙ ap (λ v. v.journal) c.self.view_is)))
 
 pub invariant_of-self-in_err-publish : goal.invariant_of-self-in_err-publish
 invariant_of-self-in_err-publish g c = let d = c.loop-self.self-inside in let inv = c.loop-self.invariant in
@@ -100,7 +101,7 @@ returns-in_err-edit-clause-begins g c = let d = c.loop-self.self-inside in
 pub returns-in_err-edit-clause-told : goal.returns-in_err-edit-clause-told
 returns-in_err-edit-clause-told g c = let d = c.loop-self.self-inside in let inv = c.loop-self.invariant in
     let t = edits_of (g.P.Publisher.history d.publisher) ++ g.P.Publisher.pending d.publisher in
-    told_front t t (journal_edits d.journal.items) (journal_edits c.args.self.now.journal) d.handed refl inv.0.told (ap (λ v. journal_edits v.items) inv.1 ∙ ap (λ v. journal_edits v.journal) c.self.view_is)
+    told_front t t d.journal.items c.args.self.now.journal d.handed refl inv.0.told (ap (λ v. v.items) inv.1 ∙ ap (λ v. v.journal) c.self.view_is)
 
 pub returns-in_err-append-clause-begins : goal.returns-in_err-append-clause-begins
 returns-in_err-append-clause-begins g c =
@@ -109,15 +110,15 @@ returns-in_err-append-clause-begins g c =
 pub returns-in_err-append-clause-told : goal.returns-in_err-append-clause-told
 returns-in_err-append-clause-told g c = let d = c.loop-self.self-inside in let inv = c.loop-self.invariant in let now = c.append.new.self in
     let same : g.P.Publisher.pending now ≡ g.P.Publisher.pending d.publisher = search rules in
-    told_front (edits_of (g.P.Publisher.history d.publisher) ++ g.P.Publisher.pending d.publisher) (edits_of (g.P.Publisher.history now) ++ g.P.Publisher.pending now) (journal_edits d.journal.items) (journal_edits c.args.self.now.journal) d.handed
-    (ap (λ h. edits_of h ++ g.P.Publisher.pending now) c.in_err-append.ensures.history ∙ ap (λ q. edits_of (g.P.Publisher.history d.publisher) ++ q) same) inv.0.told (ap (λ v. journal_edits v.items) inv.1 ∙ ap (λ v. journal_edits v.journal) c.self.view_is)
+    told_front (edits_of (g.P.Publisher.history d.publisher) ++ g.P.Publisher.pending d.publisher) (edits_of (g.P.Publisher.history now) ++ g.P.Publisher.pending now) d.journal.items c.args.self.now.journal d.handed
+    (ap (λ h. edits_of h ++ g.P.Publisher.pending now) c.in_err-append.ensures.history ∙ ap (λ q. edits_of (g.P.Publisher.history d.publisher) ++ q) same) inv.0.told (ap (λ v. v.items) inv.1 ∙ ap (λ v. v.journal) c.self.view_is)
 
 pub returns-in_err-publish-clause-told : goal.returns-in_err-publish-clause-told
 returns-in_err-publish-clause-told g c = let d = c.loop-self.self-inside in let inv = c.loop-self.invariant in let now = c.publish.new.self in
-    told_front (edits_of (g.P.Publisher.history d.publisher) ++ g.P.Publisher.pending d.publisher) (edits_of (g.P.Publisher.history now) ++ g.P.Publisher.pending now) (journal_edits d.journal.items) (journal_edits c.args.self.now.journal) d.handed
-    (same_told (g.P.Publisher.history d.publisher) (g.P.Publisher.history now) (g.P.Publisher.pending d.publisher) (g.P.Publisher.pending now) c.publish.ensures.together) inv.0.told (ap (λ v. journal_edits v.items) inv.1 ∙ ap (λ v. journal_edits v.journal) c.self.view_is)
+    told_front (edits_of (g.P.Publisher.history d.publisher) ++ g.P.Publisher.pending d.publisher) (edits_of (g.P.Publisher.history now) ++ g.P.Publisher.pending now) d.journal.items c.args.self.now.journal d.handed
+    (same_told (g.P.Publisher.history d.publisher) (g.P.Publisher.history now) (g.P.Publisher.pending d.publisher) (g.P.Publisher.pending now) c.publish.ensures.together) inv.0.told (ap (λ v. v.items) inv.1 ∙ ap (λ v. v.journal) c.self.view_is)
 
 pub returns-clause-told : goal.returns-clause-told
 returns-clause-told g c = let d = c.loop-self.self-inside in let inv = c.loop-self.invariant in let now = c.publish.new.self in
-    told_front (edits_of (g.P.Publisher.history d.publisher) ++ g.P.Publisher.pending d.publisher) (edits_of (g.P.Publisher.history now) ++ g.P.Publisher.pending now) (journal_edits d.journal.items) (journal_edits c.args.self.now.journal) d.handed
-    (same_told (g.P.Publisher.history d.publisher) (g.P.Publisher.history now) (g.P.Publisher.pending d.publisher) (g.P.Publisher.pending now) c.publish.ensures.together) inv.0.told (ap (λ v. journal_edits v.items) inv.1 ∙ ap (λ v. journal_edits v.journal) c.self.view_is)
+    told_front (edits_of (g.P.Publisher.history d.publisher) ++ g.P.Publisher.pending d.publisher) (edits_of (g.P.Publisher.history now) ++ g.P.Publisher.pending now) d.journal.items c.args.self.now.journal d.handed
+    (same_told (g.P.Publisher.history d.publisher) (g.P.Publisher.history now) (g.P.Publisher.pending d.publisher) (g.P.Publisher.pending now) c.publish.ensures.together) inv.0.told (ap (λ v. v.items) inv.1 ∙ ap (λ v. v.journal) c.self.view_is)

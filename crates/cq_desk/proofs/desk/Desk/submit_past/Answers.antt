@@ -44,20 +44,19 @@ pub returns-in-Ok-clause-count : goal.returns-in-Ok-clause-count
 returns-in-Ok-clause-count g c = c.in-Ok.ensures.count ∙ ap length (sym c.publish.ensures.journal)
 
 pub returns-in-Ok-clause-shown : goal.returns-in-Ok-clause-shown
-returns-in-Ok-clause-shown g c = ap edits_of c.in-Ok.ensures.shown ∙ (c.in-Ok.ensures.all ∙ ap journal_edits (sym c.publish.ensures.journal))
+returns-in-Ok-clause-shown g c = ap edits_of c.in-Ok.ensures.shown ∙ (c.in-Ok.ensures.all ∙ sym c.publish.ensures.journal)
 
 pub returns-in-Ok-clause-last : goal.returns-in-Ok-clause-last
 returns-in-Ok-clause-last g c = let at = c.loop-edit in let inv = at.invariant in let a = c.args.self.now in let now = c.publish.new.self in
     let none : into_iter_items at.edit-iterator ≡ [] = nothing_left (into_iter_items at.edit-iterator) (sym inv.1 ∙ c.in-None.ensures.steps.0) in
     let all : at.yielded ≡ c.args.asked.items = sym (append-nil at.yielded) ∙ (ap (λ z. at.yielded ++ z) (sym none) ∙ (inv.0 ∙ c.into_iter-edit-iterator.ensures.into_iter_gives.0)) in
-    let es = accepted c.args.asked.items at.replies.items in
-    let taken : at.self.journal ≡ a.journal ++ entries_by c.args.author es = ap (λ v. v.journal) inv.5 ∙ ap (λ z. a.journal ++ entries_by c.args.author (accepted z at.replies.items)) all in
-    let more : journal_edits at.self.journal ≡ journal_edits a.journal ++ es = edits_entered c.args.author a.journal at.self.journal es taken in
+    let es = entries_by c.args.author (accepted c.args.asked.items at.replies.items) in
+    let taken : at.self.journal ≡ a.journal ++ es = ap (λ v. v.journal) inv.5 ∙ ap (λ z. a.journal ++ entries_by c.args.author (accepted z at.replies.items)) all in
     let h = g.P.Publisher.history a.publisher in
     let was : g.P.Publisher.history at.self.publisher ≡ h = ap (λ v. g.P.Publisher.history v.publisher) inv.5 in
-    let told : IsPrefix (edits_of h ++ g.P.Publisher.pending a.publisher) (journal_edits a.journal) = subst (λ p. IsPrefix (edits_of (g.P.Publisher.history p) ++ g.P.Publisher.pending p) (journal_edits a.journal)) c.publisher.ensures.same c.publisher.ensures.told in
-    let grew = c.in-Ok.ensures.history ∙ ap (λ k. grown k (drop (length (edits_of k)) (journal_edits at.self.journal))) was in
-    subst (StandsLast es) (sym c.in-Ok.ensures.shown) (published_last h (g.P.Publisher.history now.publisher) (g.P.Publisher.pending a.publisher) (journal_edits a.journal) (journal_edits at.self.journal) es told more grew)
+    let told : IsPrefix (edits_of h ++ g.P.Publisher.pending a.publisher) a.journal = subst (λ p. IsPrefix (edits_of (g.P.Publisher.history p) ++ g.P.Publisher.pending p) a.journal) c.publisher.ensures.same c.publisher.ensures.told in
+    let grew = c.in-Ok.ensures.history ∙ ap (λ k. grown k (drop (length (edits_of k)) at.self.journal)) was in
+    subst (StandsLast es) (sym c.in-Ok.ensures.shown) (published_last h (g.P.Publisher.history now.publisher) (g.P.Publisher.pending a.publisher) a.journal at.self.journal es told taken grew)
 
 pub returns-in_default-clause-begins : goal.returns-in_default-clause-begins
 returns-in_default-clause-begins g c =

@@ -7,6 +7,6 @@ use Rattle.cq_desk.proofs.floor.Floor.board.Goals as goal
 
 pub returns : goal.returns
 returns g c = let d = c.self.inside.desk in let p = c.publisher.result.now in
-    c.published.ensures ∙ (ap (fold g.L.Live.after p.opening) (front_left (λ e. e.edit) (edits_of p.history) p.pending d.journal c.publisher.ensures.told)
+    c.published.ensures ∙ (ap (λ es. fold g.L.Live.after p.opening (journal_edits es)) (front_left (edits_of p.history) p.pending d.journal c.publisher.ensures.told)
     ∙ (ap (λ q. fold g.L.Live.after q.opening (journal_edits (take (length (edits_of q.history)) d.journal))) c.publisher.ensures.same
     ∙ ap (λ v. published_content g.L.Live.after v.opening v.machine) c.self.view_is))

@@ -4,8 +4,8 @@ use Rattle.cq_desk.proofs.plain.PlainPublisher.publish.Given as goal
 
 abbrev pub invariant-loop-self : goal.invariant-loop-self
 invariant-loop-self g l = let d = l.self-inside in let a = l.initial.self-inside in
-    IsPublished g.L.Live.after (g.L.Live.content d.opening) (g.L.Live.content d.shown) (g.L.Live.content d.next) d.edits.items d.lengths.items d.published d.taken
-    × (d.opening ≡ a.opening) × (d.shown ≡ a.shown) × (d.edits ≡ a.edits) × (d.lengths ≡ a.lengths) × (d.published ≡ a.published)
+    IsPublished g.L.Live.after (g.L.Live.content d.opening) (g.L.Live.content d.shown) (g.L.Live.content d.next) d.entries.items d.lengths.items d.published d.taken
+    × (d.opening ≡ a.opening) × (d.shown ≡ a.shown) × (d.entries ≡ a.entries) × (d.lengths ≡ a.lengths) × (d.published ≡ a.published)
 
 abbrev pub decreases-loop-self : goal.decreases-loop-self
-decreases-loop-self g l = length l.self-inside.edits.items - l.self-inside.taken
+decreases-loop-self g l = length l.self-inside.entries.items - l.self-inside.taken

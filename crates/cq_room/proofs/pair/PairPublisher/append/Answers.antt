@@ -5,10 +5,10 @@ use Rattle.cq_room.proofs.pair.PairPublisher.append.Goals as goal
 
 pub returns-clause-history : goal.returns-clause-history
 returns-clause-history g c = let old = c.self.inside in
-    let is : c.enter.new.self ≡ old.trail ++ Entered c.args.edit ∷ [] = search rules in
-    pubs_entered old.trail c.enter.new.self c.args.edit is ∙ ap (λ p. p.history) c.self.view_is
+    let is : c.enter.new.self ≡ old.trail ++ Entered (record { author = c.args.author; edit = c.args.edit }) ∷ [] = search rules in
+    pubs_entered old.trail c.enter.new.self _ is ∙ ap (λ p. p.history) c.self.view_is
 
 pub returns-clause-ok : goal.returns-clause-ok
 returns-clause-ok g c = let old = c.self.inside in
-    let is : c.enter.new.self ≡ old.trail ++ Entered c.args.edit ∷ [] = search rules in
-    fresh_entered old.trail c.enter.new.self c.args.edit is ∙ ap (λ p. p.pending ++ c.args.edit ∷ []) c.self.view_is
+    let is : c.enter.new.self ≡ old.trail ++ Entered (record { author = c.args.author; edit = c.args.edit }) ∷ [] = search rules in
+    fresh_entered old.trail c.enter.new.self _ is ∙ ap (λ p. p.pending ++ record { author = c.args.author; edit = c.args.edit } ∷ []) c.self.view_is

@@ -1,26 +1,26 @@
 use Rattle.std.proofs.Common.{◌≡◌, ◌++◌, subst}
 use mathlib.Core.List.{IsPrefix}
 use Rattle.cq_desk.specs.History.{edits_of}
-use Rattle.cq_desk.specs.Replies.{accepted, journal_edits}
+use Rattle.cq_desk.specs.Replies.{accepted, entries_by}
 use Rattle.cq_room.specs.Receipts.{AreReplies}
 use Rattle.cq_room.proofs.Receiving.{at_front, before_is, where_none, where_some}
 use Rattle.cq_room.proofs.session.Session.submit_past.Goals as goal
 
 pub returns-clause-seen : goal.returns-clause-seen
 returns-clause-seen g c = let e = c.in_ok-receipt.ensures in let r = c.in_ok-receipt.receipt in let asked = c.args.asked.items in let rs = r.submitted.replies.items in
-    let before = journal_edits c.deref_mut.result.now.journal in
-    where_some _ _ r.front (λ f p. subst (λ es. IsPrefix (edits_of c.args.self.now.history) es) (before_is before asked rs p.0 f p.1) e.seen) (at_front before asked rs r.submitted.end r.front e.front)
+    let before = c.deref_mut.result.now.journal in
+    where_some _ _ r.front (λ f p. subst (λ es. IsPrefix (edits_of c.args.self.now.history) es) (before_is before c.args.self.now.number asked rs p.0 f p.1) e.seen) (at_front before c.args.self.now.number asked rs r.submitted.end r.front e.front)
 
 pub returns-clause-replies : goal.returns-clause-replies
 returns-clause-replies g c = let e = c.in_ok-receipt.ensures in let r = c.in_ok-receipt.receipt in let asked = c.args.asked.items in let rs = r.submitted.replies.items in
-    let before = journal_edits c.deref_mut.result.now.journal in
-    where_some _ _ r.front (λ f p. subst (λ es. AreReplies g.L.Live.after g.L.Live.why g.N.RoomName.opening g.N.RoomName.limit es asked rs) (before_is before asked rs p.0 f p.1) e.replies) (at_front before asked rs r.submitted.end r.front e.front)
+    let before = c.deref_mut.result.now.journal in
+    where_some _ _ r.front (λ f p. subst (λ es. AreReplies g.L.Live.after g.L.Live.why g.N.RoomName.opening g.N.RoomName.limit es asked rs) (before_is before c.args.self.now.number asked rs p.0 f p.1) e.replies) (at_front before c.args.self.now.number asked rs r.submitted.end r.front e.front)
 
 pub returns-clause-last : goal.returns-clause-last
 returns-clause-last g c = let e = c.in_ok-receipt.ensures in let r = c.in_ok-receipt.receipt in let asked = c.args.asked.items in let rs = r.submitted.replies.items in
-    let before = journal_edits c.deref_mut.result.now.journal in
-    where_some _ _ r.front (λ f p. subst (λ es. edits_of f ≡ es ++ accepted asked rs) (before_is before asked rs p.0 f p.1) p.1.ends) (at_front before asked rs r.submitted.end r.front e.front)
+    let before = c.deref_mut.result.now.journal in
+    where_some _ _ r.front (λ f p. subst (λ es. edits_of f ≡ es ++ entries_by c.args.self.now.number (accepted asked rs)) (before_is before c.args.self.now.number asked rs p.0 f p.1) p.1.ends) (at_front before c.args.self.now.number asked rs r.submitted.end r.front e.front)
 
 pub returns-clause-unpublished : goal.returns-clause-unpublished
 returns-clause-unpublished g c = let e = c.in_ok-receipt.ensures in let r = c.in_ok-receipt.receipt in
-    where_none _ r.front (journal_edits c.deref_mut.result.now.journal, e.seen, e.replies)
+    where_none _ r.front (c.deref_mut.result.now.journal, e.seen, e.replies)

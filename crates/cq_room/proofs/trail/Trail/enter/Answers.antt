@@ -14,7 +14,7 @@ compare_exchange-found-requires g c =
       ap (λ s. s.book) again ∙ (c.self.invariant.1 ∙ sym (ap (λ w. w.book) h)),
       pen.0 ∙ (ap (λ s. s.book) again ∙ (c.self.invariant.1 ∙ sym (ap (λ w. w.book) h))),
       offer.0,
-      rw (ap (λ w. w.key) h, pen.1, offer.1, offer.3) (adds_moves c.again-seen.result.log (Entered c.args.edit.now) c.self.inside.entries (ap (λ s. length s.log) again ∙ sym c.self.invariant.0)),
+      rw (ap (λ w. w.key) h, pen.1, offer.1, offer.3) (adds_moves c.again-seen.result.log (Entered c.args.entry.now) c.self.inside.entries (ap (λ s. length s.log) again ∙ sym c.self.invariant.0)),
     )
 
 pub overflow_add-self-2 : goal.overflow_add-self-2
@@ -27,6 +27,6 @@ overflow_add-self-3 g c = let w = behind_within [] c.self.inside.seen.log in let
 
 pub invariant_of-self : goal.invariant_of-self
 invariant_of-self g c = let old = c.self.inside.seen.log in let new = c.compare_exchange-found.new.seen.log in let n = c.self.invariant in
-    let is : new ≡ old ++ Entered c.args.edit.now ∷ [] = search rules in
-    let m : c.self.inside.entries + 1 ≡ length new = omega (arith, n.0, ap length is, length-append old (Entered c.args.edit.now ∷ [])) in
-    (m, search rules, count_more old new c.args.edit.now c.self.inside.count is n.2, fresh_more old new c.args.edit.now c.self.inside.fresh is n.3)
+    let is : new ≡ old ++ Entered c.args.entry.now ∷ [] = search rules in
+    let m : c.self.inside.entries + 1 ≡ length new = omega (arith, n.0, ap length is, length-append old (Entered c.args.entry.now ∷ [])) in
+    (m, search rules, count_more old new c.args.entry.now c.self.inside.count is n.2, fresh_more old new c.args.entry.now c.self.inside.fresh is n.3)
