@@ -1,6 +1,6 @@
 -- Marks that go on.
 use Rattle.std.proofs.lemmas.List.{append-nil, map-append}
-use Rattle.std.proofs.Common.{◌≡◌, ℕ, ◌+◌, ◌<◌, ◌≤◌, Bool, true, false, MatchBool, Option, Some, None, List, [], ◌∷◌, ◌++◌, length, fold, refl, ap, sym, ◌∙◌, subst, arith, append_assoc, length-append}
+use Rattle.std.proofs.Common.{◌≡◌, ℕ, ◌+◌, ◌<◌, ◌≤◌, Bool, true, false, MatchBool, Option, Some, None, List, [], ◌∷◌, ◌++◌, length, get_or, fold, refl, ap, sym, ◌∙◌, subst, arith, append_assoc, length-append}
 use mathlib.Core.List.{IsPrefix}
 use Rattle.cq_room.specs.declared.mark.Mark.{Mark}
 use Rattle.cq_room.specs.declared.mark.Mark.TheVariants.{Entered, Cut}
@@ -10,6 +10,7 @@ use Rattle.cq_desk.specs.History.{edits_of, grown}
 use Rattle.cq_desk.specs.Replies.{AreAccepted, journal_edits}
 use Rattle.cq_desk.specs.declared.journal.Entry.{Entry}
 use Rattle.cq_desk.proofs.Accepting.{accepted_more}
+use Rattle.cq_room.proofs.Fronts.{prefix_more}
 use Rattle.cq_room.specs.Marks.{Leaves, WereAccepted, entries_in, behind, cut_at, publications, fresh_in}
 
 pub entries-append : {E : Type 0} (xs ys : List (Mark E)) → entries_in (xs ++ ys) ≡ entries_in xs ++ entries_in ys
@@ -120,6 +121,17 @@ prefix_edits xs ys p = (entries_in p.0, sym (entries-append xs p.0) ∙ ap entri
 pub behind_edits : {E : Type 0} (b : Bool) (xs ys : List (Mark E)) (h : List (List (Entry E))) → publications xs ≡ h → fresh_in xs ≡ [] → MatchBool b (IsPrefix xs ys) (IsPrefix ys xs) → MatchBool b (IsPrefix (edits_of h) (entries_in ys)) (Unit {0})
 behind_edits true xs ys h is none p = subst (λ es. IsPrefix es (entries_in ys)) (sym (edits_whole xs none) ∙ ap edits_of is) (prefix_edits xs ys p)
 behind_edits false xs ys h is none p = tt
+
+-- what is known of the entries begins those of a longer trail
+pub known_edits : {E : Type 0} (b : Bool) (xs ys : List (Mark E)) (known : List (Entry E)) → entries_in xs ≡ known → MatchBool b (IsPrefix xs ys) (IsPrefix ys xs) → MatchBool b (IsPrefix known (entries_in ys)) (Unit {0})
+known_edits true xs ys known is p = subst (λ es. IsPrefix es (entries_in ys)) is (prefix_edits xs ys p)
+known_edits false xs ys known is p = tt
+
+-- a trail of the entries of a journal goes on by the entry that stands behind it
+pub entered_more : {E : Type 0} (xs ys : List (Mark E)) (journal : List (Entry E)) (e : Entry E) (n : ℕ) → IsPrefix (entries_in xs) journal → length (entries_in xs) ≡ n → n < length journal → e ≡ get_or journal n e → ys ≡ xs ++ Entered e ∷ [] → IsPrefix (entries_in ys) journal
+entered_more xs ys journal e n p count less at is =
+    subst (λ es. IsPrefix es journal) (sym (ap entries_in is ∙ entries-append xs (Entered e ∷ [])))
+    (prefix_more (entries_in xs) journal e p (omega (arith, count, less)) (at ∙ ap (λ k. get_or journal k e) (sym count)))
 
 module _ {E C W : Type 0} (after : C → E → C) (why : C → E → Option W) (os : List C) where
   pub accepted_whole : (ms : List (Mark E)) → fresh_in ms ≡ [] → WereAccepted after why os (entries_in ms) → WereAccepted after why os (edits_of (publications ms))

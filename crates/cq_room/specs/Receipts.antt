@@ -1,7 +1,8 @@
 -- What a submit answers, and what a session hears. (this project's profile)
+use mathlib.Core.List.{IsPrefix}
 use Rattle.std.specs.Prelude.{◌≡◌, ℕ, ◌+◌, ◌-◌, ◌≤◌, List, [], ◌∷◌, ◌++◌, ◌⊎◌, Option, length, take}
 use Rattle.cq_desk.specs.History.{History, edits_of, BeginsWith}
-use Rattle.cq_desk.specs.Replies.{accepted, journal_edits, replies_at}
+use Rattle.cq_desk.specs.Replies.{accepted, entries_by, journal_edits, replies_at}
 use Rattle.cq_desk.specs.declared.journal.Entry.{Entry}
 use Rattle.cq_desk.specs.declared.reply.Reply.{Reply}
 use Rattle.cq_desk.specs.declared.reply.Reply.TheVariants.{Entered, JournalFull, Not}
@@ -33,6 +34,14 @@ pub record Heard {E : Type 0} (old new : SessionRecord E) (front : History (Entr
   pub told : BeginsWith new.history front
   pub one : (new.history ≡ old.history) ⊎ (new.history ≡ front)
   pub number : new.number ≡ old.number
+
+-- The session knows then of some entries, which begin with all that it knew of and had seen, and behind them of the accepted edits under its number. The replies are those to the edits behind these entries.
+pub record Enters {E C W : Type 0} (after : C → E → C) (why : C → E → Option W) (opening : List C) (limit : ℕ) (old new : SessionRecord E) (asked : List E) (replies : List (Reply W)) : Type 0 where
+  pub before : List (Entry E)
+  pub knew : IsPrefix old.known before
+  pub seen : IsPrefix (edits_of old.history) before
+  pub told : AreReplies after why opening limit before asked replies
+  pub now : new.known ≡ before ++ entries_by old.number (accepted asked replies)
 
 -- The checkpoint let one submit pass, when the journal had so many entries and so many of the last were not published.
 abbrev pub IsPassed : {G : Type 0} → (G → ℕ → ℕ → G → Type 0) → G → G → ℕ → ℕ → Type 0

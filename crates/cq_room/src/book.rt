@@ -8,7 +8,7 @@ use crate::names::RoomName;
 use crate::trail::Trail;
 use cq_desk::{Entry, Live};
 use logbook::{Gain, Plain, Play, Rule, Seen, Start, Word};
-use std::marker::PhantomData;
+use std::marker::{Model, PhantomData};
 
 /// The rule of the history: the shared word is its length.
 pub(crate) struct Length;
@@ -91,7 +91,7 @@ impl<L: Live> Opened<L> {
 
     /// The history's word under a name, and the trail that has seen nothing.
     pub(crate) fn named<N: RoomName<L::Content>>(self) -> (Book<L, N>, Trail<L, N>)
-        requires { self.seen.book ≡ N.book }
+        requires { self.seen.book ≡ N.book.0 }
         ensures { result.1 ≡ [] }
     {
         let Opened { head, seen } = self;
@@ -103,10 +103,22 @@ impl<L: Live> Opened<L> {
     }
 }
 
-/// The word that all threads share: the length of the history.
+/// The word that all threads share: the length of the history. That it is the word of the history
+/// that is named stands in this type.
 #[derive(Drop)]
 pub(crate) struct Book<L: Live, N: RoomName<L::Content>> {
     pub(crate) head: Word<Mark<L::Edit>, u64, Length>,
     of: PhantomData<N>,
-    ghost head_is: { head ≡ head_of N.book },
+}
+
+impl<L: Live, N: RoomName<L::Content>> Model for Book<L, N> {
+    ghost use Rattle.std.specs.Prelude.{◌≡◌};
+    ghost use Rattle.logbook.specs.Pages.{Named};
+    ghost use Rattle.cq_room.specs.Steps.Rules.{head_of};
+
+    ghost Value = { Named };
+
+    ghost view = { λ b. b.head };
+
+    ghost invariant = { λ b. b.head ≡ head_of N.book.0 };
 }

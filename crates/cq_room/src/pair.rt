@@ -9,7 +9,7 @@ ghost use Rattle.cq_room.specs.Steps.Pair.{last_of, ends_at};
 use crate::book::Book;
 use crate::copies::Copies;
 use crate::front::Front;
-use crate::names::RoomName;
+use crate::names::{JournalOf, RoomName};
 use crate::room::Watched;
 use crate::session::Session;
 use crate::shown::{Shown, Step};
@@ -150,12 +150,16 @@ impl<L: Live, N: RoomName<L::Content>, R: Wait + Drop, A: Allocator + Copy> Pair
         self.copies.shown().trail().again()
     }
 
-    /// A session that has seen what is shown. It is refused where all places are taken.
-    pub(crate) fn session(&self, number: usize) -> Result<Session<L, N, A>, AllocError>
-        ensures { IfOk result (λ session. session ≡ record { number = number; history = self.now.shown }) }
+    /// A session that has seen what is shown, and knows of what is entered. It is refused where all places are taken.
+    pub(crate) fn session(
+        &self,
+        entered: &Trail<L, JournalOf<N>>,
+        number: usize,
+    ) -> Result<Session<L, N, A>, AllocError>
+        ensures { IfOk result (λ session. session ≡ record { number = number; history = self.now.shown; known = entries_in entered.now }) }
     {
         let reader = self.copies.reader()?;
-        Ok(Session::over(reader, self.shown(), number))
+        Ok(Session::over(reader, self.shown(), entered.again(), number))
     }
 }
 

@@ -5,14 +5,16 @@ ghost use mathlib.Core.List.{IsPrefix};
 ghost use Rattle.cq_desk.specs.History.{edits_of};
 ghost use Rattle.cq_desk.specs.Replies.{AreAccepted, journal_edits};
 ghost use Rattle.cq_room.specs.Faults.{IsBeginFault, IsOpenFault};
+ghost use Rattle.cq_room.specs.Marks.{entries_in};
 ghost use Rattle.cq_room.specs.Sessions.{newcomers};
 ghost use Rattle.cq_room.specs.declared.parts.RoomFault.TheVariants as faults;
 
 use crate::book::Opened;
-use crate::names::RoomName;
+use crate::names::{JournalOf, RoomName};
 use crate::pair::Pair;
 use crate::room::{LockedDesk, Room, Watched, knows};
 use crate::session::Session;
+use crate::trail::Trail;
 use cq_desk::{Desk, Live, NoMemory};
 use std::alloc::{AllocError, Allocator, Global};
 use std::marker::{Brand, Model};
@@ -49,7 +51,7 @@ impl From<AllocError> for RoomFault {
     }
 }
 
-/// A room that has no name yet. Contracts see the history, the opening content, the journal's limit
+/// A room that has no name yet. Contracts see the histories, the opening content, the journal's limit
 /// and the number of sessions.
 #[derive(Drop)]
 pub struct Parts<L: Live, R: Wait + Drop, A: Allocator = Global> {
@@ -59,6 +61,7 @@ pub struct Parts<L: Live, R: Wait + Drop, A: Allocator = Global> {
     first: L,
     second: L,
     opened: Opened<L>,
+    entered: Opened<L>,
     limit: usize,
     sessions: usize,
 }
@@ -69,7 +72,7 @@ impl<L: Live, R: Wait + Drop, A: Allocator> Model for Parts<L, R, A> {
 
     ghost Value = { PartsRecord L.Content };
 
-    ghost view = { λ p. record { book = p.opened.seen.book; opening = L.content p.working; limit = p.limit; sessions = p.sessions } };
+    ghost view = { λ p. record { book = (p.opened.seen.book, p.entered.seen.book); opening = L.content p.working; limit = p.limit; sessions = p.sessions } };
 
     ghost invariant = { λ p. (L.content p.first ≡ L.content p.working) × (L.content p.second ≡ L.content p.working) × (0 < p.sessions) × (p.sessions ≤ 16) };
 }
@@ -105,6 +108,7 @@ impl<L: Live, R: Wait + Drop, A: Allocator + Copy> Room<L, Brand, Pair<L, Brand,
             first,
             second,
             opened: Opened::new(),
+            entered: Opened::new(),
             limit: journal,
             sessions,
         })
@@ -115,9 +119,11 @@ impl<L: Live, R: Wait + Drop, A: Allocator + Copy> Room<L, Brand, Pair<L, Brand,
 fn seats<L: Live, N: RoomName<L::Content>, R: Wait + Drop, A: Allocator + Copy>(
     alloc: A,
     pair: &Pair<L, N, R, A>,
+    entered: &Trail<L, JournalOf<N>>,
     sessions: usize,
 ) -> Result<Vec<Session<L, N, A>, A>, RoomFault>
     requires shown { pair.now.shown ≡ [] }
+    requires entered { entered.now ≡ [] }
     ensures { MatchResult result (λ seated. seated.items ≡ newcomers sessions) (λ fault. IsOpenFault fault) }
 {
     let mut seated = Vec::new(alloc);
@@ -125,7 +131,7 @@ fn seats<L: Live, N: RoomName<L::Content>, R: Wait + Drop, A: Allocator + Copy>(
         return Err(RoomFault::NoMemory);
     }
     for number in 0..sessions {
-        match pair.session(number) {
+        match pair.session(entered, number) {
             Ok(session) => seated.push_reserved(session),
             Err(_) => return Err(RoomFault::Places),
         }
@@ -156,47 +162,54 @@ impl<L: Live, R: Wait + Drop, A: Allocator + Copy> Parts<L, R, A> {
             first,
             second,
             opened,
+            entered,
             limit,
             sessions,
         } = self;
         let (book, trail) = opened.named::<N>();
+        let (entries, entered) = entered.named::<JournalOf<N>>();
         let Ok(pair) = Pair::begin(rt, alloc, first, second, book, trail, sessions) else {
             return Err(RoomFault::NoMemory);
         };
-        let seated = seats(alloc, &pair, sessions)?;
-        let room = Room::over(Desk::begin(alloc, working, pair, limit));
+        let seated = seats(alloc, &pair, &entered, sessions)?;
+        let desk = Desk::begin(alloc, working, pair, limit);
+        let room = Room::over(desk, entries, entered);
         Ok((room, seated))
     }
 }
 
-/// Whether the journal begins with what each session has seen. It always does.
+/// Whether the journal begins with what each session has seen and with what it knows of. It always does.
 fn knows_all<L: Live, N: RoomName<L::Content>, P: Watched<L, N>, A: Allocator + Copy>(
     desk: &Desk<L, P, A>,
+    entered: &Trail<L, JournalOf<N>>,
     sessions: &[Session<L, N, A>],
 ) -> bool
 where
     P::Leave: Wait,
-    ensures { MatchBool result (All (λ session. IsPrefix (edits_of session.history) desk.now.journal) sessions.now) ⊤ }
+    requires { IsPrefix (entries_in entered.now) desk.now.journal }
+    ensures { MatchBool result (All (λ session. IsPrefix (edits_of session.history) desk.now.journal × IsPrefix session.known desk.now.journal) sessions.now) ⊤ }
 {
     for session in sessions {
-        if !knows(desk, session) {
+        if !knows(desk, entered, session) {
             return false;
         }
     }
     true
 }
 
-/// Returns where the journal begins with what each session has seen, which is always so.
+/// Returns where the journal begins with what each session has seen and knows of, which is always so.
 fn await_all<L: Live, N: RoomName<L::Content>, P: Watched<L, N>, A: Allocator + Copy>(
     rt: &P::Leave,
     desk: &Desk<L, P, A>,
+    entered: &Trail<L, JournalOf<N>>,
     sessions: &[Session<L, N, A>],
 )
 where
     P::Leave: Wait,
-    ensures { All (λ session. IsPrefix (edits_of session.history) desk.now.journal) sessions.now }
+    requires { IsPrefix (entries_in entered.now) desk.now.journal }
+    ensures { All (λ session. IsPrefix (edits_of session.history) desk.now.journal × IsPrefix session.known desk.now.journal) sessions.now }
 {
-    if knows_all(desk, sessions) {
+    if knows_all(desk, entered, sessions) {
         return;
     }
     for _ in rt.forever() {}
@@ -214,12 +227,18 @@ where
         ensures opening { P.opening result.publisher ∷ [] ≡ N.opening }
         ensures limit { result.limit ≡ N.limit }
         ensures seen { All (λ session. IsPrefix (edits_of session.history) result.journal) sessions.items }
+        ensures known { All (λ session. IsPrefix session.known result.journal) sessions.items }
         ensures accepted { AreAccepted L.after L.why (P.opening result.publisher) (journal_edits result.journal) }
         ensures within { length result.journal ≤ result.limit }
     {
         let Room { lock } = self;
-        let LockedDesk { desk, of: _ } = lock.into_inner();
-        await_all(rt, &desk, sessions.as_slice());
+        let LockedDesk {
+            desk,
+            entries: _entries,
+            entered,
+            of: _,
+        } = lock.into_inner();
+        await_all(rt, &desk, &entered, sessions.as_slice());
         let _ = desk.journal();
         desk
     }

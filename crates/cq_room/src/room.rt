@@ -8,14 +8,18 @@ ghost use Rattle.cq_room.specs.Marks.{entries_in};
 ghost use Rattle.cq_room.specs.Receipts.{AreReplies, IsPassed};
 ghost use Rattle.cq_room.specs.Steps.Receipts.{IsPublished};
 
+use crate::book::Book;
 use crate::front::Front;
-use crate::names::RoomName;
+use crate::names::{JournalOf, RoomName};
 use crate::session::Session;
 use crate::trail::Trail;
-use cq_desk::{Checkpoint, Desk, End, Live, NoMemory, Publisher, Submitted};
+use cq_desk::{Checkpoint, Desk, End, Entry, Live, NoMemory, Publisher, Submitted};
 use std::alloc::{Allocator, Global};
 use std::marker::{Model, PhantomData};
 use std::sync::{Mutex, Wait};
+
+/// A trail of entries is no longer than this, so that its counts do not wrap.
+const MOST: u64 = 1 << 61;
 
 /// A publisher that sessions look at, and whose history they know.
 pub trait Watched<L: Live, N: RoomName<L::Content>>: Publisher<L>
@@ -32,23 +36,28 @@ where
 }
 
 /// What lies under the lock. Contracts see the journal and what is shown. That the room's name
-/// names the opening content and the limit stands in this type.
+/// names the opening content and the limit, and that the trail of what is entered begins the journal,
+/// stands in this type.
 #[derive(Drop)]
 pub struct LockedDesk<L: Live, N: RoomName<L::Content>, P: Publisher<L>, A: Allocator = Global> {
     pub(crate) desk: Desk<L, P, A>,
+    pub(crate) entries: Book<L, JournalOf<N>>,
+    pub(crate) entered: Trail<L, JournalOf<N>>,
     pub(crate) of: PhantomData<N>,
 }
 
 impl<L: Live, N: RoomName<L::Content>, P: Publisher<L>, A: Allocator> Model
     for LockedDesk<L, N, P, A> {
     ghost use Rattle.std.specs.Prelude.{◌≡◌, ◌∷◌, []};
+    ghost use mathlib.Core.List.{IsPrefix};
+    ghost use Rattle.cq_room.specs.Marks.{entries_in};
     ghost use Rattle.cq_room.specs.Steps.Room.{LockedRecord};
 
     ghost Value = { LockedRecord L.Edit };
 
     ghost view = { λ k. record { journal = k.desk.journal; shown = P.shown k.desk.publisher } };
 
-    ghost invariant = { λ k. (P.opening k.desk.publisher ∷ [] ≡ N.opening) × (k.desk.limit ≡ N.limit) };
+    ghost invariant = { λ k. (P.opening k.desk.publisher ∷ [] ≡ N.opening) × (k.desk.limit ≡ N.limit) × IsPrefix (entries_in k.entered) k.desk.journal };
 }
 
 /// What the sessions of a room share: the desk, under one lock. A look takes no part in the lock.
@@ -68,40 +77,86 @@ pub struct Receipt<L: Live, N: RoomName<L::Content>, A: Allocator = Global> {
 
 impl<L: Live, N: RoomName<L::Content>, P: Publisher<L>, A: Allocator> Room<L, N, P, A> {
     /// A room over the desk.
-    pub(crate) fn over(desk: Desk<L, P, A>) -> Room<L, N, P, A>
+    pub(crate) fn over(
+        desk: Desk<L, P, A>,
+        entries: Book<L, JournalOf<N>>,
+        entered: Trail<L, JournalOf<N>>,
+    ) -> Room<L, N, P, A>
         requires opening { P.opening desk.publisher ∷ [] ≡ N.opening }
         requires limit { desk.limit ≡ N.limit }
+        requires entered { entered ≡ [] }
     {
         Room {
             lock: Mutex::new(LockedDesk {
                 desk,
+                entries,
+                entered,
                 of: PhantomData,
             }),
         }
     }
 }
 
-/// Whether the journal begins with what the session has seen, authors included. It always does.
+/// Whether the journal begins with what the session has seen and with what it knows of, authors
+/// included. It always does.
 pub(crate) fn knows<L: Live, N: RoomName<L::Content>, P: Watched<L, N>, A: Allocator + Copy>(
     desk: &Desk<L, P, A>,
+    entered: &Trail<L, JournalOf<N>>,
     session: &Session<L, N, A>,
 ) -> bool
 where
     P::Leave: Wait,
-    ensures { MatchBool result (IsPrefix (edits_of session.now.history) desk.now.journal) ⊤ }
+    requires { IsPrefix (entries_in entered.now) desk.now.journal }
+    ensures { MatchBool result (IsPrefix (edits_of session.now.history) desk.now.journal × IsPrefix session.now.known desk.now.journal) ⊤ }
 {
-    session.is_behind(desk.publisher().logged())
+    session.is_in(entered) && session.is_behind(desk.publisher().logged())
+}
+
+/// Takes note of the entries that the trail lacks, and says whether it has all. It always does.
+fn catch_up<L: Live, N: RoomName<L::Content>>(
+    entered: &mut Trail<L, JournalOf<N>>,
+    entries: &Book<L, JournalOf<N>>,
+    journal: &[Entry<L::Edit>],
+) -> bool
+    requires { IsPrefix (entries_in entered.old) journal.now }
+    ensures begins { IsPrefix (entries_in entered.new) journal.now }
+    ensures all { MatchBool result (entries_in entered.new ≡ journal.now) ⊤ }
+{
+    for place in entered.count() as usize..journal.len() {
+        if entered.entries() >= MOST || !entered.enter(entries, &journal[place]) {
+            return false;
+        }
+    }
+    true
+}
+
+/// Returns where the trail has all entries of the journal, which is always so.
+fn await_entries<L: Live, N: RoomName<L::Content>, R: Wait>(
+    rt: &R,
+    entered: &mut Trail<L, JournalOf<N>>,
+    entries: &Book<L, JournalOf<N>>,
+    journal: &[Entry<L::Edit>],
+)
+    requires { IsPrefix (entries_in entered.old) journal.now }
+    ensures { entries_in entered.new ≡ journal.now }
+{
+    if catch_up(entered, entries, journal) {
+        return;
+    }
+    for _ in rt.forever() {}
+    unreachable!()
 }
 
 impl<L: Live, N: RoomName<L::Content>, P: Watched<L, N>, A: Allocator + Copy> LockedDesk<L, N, P, A>
 where
     P::Leave: Wait,
 {
-    /// Returns where the journal begins with what the session has seen, which is always so.
+    /// Returns where the journal begins with what the session has seen and knows of, which is always so.
     fn await_known(&self, rt: &P::Leave, session: &Session<L, N, A>)
-        ensures { IsPrefix (edits_of session.now.history) self.now.journal }
+        ensures seen { IsPrefix (edits_of session.now.history) self.now.journal }
+        ensures known { IsPrefix session.now.known self.now.journal }
     {
-        if knows(&self.desk, session) {
+        if knows(&self.desk, &self.entered, session) {
             return;
         }
         for _ in rt.forever() {}
@@ -119,20 +174,23 @@ where
         }
     }
 
-    /// Enters edits one after another, passes the checkpoint, publishes, and makes a front.
+    /// Enters edits one after another, passes the checkpoint, publishes, and makes a front. The session
+    /// takes note of all that is entered.
     pub(crate) fn submit_past<G: Checkpoint>(
         &mut self,
         rt: &P::Leave,
-        session: &Session<L, N, A>,
+        session: &mut Session<L, N, A>,
         asked: Vec<L::Edit, A>,
         gate: &mut G,
     ) -> Result<Receipt<L, N, A>, NoMemory>
-        ensures seen { IfOk result (λ _. IsPrefix (edits_of session.now.history) self.old.journal) }
+        ensures seen { IfOk result (λ _. IsPrefix (edits_of session.old.history) self.old.journal) }
+        ensures known { IfOk result (λ _. IsPrefix session.old.known self.old.journal) }
+        ensures session { IfOk result (λ _. session.new ≡ record session.old { known = self.new.journal }) }
         ensures replies { IfOk result (λ receipt. AreReplies L.after L.why N.opening N.limit self.old.journal asked.items receipt.submitted.replies.items) }
-        ensures journal { IfOk result (λ receipt. self.new.journal ≡ self.old.journal ++ entries_by session.now.number (accepted asked.items receipt.submitted.replies.items)) }
+        ensures journal { IfOk result (λ receipt. self.new.journal ≡ self.old.journal ++ entries_by session.old.number (accepted asked.items receipt.submitted.replies.items)) }
         ensures tried { IfOk result (λ receipt. MatchEnd receipt.submitted.end (λ _. length receipt.submitted.replies.items ≡ length asked.items) (length receipt.submitted.replies.items < length asked.items) (length receipt.submitted.replies.items ≡ length asked.items)) }
         ensures front { IfOk result (λ receipt. MatchEnd receipt.submitted.end
-            (λ count. MatchOption receipt.front ⊥ (λ front. IsPublished self.old.journal session.now.number asked.items receipt.submitted.replies.items count front))
+            (λ count. MatchOption receipt.front ⊥ (λ front. IsPublished self.old.journal session.old.number asked.items receipt.submitted.replies.items count front))
             (receipt.front ≡ None)
             (receipt.front ≡ None)) }
         ensures passed { IfOk result (λ receipt. MatchEnd receipt.submitted.end
@@ -140,11 +198,14 @@ where
             (gate.new ≡ gate.old)
             ((entries : ℕ) × IsPassed G.passed gate.old gate.new entries (length (accepted asked.items receipt.submitted.replies.items)))) }
         ensures err { OnErr result (self.new ≡ self.old) }
+        ensures kept { OnErr result (session.new ≡ session.old) }
         ensures unpassed { OnErr result (gate.new ≡ gate.old) }
     {
         self.await_known(rt, session);
         let _ = self.desk.publisher();
         let submitted = self.desk.submit_past(session.number(), asked, rt, gate)?;
+        await_entries(rt, &mut self.entered, &self.entries, self.desk.journal());
+        session.learn(&self.entered);
         let front = self.front_at(submitted.end);
         Ok(Receipt { submitted, front })
     }

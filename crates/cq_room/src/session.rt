@@ -7,7 +7,7 @@ ghost use Rattle.cq_room.specs.Marks.{Leaves, WereAccepted, entries_in, publicat
 ghost use Rattle.cq_room.specs.Receipts.{Heard};
 
 use crate::front::Front;
-use crate::names::RoomName;
+use crate::names::{JournalOf, RoomName};
 use crate::pair::PairReader;
 use crate::shown::Shown;
 use crate::trail::Trail;
@@ -17,12 +17,13 @@ use left_right::reader::Reading;
 use std::alloc::{Allocator, Global};
 use std::marker::Model;
 
-/// A session that is not looking: one client's seat in a room. Contracts see its number and its history,
-/// which is what it has seen or heard of.
+/// A session that is not looking: one client's seat in a room. Contracts see its number, its history,
+/// which is what it has seen or heard of, and the entries up to its last submit, published or not.
 #[derive(Drop)]
 pub struct Session<L: Live, N: RoomName<L::Content>, A: Allocator = Global> {
     reader: PairReader<L, N, A>,
     trail: Trail<L, N>,
+    known: Trail<L, JournalOf<N>>,
     number: usize,
 }
 
@@ -33,16 +34,18 @@ impl<L: Live, N: RoomName<L::Content>, A: Allocator> Model for Session<L, N, A> 
 
     ghost Value = { SessionRecord L.Edit };
 
-    ghost view = { λ s. record { number = s.number; history = publications s.trail } };
+    ghost view = { λ s. record { number = s.number; history = publications s.trail; known = entries_in s.known } };
 
     ghost invariant = { λ s. (fresh_in s.trail ≡ []) × WereAccepted L.after L.why N.opening (entries_in s.trail) };
 }
 
 /// A session that is looking. While it looks, a publish may wait for it, and nothing else does.
-/// Contracts see the session's number and the history whose content is shown.
+/// Contracts see the session's number, the history whose content is shown, and the entries that the
+/// session knows of.
 pub struct Look<L: Live, N: RoomName<L::Content>, A: Allocator = Global> {
     reading: Reading<Shown<L, N>, (), Unruled, A>,
     trail: Trail<L, N>,
+    known: Trail<L, JournalOf<N>>,
     number: usize,
 }
 
@@ -53,7 +56,7 @@ impl<L: Live, N: RoomName<L::Content>, A: Allocator> Model for Look<L, N, A> {
 
     ghost Value = { SessionRecord L.Edit };
 
-    ghost view = { λ s. record { number = s.number; history = publications s.trail } };
+    ghost view = { λ s. record { number = s.number; history = publications s.trail; known = entries_in s.known } };
 
     ghost invariant = { λ s. (fresh_in s.trail ≡ []) × (s.reading.part.value.marks ≡ s.trail) × WereAccepted L.after L.why N.opening (entries_in s.trail) };
 }
@@ -63,6 +66,7 @@ impl<L: Live, N: RoomName<L::Content>, A: Allocator> Drop for Look<L, N, A> {
         let Self {
             reading,
             trail: _trail,
+            known: _known,
             number: _,
         } = self;
         drop(reading.leave());
@@ -74,15 +78,17 @@ impl<L: Live, N: RoomName<L::Content>, A: Allocator> Session<L, N, A> {
     pub(crate) fn over(
         reader: PairReader<L, N, A>,
         trail: Trail<L, N>,
+        known: Trail<L, JournalOf<N>>,
         number: usize,
     ) -> Session<L, N, A>
         requires fresh { fresh_in trail ≡ [] }
         requires accepted { WereAccepted L.after L.why N.opening (entries_in trail) }
-        ensures { result ≡ record { number = number; history = publications trail } }
+        ensures { result ≡ record { number = number; history = publications trail; known = entries_in known } }
     {
         Session {
             reader,
             trail,
+            known,
             number,
         }
     }
@@ -116,6 +122,20 @@ impl<L: Live, N: RoomName<L::Content>, A: Allocator> Session<L, N, A> {
         self.trail.begins(trail)
     }
 
+    /// Whether the trail of what is entered begins with what the session knows of it.
+    pub(crate) fn is_in(&self, entered: &Trail<L, JournalOf<N>>) -> bool
+        ensures { MatchBool result (IsPrefix self.now.known (entries_in entered.now)) (Unit {0}) }
+    {
+        self.known.begins(entered)
+    }
+
+    /// Takes note of all that is entered.
+    pub(crate) fn learn(&mut self, entered: &Trail<L, JournalOf<N>>)
+        ensures { self.new ≡ record self.old { known = entries_in entered.now } }
+    {
+        self.known = entered.again();
+    }
+
     /// Looks at what is published. It takes no lock and no memory, and waits for nobody.
     ///
     /// # Errors
@@ -123,11 +143,13 @@ impl<L: Live, N: RoomName<L::Content>, A: Allocator> Session<L, N, A> {
     pub fn watch(self) -> Result<Look<L, N, A>, Session<L, N, A>>
         ensures history { IfOk result (λ look. BeginsWith look.history self.history) }
         ensures number { IfOk result (λ look. look.number ≡ self.number) }
+        ensures known { IfOk result (λ look. look.known ≡ self.known) }
         ensures refused { IfErr result (λ session. session ≡ self) }
     {
         let Session {
             reader,
             trail,
+            known,
             number,
         } = self;
         match reader.enter_as::<Unruled>() {
@@ -138,12 +160,14 @@ impl<L: Live, N: RoomName<L::Content>, A: Allocator> Session<L, N, A> {
                     Ok(Look {
                         reading,
                         trail: shown,
+                        known,
                         number,
                     })
                 } else {
                     Err(Session {
                         reader: reading.leave(),
                         trail,
+                        known,
                         number,
                     })
                 }
@@ -151,6 +175,7 @@ impl<L: Live, N: RoomName<L::Content>, A: Allocator> Session<L, N, A> {
             Err(reader) => Err(Session {
                 reader,
                 trail,
+                known,
                 number,
             }),
         }
@@ -162,6 +187,7 @@ impl<L: Live, N: RoomName<L::Content>, A: Allocator> Session<L, N, A> {
         ensures told { BeginsWith self.new.history front.now }
         ensures one { (self.new.history ≡ self.old.history) ⊎ (self.new.history ≡ front.now) }
         ensures number { self.new.number ≡ self.old.number }
+        ensures known { self.new.known ≡ self.old.known }
     {
         self.trail = self.trail.longer(&front.trail);
     }
@@ -170,7 +196,8 @@ impl<L: Live, N: RoomName<L::Content>, A: Allocator> Session<L, N, A> {
 impl<L: Live, N: RoomName<L::Content>, A: Allocator> Session<L, N, A> {
     /// Hears the front, where there is one.
     pub(crate) fn hear_any(&mut self, front: &Option<Front<L, N>>)
-        ensures { MatchOption front.now (self.new ≡ self.old) (λ front. Heard self.old self.new front) }
+        ensures heard { MatchOption front.now (self.new ≡ self.old) (λ front. Heard self.old self.new front) }
+        ensures known { self.new.known ≡ self.old.known }
     {
         if let Some(front) = front {
             self.hear(front);
@@ -208,11 +235,13 @@ impl<L: Live, N: RoomName<L::Content>, A: Allocator> Look<L, N, A> {
         let Look {
             reading,
             trail,
+            known,
             number,
         } = self;
         Session {
             reader: reading.leave(),
             trail,
+            known,
             number,
         }
     }

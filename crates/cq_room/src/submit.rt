@@ -5,7 +5,7 @@ ghost use mathlib.Core.List.{IsPrefix};
 ghost use Rattle.cq_desk.specs.History.{StandsLast, edits_of};
 ghost use Rattle.cq_desk.specs.Replies.{MatchEnd, accepted, entries_by};
 ghost use Rattle.cq_desk.specs.declared.journal.Entry.{Entry};
-ghost use Rattle.cq_room.specs.Receipts.{AreNumbered, AreReplies, Heard, IsPassed, entered_before};
+ghost use Rattle.cq_room.specs.Receipts.{AreNumbered, AreReplies, Enters, Heard, IsPassed, entered_before};
 
 use crate::names::RoomName;
 use crate::room::{Receipt, Room, Watched};
@@ -37,7 +37,9 @@ impl<L: Live, N: RoomName<L::Content>, A: Allocator + Copy> Session<L, N, A> {
         ensures publication { IfOk result (λ receipt. IfSome receipt.front (λ front. StandsLast (entries_by self.old.number (accepted asked.items receipt.submitted.replies.items)) front)) }
         ensures numbered { IfOk result (λ receipt. IfSome receipt.front (λ front. AreNumbered (edits_of front) self.old.number asked.items receipt.submitted.replies.items)) }
         ensures unpublished { IfOk result (λ receipt. IfNone receipt.front ((before : List (Entry L.Edit)) × IsPrefix (edits_of self.old.history) before × AreReplies L.after L.why N.opening N.limit before asked.items receipt.submitted.replies.items)) }
-        ensures heard { IfOk result (λ receipt. MatchOption receipt.front (self.new ≡ self.old) (λ front. Heard self.old self.new front)) }
+        ensures heard { IfOk result (λ receipt. MatchOption receipt.front (self.new ≡ record self.old { known = self.new.known }) (λ front. Heard self.old self.new front)) }
+        ensures entered { IfOk result (λ receipt. Enters L.after L.why N.opening N.limit self.old self.new asked.items receipt.submitted.replies.items) }
+        ensures known { IfOk result (λ receipt. IfSome receipt.front (λ front. edits_of front ≡ self.new.known)) }
         ensures err { OnErr result (self.new ≡ self.old) }
     {
         self.submit_past(rt, room, asked, &mut OpenGate)
@@ -66,7 +68,9 @@ impl<L: Live, N: RoomName<L::Content>, A: Allocator + Copy> Session<L, N, A> {
         ensures publication { IfOk result (λ receipt. IfSome receipt.front (λ front. StandsLast (entries_by self.old.number (accepted asked.items receipt.submitted.replies.items)) front)) }
         ensures numbered { IfOk result (λ receipt. IfSome receipt.front (λ front. AreNumbered (edits_of front) self.old.number asked.items receipt.submitted.replies.items)) }
         ensures unpublished { IfOk result (λ receipt. IfNone receipt.front ((before : List (Entry L.Edit)) × IsPrefix (edits_of self.old.history) before × AreReplies L.after L.why N.opening N.limit before asked.items receipt.submitted.replies.items)) }
-        ensures heard { IfOk result (λ receipt. MatchOption receipt.front (self.new ≡ self.old) (λ front. Heard self.old self.new front)) }
+        ensures heard { IfOk result (λ receipt. MatchOption receipt.front (self.new ≡ record self.old { known = self.new.known }) (λ front. Heard self.old self.new front)) }
+        ensures entered { IfOk result (λ receipt. Enters L.after L.why N.opening N.limit self.old self.new asked.items receipt.submitted.replies.items) }
+        ensures known { IfOk result (λ receipt. IfSome receipt.front (λ front. edits_of front ≡ self.new.known)) }
         ensures passed { IfOk result (λ receipt. MatchEnd receipt.submitted.end
             (λ count. IsPassed G.passed gate.old gate.new count (length (accepted asked.items receipt.submitted.replies.items)))
             (gate.new ≡ gate.old)

@@ -31,13 +31,13 @@ impl<L: Live, N: RoomName<L::Content>> Model for Trail<L, N> {
 
     ghost view = { λ t. t.seen.log };
 
-    ghost invariant = { λ t. (t.entries ≡ length t.seen.log) × (t.seen.book ≡ N.book) × (t.count ≡ length (entries_in t.seen.log)) × (t.fresh ≡ length (fresh_in t.seen.log)) };
+    ghost invariant = { λ t. (t.entries ≡ length t.seen.log) × (t.seen.book ≡ N.book.0) × (t.count ≡ length (entries_in t.seen.log)) × (t.fresh ≡ length (fresh_in t.seen.log)) };
 }
 
 impl<L: Live, N: RoomName<L::Content>> Trail<L, N> {
     /// The trail that has seen nothing.
     pub(crate) fn over(seen: Seen<Mark<L::Edit>, u64, Length>) -> Trail<L, N>
-        requires { (seen.book ≡ N.book) × (seen.log ≡ []) }
+        requires { (seen.book ≡ N.book.0) × (seen.log ≡ []) }
         ensures { result ≡ [] }
     {
         Trail {

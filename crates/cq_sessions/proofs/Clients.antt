@@ -72,7 +72,7 @@ pub submission_of : (pools : List PoolRecord) (limit : ℕ) (old new : SessionRe
     → MatchEnd end (λ count. MatchOption front ⊥ (λ f. count ≡ length (edits_of f))) (front ≡ None) (front ≡ None)
     → MatchEnd end (λ _. length rs ≡ length asked) (length rs < length asked) (length rs ≡ length asked)
     → IfSome front (λ f. IsPrefix (edits_of old.history) (entered_before f asked rs)) → IfSome front (λ f. AreReplies pool_after why pools limit (entered_before f asked rs) asked rs)
-    → IfSome front (λ f. edits_of f ≡ entered_before f asked rs ++ entries_by old.number (accepted asked rs)) → MatchOption front (new ≡ old) (λ f. Heard old new f) → MatchEnd end (λ count. published ≡ count) ⊥ ⊥
+    → IfSome front (λ f. edits_of f ≡ entered_before f asked rs ++ entries_by old.number (accepted asked rs)) → MatchOption front (new ≡ record old { known = new.known }) (λ f. Heard old new f) → MatchEnd end (λ count. published ≡ count) ⊥ ⊥
     → IsSubmission (opened_pool pools) limit (journal_edits (edits_of old.history)) (journal_edits (edits_of new.history)) asked rs published
 submission_of pools limit old new asked (Published count) (Some f) rs published opened counted tried seen replies last heard is = record {
   told = submitted_of pools limit old new f asked rs opened tried seen replies last heard;

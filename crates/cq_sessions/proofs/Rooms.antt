@@ -176,7 +176,7 @@ room_served form opening opening1 limit limit1 sheet rest sheet' files sheets kn
 -- newcomers know of nothing
 pub newcomers_know : {F : Type 0} (count : ℕ) (files : List F) → count ≡ length files → map (λ (s : SessionRecord Edit). journal_edits (edits_of s.history)) (newcomers count) ≡ map (λ _. []) files
 newcomers_know count files e =
-    map_map (λ (s : SessionRecord Edit). journal_edits (edits_of s.history)) (λ k. record { number = k; history = [] }) (range_with_len 0 count) ∙ map_same [] (range_with_len 0 count) files (length-range_with_len 0 count ∙ e)
+    map_map (λ (s : SessionRecord Edit). journal_edits (edits_of s.history)) (λ k. record { number = k; history = []; known = [] }) (range_with_len 0 count) ∙ map_same [] (range_with_len 0 count) files (length-range_with_len 0 count ∙ e)
 
 -- a fault of serving is none of writing
 pub not_written : (fault : ServeFault) (P Q : Type 0) → Q → IfWritten (run_fault fault) P Q

@@ -161,7 +161,7 @@ fn submit_in<L: Live, N: RoomName<L::Content>, R: Wait + Drop, A: Allocator + Co
     ensures publication { IfOk result (λ receipt. IfSome receipt.front (λ front. StandsLast (entries_by session.old.number (accepted asked.items receipt.submitted.replies.items)) front)) }
     ensures numbered { IfOk result (λ receipt. IfSome receipt.front (λ front. AreNumbered (edits_of front) session.old.number asked.items receipt.submitted.replies.items)) }
     ensures unpublished { IfOk result (λ receipt. IfNone receipt.front ((before : List (Entry L.Edit)) × IsPrefix (edits_of session.old.history) before × AreReplies L.after L.why N.opening N.limit before asked.items receipt.submitted.replies.items)) }
-    ensures heard { IfOk result (λ receipt. MatchOption receipt.front (session.new ≡ session.old) (λ front. Heard session.old session.new front)) }
+    ensures heard { IfOk result (λ receipt. MatchOption receipt.front (session.new ≡ record session.old { known = session.new.known }) (λ front. Heard session.old session.new front)) }
     ensures err { OnErr result (session.new ≡ session.old) }
 {
     session.submit(rt, room, asked)

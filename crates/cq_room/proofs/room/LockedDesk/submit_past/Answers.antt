@@ -1,8 +1,18 @@
-use Rattle.std.proofs.Common.{◌≤◌, length, subst}
+use Rattle.std.proofs.Common.{◌≤◌, [], ◌∷◌, length, ap, subst, ◌∙◌}
+use mathlib.Core.List.{IsPrefix}
 use Rattle.cq_desk.specs.History.{edits_of}
 use Rattle.cq_desk.specs.Replies.{accepted}
+use Rattle.cq_room.specs.Marks.{entries_in}
+use Rattle.cq_room.proofs.Fronts.{prefix_self}
 use Rattle.cq_room.proofs.Receiving.{answered, numbered, passed_at, shown_within}
 use Rattle.cq_room.proofs.room.LockedDesk.submit_past.Goals as goal
+
+pub invariant_of-self-2 : goal.invariant_of-self-2
+invariant_of-self-2 g c = let e = c.in_ok-submitted.ensures in let inv = c.self.invariant in let all = entries_in c.await_entries.new.entered in (
+  ap (λ o. o ∷ []) e.opening ∙ inv.0,
+  e.limit ∙ inv.1,
+  subst (IsPrefix all) (c.await_entries.ensures ∙ c.journal.ensures.value) (prefix_self all),
+)
 
 pub returns-clause-front : goal.returns-clause-front
 returns-clause-front g c = let e = c.in_ok-submitted.ensures in let s = c.in_ok-submitted.submitted in let old = c.self.inside.desk in let now = c.submit_past.new.self in let asked = c.args.asked.items in

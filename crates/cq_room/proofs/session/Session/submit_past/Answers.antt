@@ -1,4 +1,4 @@
-use Rattle.std.proofs.Common.{◌≡◌, ◌++◌, subst}
+use Rattle.std.proofs.Common.{◌≡◌, ◌++◌, ap, subst, sym, ◌∙◌}
 use mathlib.Core.List.{IsPrefix}
 use Rattle.cq_desk.specs.History.{edits_of}
 use Rattle.cq_desk.specs.Replies.{accepted, entries_by}
@@ -24,3 +24,17 @@ returns-clause-last g c = let e = c.in_ok-receipt.ensures in let r = c.in_ok-rec
 pub returns-clause-unpublished : goal.returns-clause-unpublished
 returns-clause-unpublished g c = let e = c.in_ok-receipt.ensures in let r = c.in_ok-receipt.receipt in
     where_none _ r.front (c.deref_mut.result.now.journal, e.seen, e.replies)
+
+pub returns-clause-entered : goal.returns-clause-entered
+returns-clause-entered g c = let e = c.in_ok-receipt.ensures in
+    record {
+      before = c.deref_mut.result.now.journal;
+      knew = e.known;
+      seen = e.seen;
+      told = e.replies;
+      now = c.hear_any.ensures.known ∙ (ap (λ s. s.known) e.session ∙ e.journal);
+    }
+
+pub returns-clause-known : goal.returns-clause-known
+returns-clause-known g c = let e = c.in_ok-receipt.ensures in let r = c.in_ok-receipt.receipt in let asked = c.args.asked.items in let rs = r.submitted.replies.items in
+    where_some _ _ r.front (λ f p. p.1.ends ∙ sym (c.hear_any.ensures.known ∙ (ap (λ s. s.known) e.session ∙ e.journal))) (at_front c.deref_mut.result.now.journal c.args.self.now.number asked rs r.submitted.end r.front e.front)

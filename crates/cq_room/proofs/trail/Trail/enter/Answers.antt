@@ -6,7 +6,7 @@ use Rattle.cq_room.proofs.trail.Trail.enter.Goals as goal
 
 pub compare_exchange-found-requires : goal.compare_exchange-found-requires
 compare_exchange-found-requires g c =
-    let h = c.args.book.now.head_is in
+    let h = c.book.invariant in
     let offer = c.plain-offer.ensures in
     let pen = c.no_pen-pen.ensures in
     let again = c.again-seen.ensures in (
