@@ -20,7 +20,8 @@
 //! where it is published, the replies are those of the journal that stood there before, which begins
 //! with all that the session had seen; the accepted edits are the last of the front's entries, under
 //! the session's number, all in its last publication, each at the number that it was told
-//! (`specs/Receipts`). `Room::close`: the journal begins with the entries that each session has seen.
+//! (`specs/Receipts`). `Room::close`: the journal begins with the entries that each session has seen, and
+//! with those up to its last submit, which it knows of whether they were published or not.
 //!
 //! A call that takes the lock keeps its promise if it returns: nothing is said of when that is.
 //!

@@ -13,16 +13,13 @@ use crate::names::{JournalOf, RoomName};
 use crate::room::Watched;
 use crate::session::Session;
 use crate::shown::{Shown, Step};
-use crate::trail::Trail;
+use crate::trail::{MOST, Trail};
 use cq_desk::{Entry, Live, NoMemory, Publisher};
 use crossbeam_utils::rule::Unruled;
 use left_right::reader::Reader;
 use std::alloc::{AllocError, Allocator, Global};
 use std::marker::Model;
 use std::sync::Wait;
-
-/// A history is no longer than this, so that its counts do not wrap.
-const MOST: u64 = 1 << 61;
 
 /// What looks at what a pair shows.
 pub(crate) type PairReader<L, N, A> = Reader<Shown<L, N>, (), Unruled, A>;

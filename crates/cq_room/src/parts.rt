@@ -220,8 +220,8 @@ impl<L: Live, N: RoomName<L::Content>, P: Watched<L, N>, A: Allocator + Copy> Ro
 where
     P::Leave: Wait,
 {
-    /// Ends the room, and gives its desk back. Its journal begins with what each session has seen, and so
-    /// has their entries under the authors that they were seen with. Sessions that are not handed in go on with what is
+    /// Ends the room, and gives its desk back. Its journal begins with what each session has seen and
+    /// knows of: with its own entries under its number, published or not. Sessions that are not handed in go on with what is
     /// shown, until the desk is dropped.
     pub fn close(self, rt: &P::Leave, sessions: Vec<Session<L, N, A>, A>) -> Desk<L, P, A>
         ensures opening { P.opening result.publisher ∷ [] ≡ N.opening }

@@ -12,14 +12,11 @@ use crate::book::Book;
 use crate::front::Front;
 use crate::names::{JournalOf, RoomName};
 use crate::session::Session;
-use crate::trail::Trail;
+use crate::trail::{MOST, Trail};
 use cq_desk::{Checkpoint, Desk, End, Entry, Live, NoMemory, Publisher, Submitted};
 use std::alloc::{Allocator, Global};
 use std::marker::{Model, PhantomData};
 use std::sync::{Mutex, Wait};
-
-/// A trail of entries is no longer than this, so that its counts do not wrap.
-const MOST: u64 = 1 << 61;
 
 /// A publisher that sessions look at, and whose history they know.
 pub trait Watched<L: Live, N: RoomName<L::Content>>: Publisher<L>

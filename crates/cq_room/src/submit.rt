@@ -17,7 +17,7 @@ use std::sync::Wait;
 impl<L: Live, N: RoomName<L::Content>, A: Allocator + Copy> Session<L, N, A> {
     /// Enters these edits one after another under the session's number, and publishes what the journal
     /// holds. The room's lock is held from the first entry to the end of the publish. Each edit has a
-    /// reply; a refused one stops nobody.
+    /// reply; a refused one stops nobody. The session knows then of all that is entered, published or not.
     ///
     /// # Errors
     /// `NoMemory` where there was no room for the replies. Nothing was entered or published then.

@@ -12,6 +12,9 @@ use cq_desk::{Entry, Live};
 use logbook::{Offer, Seen};
 use std::marker::{Model, PhantomData};
 
+/// A history is no longer than this, so that its counts do not wrap.
+pub(crate) const MOST: u64 = 1 << 61;
+
 /// A beginning of the history that was seen. Contracts see its marks.
 #[derive(Drop)]
 pub struct Trail<L: Live, N: RoomName<L::Content>> {

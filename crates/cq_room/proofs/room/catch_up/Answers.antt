@@ -1,6 +1,5 @@
 use Rattle.std.proofs.Common.{rules, ◌≡◌, [], ◌∷◌, ◌++◌, sym}
 use Rattle.cq_room.specs.declared.mark.Mark.TheVariants.{Entered}
-use Rattle.cq_room.proofs.Fronts.{prefix_whole}
 use Rattle.cq_room.proofs.Marked.{count_more, entered_more}
 use Rattle.cq_room.proofs.room.catch_up.Goals as goal
 
