@@ -1,10 +1,16 @@
-use Rattle.std.proofs.Common.{sym, ap, subst, ◌∙◌}
+use Rattle.std.proofs.Common.{length, sym, ap, subst, ◌∙◌}
+use Rattle.std.proofs.lemmas.List.{length-map}
 use mathlib.Core.List.{IsPrefix}
 use Rattle.cq_desk.specs.History.{edits_of}
 use Rattle.cq_desk.specs.Replies.{journal_edits}
 use Rattle.cq_sessions.specs.Steps.Clients.{known_in, IsSeated}
 use Rattle.cq_sessions.proofs.Clients.{prefix_edits}
 use Rattle.cq_sessions.proofs.client.BoardClientClient.look.Goals as goal
+
+pub returns-in-Ok-clause-shown : goal.returns-in-Ok-clause-shown
+returns-in-Ok-clause-shown g c =
+    c.count.ensures ∙ (sym (length-map (edits_of c.in-Ok.look.history) (λ j. j.edit))
+    ∙ (ap (λ z. length (journal_edits (edits_of z.history))) (sym c.leave.ensures) ∙ ap length (sym (ap known_in c.replace.ensures.after))))
 
 pub returns-in-Ok-clause-seen : goal.returns-in-Ok-clause-seen
 returns-in-Ok-clause-seen g c =
