@@ -9,7 +9,7 @@ use Rattle.cq_sessions.proofs.client.BoardClientClient.look.Goals as goal
 
 pub returns-in-Ok-clause-shown : goal.returns-in-Ok-clause-shown
 returns-in-Ok-clause-shown g c =
-    c.count.ensures ∙ (sym (length-map (edits_of c.in-Ok.look.history) (λ j. j.edit))
+    c.count-count.ensures ∙ (sym (length-map (edits_of c.in-Ok.look.history) (λ j. j.edit))
     ∙ (ap (λ z. length (journal_edits (edits_of z.history))) (sym c.leave.ensures) ∙ ap length (sym (ap known_in c.replace.ensures.after))))
 
 pub returns-in-Ok-clause-seen : goal.returns-in-Ok-clause-seen
