@@ -2,3 +2,4 @@
 pub mod Labels
 pub mod Meets
 pub mod Variables
+pub mod Bytes

@@ -15,10 +15,17 @@ use crate::valuation::{Valuation, terms_under};
 use crate::word::is_relation_text;
 use std::alloc::{AllocError, Allocator, Global};
 use std::marker::Model;
+use std::sync::Arc;
 
 /// An atom: a relation's name, which begins with an upper-case letter, over 1 to 16 terms.
 #[derive(Drop)]
 pub struct Atom<A: Allocator = Global> {
+    parts: Arc<AtomParts<A>, A>,
+}
+
+/// What an atom is made of, which nothing changes once it is made.
+#[derive(Drop)]
+struct AtomParts<A: Allocator> {
     relation: Name<A>,
     terms: Vec<Term<A>, A>,
 }
@@ -26,12 +33,13 @@ pub struct Atom<A: Allocator = Global> {
 impl<A: Allocator> Model for Atom<A> {
     ghost use Rattle.std.specs.Prelude.{◌≡◌, length, None};
     ghost use Rattle.cq_atom.specs.Atom.{AtomRecord, arity_fault};
+    ghost use Rattle.std.specs.Arc.{arc_value};
 
     ghost Value = { AtomRecord };
 
-    ghost view = { λ a. record { relation = a.relation; terms = a.terms.items } };
+    ghost view = { λ a. record { relation = (arc_value a.parts).relation; terms = (arc_value a.parts).terms.items } };
 
-    ghost invariant = { λ a. arity_fault a.relation (length a.terms.items) ≡ None };
+    ghost invariant = { λ a. arity_fault (arc_value a.parts).relation (length (arc_value a.parts).terms.items) ≡ None };
 }
 
 /// Why a relation's name over that many terms or values makes nothing.
@@ -47,7 +55,7 @@ pub(crate) fn arity_fault(relation: &str, count: usize) -> Option<Bad>
     None
 }
 
-impl<A: Allocator> Atom<A> {
+impl<A: Allocator + Clone> Atom<A> {
     /// The atom of a relation's name over terms.
     ///
     /// # Errors
@@ -60,16 +68,19 @@ impl<A: Allocator> Atom<A> {
         if let Some(bad) = arity_fault(relation, terms.len()) {
             return Err(bad);
         }
-        let relation = Name::new(alloc, relation)?;
-        Ok(Atom { relation, terms })
+        let relation = Name::new(alloc.clone()?, relation)?;
+        let parts = Arc::new(alloc, AtomParts { relation, terms })?;
+        Ok(Atom { parts })
     }
+}
 
+impl<A: Allocator> Atom<A> {
     /// The relation's name.
     pub fn relation(&self) -> &str
         ensures value { result.now ≡ self.now.relation }
         ensures valid { IsTrue (is_relation_name result.now) }
     {
-        self.relation.as_str()
+        self.parts.relation.as_str()
     }
 
     /// The terms, in order.
@@ -78,7 +89,7 @@ impl<A: Allocator> Atom<A> {
         ensures some { 1 ≤ length self.now.terms }
         ensures few { length self.now.terms ≤ max_arity }
     {
-        self.terms.as_slice()
+        self.parts.terms.as_slice()
     }
 }
 
@@ -88,17 +99,17 @@ impl<A: Allocator + Clone> Clone for Atom<A> {
     ghost is_clone = { λ a b. b ≡ a };
 
     fn clone(&self) -> Result<Atom<A>, AllocError> {
-        let relation = self.relation.clone()?;
-        let terms = self.terms.clone()?;
-        Ok(Atom { relation, terms })
+        Ok(Atom {
+            parts: Arc::try_clone(&self.parts)?,
+        })
     }
 }
 
 impl<A: Allocator + Clone> Atom<A> {
-    /// An equal atom, on the same allocator.
+    /// An equal atom, which shares what the atom holds: it takes no memory.
     ///
     /// # Errors
-    /// `AllocError` where a growth was refused.
+    /// `AllocError` where 2^63 - 1 equal ones share it already.
     pub fn copy(&self) -> Result<Atom<A>, AllocError>
         ensures { IfOk result (λ atom. atom ≡ self.now) }
     {
@@ -113,9 +124,10 @@ impl<A: Allocator + Clone> Atom<A> {
     pub fn under(&self, valuation: &Valuation<A>) -> Result<Atom<A>, AllocError>
         ensures { IfOk result (λ atom. atom ≡ under valuation.now self.now) }
     {
-        let relation = self.relation.clone()?;
-        let alloc = self.terms.allocator().clone()?;
-        let terms = terms_under(alloc, &self.terms, valuation)?;
-        Ok(Atom { relation, terms })
+        let relation = self.parts.relation.clone()?;
+        let alloc = self.parts.terms.allocator().clone()?;
+        let terms = terms_under(alloc.clone()?, &self.parts.terms, valuation)?;
+        let parts = Arc::new(alloc, AtomParts { relation, terms })?;
+        Ok(Atom { parts })
     }
 }

@@ -2,23 +2,35 @@
 
 ghost use Rattle.std.specs.Prelude.{◌≡◌, IfOk};
 
+use arrayvec::ArrayString;
 use std::alloc::{AllocError, Allocator, Global};
 use std::cmp::Ordering;
 use std::hash::{Hash, Hasher};
 use std::marker::Model;
 
-/// A string that is compared and hashed by its bytes. Contracts see the list of them.
+/// Where the bytes of a text lie.
+#[derive(Drop)]
+enum Kept<A: Allocator> {
+    /// In the value itself, where they are at most 22.
+    Short(ArrayString<22>),
+    /// In a block of memory.
+    Long(String<A>),
+}
+
+/// A string that is compared and hashed by its bytes. Contracts see the list of them. A short one takes no
+/// memory but its own.
 #[derive(Drop)]
 pub struct Bytes<A: Allocator = Global> {
-    text: String<A>,
+    kept: Kept<A>,
 }
 
 impl<A: Allocator> Model for Bytes<A> {
-    ghost use Rattle.std.specs.Prelude.{List, ℕ, string_bytes};
+    ghost use Rattle.std.specs.Prelude.{List, ℕ};
+    ghost use Rattle.cq_atom.specs.Steps.Bytes.{bytes_in};
 
     ghost Value = { List ℕ };
 
-    ghost view = { λ b. string_bytes b.text };
+    ghost view = { λ b. bytes_in b.kept };
 }
 
 impl<A: Allocator> Bytes<A> {
@@ -29,15 +41,21 @@ impl<A: Allocator> Bytes<A> {
     pub fn from_str(alloc: A, text: &str) -> Result<Bytes<A>, AllocError>
         ensures { IfOk result (λ bytes. bytes ≡ text.now) }
     {
-        let text = String::from_str(alloc, text)?;
-        Ok(Bytes { text })
+        let kept = match ArrayString::from(text) {
+            Ok(short) => Kept::Short(short),
+            Err(_) => Kept::Long(String::from_str(alloc, text)?),
+        };
+        Ok(Bytes { kept })
     }
 
     /// The text that the bytes are.
     pub fn as_str(&self) -> &str
         ensures { result.now ≡ self.now }
     {
-        self.text.as_str()
+        match &self.kept {
+            Kept::Short(text) => text.as_str(),
+            Kept::Long(text) => text.as_str(),
+        }
     }
 }
 
@@ -47,9 +65,11 @@ impl<A: Allocator + Clone> Clone for Bytes<A> {
     ghost is_clone = { λ a b. b ≡ a };
 
     fn clone(&self) -> Result<Bytes<A>, AllocError> {
-        Ok(Bytes {
-            text: self.text.clone()?,
-        })
+        let kept = match &self.kept {
+            Kept::Short(text) => Kept::Short(*text),
+            Kept::Long(text) => Kept::Long(text.clone()?),
+        };
+        Ok(Bytes { kept })
     }
 }
 
@@ -64,7 +84,7 @@ impl<A: Allocator> PartialEq for Bytes<A> {
     ghost laws = { partial_equiv_from_equiv nat_list_eq_equiv };
 
     fn eq(&self, other: &Bytes<A>) -> bool {
-        self.text == other.text
+        self.as_str() == other.as_str()
     }
 }
 

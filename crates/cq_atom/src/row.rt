@@ -12,26 +12,34 @@ use crate::name::Name;
 use crate::value::Value;
 use std::alloc::{AllocError, Allocator, Global};
 use std::marker::Model;
+use std::sync::Arc;
 
 /// A row: a relation's name over 1 to 16 values, so an atom without variables.
 #[derive(Drop)]
 pub struct Row<A: Allocator = Global> {
+    parts: Arc<RowParts<A>, A>,
+}
+
+/// What a row is made of, which nothing changes once it is made.
+#[derive(Drop)]
+struct RowParts<A: Allocator> {
     relation: Name<A>,
     values: Vec<Value<A>, A>,
 }
 
 impl<A: Allocator> Model for Row<A> {
     ghost use Rattle.std.specs.Prelude.{◌≡◌, length, None};
+    ghost use Rattle.std.specs.Arc.{arc_value};
     ghost use Rattle.cq_atom.specs.Atom.{RowRecord, arity_fault};
 
     ghost Value = { RowRecord };
 
-    ghost view = { λ r. record { relation = r.relation; values = r.values.items } };
+    ghost view = { λ r. record { relation = (arc_value r.parts).relation; values = (arc_value r.parts).values.items } };
 
-    ghost invariant = { λ r. arity_fault r.relation (length r.values.items) ≡ None };
+    ghost invariant = { λ r. arity_fault (arc_value r.parts).relation (length (arc_value r.parts).values.items) ≡ None };
 }
 
-impl<A: Allocator> Row<A> {
+impl<A: Allocator + Clone> Row<A> {
     /// The row of a relation's name over values.
     ///
     /// # Errors
@@ -44,16 +52,19 @@ impl<A: Allocator> Row<A> {
         if let Some(bad) = arity_fault(relation, values.len()) {
             return Err(bad);
         }
-        let relation = Name::new(alloc, relation)?;
-        Ok(Row { relation, values })
+        let relation = Name::new(alloc.clone()?, relation)?;
+        let parts = Arc::new(alloc, RowParts { relation, values })?;
+        Ok(Row { parts })
     }
+}
 
+impl<A: Allocator> Row<A> {
     /// The relation's name.
     pub fn relation(&self) -> &str
         ensures value { result.now ≡ self.now.relation }
         ensures valid { IsTrue (is_relation_name result.now) }
     {
-        self.relation.as_str()
+        self.parts.relation.as_str()
     }
 
     /// The values, in order.
@@ -62,7 +73,7 @@ impl<A: Allocator> Row<A> {
         ensures some { 1 ≤ length self.now.values }
         ensures few { length self.now.values ≤ max_arity }
     {
-        self.values.as_slice()
+        self.parts.values.as_slice()
     }
 }
 
@@ -72,17 +83,17 @@ impl<A: Allocator + Clone> Clone for Row<A> {
     ghost is_clone = { λ a b. b ≡ a };
 
     fn clone(&self) -> Result<Row<A>, AllocError> {
-        let relation = self.relation.clone()?;
-        let values = self.values.clone()?;
-        Ok(Row { relation, values })
+        Ok(Row {
+            parts: Arc::try_clone(&self.parts)?,
+        })
     }
 }
 
 impl<A: Allocator + Clone> Row<A> {
-    /// An equal row, on the same allocator.
+    /// An equal row, which shares what the row holds: it takes no memory.
     ///
     /// # Errors
-    /// `AllocError` where a growth was refused.
+    /// `AllocError` where 2^63 - 1 equal ones share it already.
     pub fn copy(&self) -> Result<Row<A>, AllocError>
         ensures { IfOk result (λ row. row ≡ self.now) }
     {

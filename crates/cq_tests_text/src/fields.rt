@@ -95,15 +95,18 @@ fn fields_that_are_no_values(rt: HostRuntime) {
     }
 }
 
+// A text of more than 22 bytes takes memory of its own.
+const CITY: &[u8] = b"Paris, the city of light";
+
 /// A field read.
 struct ReadingField;
 
 impl Tried for ReadingField {
     fn tried<A: Allocator + Copy>(alloc: A) -> Outcome {
-        match read_field(alloc, b"Paris") {
-            Ok(value) => Outcome::done_if(is_text(&value, b"Paris")),
+        match read_field(alloc, CITY) {
+            Ok(value) => Outcome::done_if(is_text(&value, CITY)),
             Err(fault) => Outcome::refused_if(
-                fault == TextFault::NoMemory && read_field(alloc, b"Paris").is_ok(),
+                fault == TextFault::NoMemory && read_field(alloc, CITY).is_ok(),
             ),
         }
     }

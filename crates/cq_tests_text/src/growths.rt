@@ -30,7 +30,8 @@ fn refused_growth_in_reading(rt: HostRuntime) {
     assert!(rt; matches!(refusals::<ReadingLine>(rt.alloc()), Ok(6..)));
 }
 
-const ROW: &[u8] = b"Flights(C, \"b\", 1)";
+// A text of more than 22 bytes takes memory of its own.
+const ROW: &[u8] = b"Flights(C, \"Paris, the city of light\", 1)";
 
 /// A text read as a ground atom.
 struct ReadingRow;
@@ -109,13 +110,15 @@ fn refused_growth_in_printing(rt: HostRuntime) {
     assert!(rt; matches!(refusals::<Printing>(rt.alloc()), Ok(1..)));
 }
 
+const PRINTED: &str = r#"Flights("C", "Paris, the city of light", 1)"#;
+
 /// An atom, a row and its values printed, and a text as it stands between quotes.
 struct PrintingParts;
 
 fn prints_row<A: Allocator + Copy>(alloc: A, row: &Row<A>) -> Result<bool, AllocError> {
     let text = print_row(alloc, row)?;
     let values = print_values(alloc, row.values())?;
-    Ok(text.as_str() == r#"Flights("C", "b", 1)"# && values.as_str() == r#"("C", "b", 1)"#)
+    Ok(text.as_str() == PRINTED && values.as_str() == r#"("C", "Paris, the city of light", 1)"#)
 }
 
 fn prints_head<A: Allocator + Copy>(alloc: A, query: &Query<A>) -> Result<bool, AllocError> {

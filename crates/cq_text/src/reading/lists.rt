@@ -17,7 +17,7 @@ use crate::token::{Close, Sign};
 use cq_atom::{Atom, Bad, Query, Row, Term, Value};
 use std::alloc::Allocator;
 
-fn new_row<A: Allocator>(
+fn new_row<A: Allocator + Clone>(
     alloc: A,
     relation: &str,
     values: Vec<Value<A>, A>,
@@ -33,7 +33,7 @@ fn new_row<A: Allocator>(
     }
 }
 
-fn new_atom<A: Allocator>(
+fn new_atom<A: Allocator + Clone>(
     alloc: A,
     relation: &str,
     terms: Vec<Term<A>, A>,
