@@ -10,3 +10,6 @@ pub mod Edits
 pub mod Members
 pub mod Whole
 pub mod Undone
+pub mod Parted
+pub mod Ordered
+pub mod Columns

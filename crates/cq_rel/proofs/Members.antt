@@ -28,22 +28,22 @@ contains-from_in (y ∷ ys) x h = elim h [
   | inr i ↦ (let c = contains-from_in ys x i in (suc c.0, (let low : c.0 < length ys = c.1 in omega arith), c.2))
 ]
 
-in-left : {X : Type 0} (xs ys : List X) (x : X) → In xs x → In (xs ++ ys) x
+pub in-left : {X : Type 0} (xs ys : List X) (x : X) → In xs x → In (xs ++ ys) x
 in-left [] ys x h = absurd h
 in-left (z ∷ xs) ys x h = elim h [ inl e ↦ inl e | inr i ↦ inr (in-left xs ys x i) ]
 
-in-right : {X : Type 0} (xs ys : List X) (x : X) → In ys x → In (xs ++ ys) x
+pub in-right : {X : Type 0} (xs ys : List X) (x : X) → In ys x → In (xs ++ ys) x
 in-right [] ys x h = h
 in-right (z ∷ xs) ys x h = inr (in-right xs ys x h)
 
-in-either : {X : Type 0} (xs ys : List X) (x : X) → In (xs ++ ys) x → In xs x ⊎ In ys x
+pub in-either : {X : Type 0} (xs ys : List X) (x : X) → In (xs ++ ys) x → In xs x ⊎ In ys x
 in-either [] ys x h = inr h
 in-either (z ∷ xs) ys x h = elim h [
   | inl e ↦ inl (inl e)
   | inr i ↦ elim (in-either xs ys x i) [ inl a ↦ inl (inr a) | inr b ↦ inr b ]
 ]
 
-in-filter : {X : Type 0} (p : X → Bool) (xs : List X) (x : X) → In (filter p xs) x → In xs x × (p x ≡ true)
+pub in-filter : {X : Type 0} (p : X → Bool) (xs : List X) (x : X) → In (filter p xs) x → In xs x × (p x ≡ true)
 in-filter p [] x h = absurd h
 in-filter {X} p (y ∷ ys) x h =
     by_bool (p y) (In (y ∷ ys) x × (p x ≡ true))
@@ -53,14 +53,14 @@ in-filter {X} p (y ∷ ys) x h =
     ])
     (λ f. let rest = in-filter p ys x (rw f at h) in (inr rest.0, rest.1))
 
-in-passed : {X : Type 0} (p : X → Bool) (xs : List X) (x : X) → In xs x → p x ≡ true → In (filter p xs) x
+pub in-passed : {X : Type 0} (p : X → Bool) (xs : List X) (x : X) → In xs x → p x ≡ true → In (filter p xs) x
 in-passed p [] x h t = absurd h
 in-passed p (y ∷ ys) x h t = elim h [
   | inl e ↦ (let here : p y ≡ true = ap p e ∙ t in rw here (inl e))
   | inr i ↦ by_bool (p y) (In (filter p (y ∷ ys)) x) (λ a. rw a (inr (in-passed p ys x i t))) (λ b. rw b (in-passed p ys x i t))
 ]
 
-all-in : {X : Type 0} (P : X → Type 0) (xs : List X) (x : X) → AllByRecursion P xs → In xs x → P x
+pub all-in : {X : Type 0} (P : X → Type 0) (xs : List X) (x : X) → AllByRecursion P xs → In xs x → P x
 all-in P [] x a h = absurd h
 all-in P (y ∷ ys) x a h = elim h [ inl e ↦ subst P e a.0 | inr i ↦ all-in P ys x a.1 i ]
 

@@ -1,18 +1,13 @@
 -- The order of values is total, and ties only what is one.
-use Rattle.std.proofs.Common.{◌≡◌, ℕ, ◌+◌, List, [], ◌∷◌, Ordering, refl, ap, ◌∙◌, arith, get_or, subst, Result, Ok, Err}
+use Rattle.std.proofs.Common.{◌≡◌, ℕ, List, [], ◌∷◌, Ordering, refl, ap}
 use Rattle.std.specs.declared.cmp.Ordering.TheVariants.{Less, Equal, Greater}
 use Rattle.std.specs.Cmp.{IsTotalOrder}
 use Rattle.std.specs.Cmp.Lexicographic.{slice_cmp}
-use Rattle.std.specs.Ordering.{is_lt, nat_cmp, int_cmp, ordering_then, ordering_reverse, ordering_index}
-use Rattle.std.specs.List.Sorted.{IsStrictlySortedBy, IsNonDecreasingBy, IsSortedBy, IsBinarySearchResult}
+use Rattle.std.specs.Ordering.{is_lt, nat_cmp, int_cmp, ordering_then, ordering_reverse}
 use Rattle.std.proofs.lemmas.Cmp.{int_cmp_total, nat_list_cmp_total, lists_total, tied_itself, int_ranked, ranked}
-use Rattle.std.proofs.lemmas.List.Sorted.{searchable_from_sorted}
-use Rattle.std.proofs.lemmas.Map.Keys.{Less-from_sorted}
 use Rattle.cq_atom.specs.Value.{ValueContent, is_before}
-use Rattle.cq_atom.specs.Atom.{RowRecord}
 use Rattle.cq_atom.specs.declared.value.Content.TheVariants.{Number, Text}
 use Rattle.cq_rel.specs.Tables.{value_order, values_order}
-use Rattle.cq_rel.specs.Steps.Table.{by_values, IsPlace}
 
 -- `is_before` is the strict part of the order of values
 pub before-is : (x y : ValueContent) → is_before x y ≡ is_lt (value_order x y)
@@ -80,22 +75,3 @@ values-tied v w e = lists-tied value_order value-tied v w e
 
 pub values-itself : (v : List ValueContent) → values_order v v ≡ Equal
 values-itself v = tied_itself values_total v
-
--- a table can be searched
-sorted-weakly : (rows : List RowRecord) → IsStrictlySortedBy by_values rows → IsSortedBy (λ r s. is_lt (by_values r s)) rows
-sorted-weakly rows up k d low high =
-    let less = Less-from_sorted by_values rows k (k + 1) d up (omega arith) high in
-    ap is_lt (values_total.antisymm (get_or rows (k + 1) d).values (get_or rows k d).values ∙ ap ordering_reverse less)
-
-pub searchable : (rows : List RowRecord) (values : List ValueContent) → IsStrictlySortedBy by_values rows → IsNonDecreasingBy (λ r. ordering_index (values_order r.values values)) rows
-searchable rows values up = searchable_from_sorted values_total (λ (r : RowRecord). r.values) rows values (sorted-weakly rows up)
-
-place-in : (rows : List RowRecord) (values : List ValueContent) (result : Result ℕ ℕ) → IsStrictlySortedBy by_values rows → IsBinarySearchResult (λ (r : RowRecord). values_order r.values values) rows result → IsPlace values rows result
-place-in rows values (Ok i) up found = found
-place-in rows values (Err i) up found = found (searchable rows values up)
-
--- what a search in a table finds
-pub place-found : (seen items rows : List RowRecord) (values : List ValueContent) (result : Result ℕ ℕ) → seen ≡ items → items ≡ rows → IsStrictlySortedBy by_values items → IsBinarySearchResult (λ (r : RowRecord). values_order r.values values) seen result → IsPlace values rows result
-place-found seen items rows values result e view up found =
-    let here : IsPlace values items result = place-in items values result up (subst (λ (xs : List RowRecord). IsBinarySearchResult (λ (r : RowRecord). values_order r.values values) xs result) e found) in
-    subst (λ (xs : List RowRecord). IsPlace values xs result) view here

@@ -1,11 +1,11 @@
 -- Tables: a catalog of declared relations, and a set of rows under it.
 -- (the database that the body of an entangled query reads: Gupta et al., SIGMOD 2011; order and limits: this project's profile)
-use Rattle.std.specs.Prelude.{◌≡◌, ◌≤◌, ℕ, Bool, ◌&&◌, not, nat_eq, nat_lt, List, [], ◌∷◌, ◌++◌, length, map, filter, if◌then◌else◌, Option, Some, None, Result, Ok, Err}
+use Rattle.std.specs.Prelude.{◌≡◌, ◌≤◌, ℕ, Bool, ◌&&◌, not, nat_eq, nat_lt, List, [], ◌∷◌, ◌++◌, length, drop, map, filter, if◌then◌else◌, Option, Some, None, Result, Ok, Err}
 use Rattle.std.specs.List.{All, Contains, IsDistinct, list_any, position_or_len}
 use Rattle.std.specs.List.Sorted.{IsStrictlySortedBy}
 use Rattle.std.specs.declared.cmp.Ordering.{Ordering}
 use Rattle.std.specs.declared.cmp.Ordering.TheVariants.{Less, Greater}
-use Rattle.std.specs.Ordering.{is_lt, is_eq, nat_cmp, int_cmp, ordering_then}
+use Rattle.std.specs.Ordering.{is_lt, is_gt, is_eq, nat_cmp, int_cmp, ordering_then}
 use Rattle.std.specs.Cmp.Lexicographic.{slice_cmp}
 use Rattle.std.specs.Str.{bytes_eq}
 use Rattle.cq_atom.specs.declared.value.Content.TheVariants.{Number, Text}
@@ -113,6 +113,27 @@ has_row tables row = list_any (same_row row) tables.rows
 -- The rows of one relation, in order.
 abbrev pub rows_in : List ℕ → TablesRecord → List RowRecord
 rows_in relation tables = filter (λ r. bytes_eq relation r.relation) tables.rows
+
+-- How the first of the values stands to a value: where there is none, before it.
+abbrev pub head_order : List ValueContent → ValueContent → Ordering
+head_order [] v = Less
+head_order (w ∷ ws) v = value_order w v
+
+-- How a row's value in a column, counted from 0, stands to a value.
+abbrev pub order_at : ℕ → RowRecord → ValueContent → Ordering
+order_at column r v = head_order (drop column r.values) v
+
+-- The row has the value in the column.
+abbrev pub has_at : ℕ → ValueContent → RowRecord → Bool
+has_at column v r = is_eq (order_at column r v)
+
+-- The row's value in the column comes before the value.
+abbrev pub is_below : ℕ → ValueContent → RowRecord → Bool
+is_below column v r = is_lt (order_at column r v)
+
+-- The row's value in the column does not come after the value.
+abbrev pub is_upto : ℕ → ValueContent → RowRecord → Bool
+is_upto column v r = not (is_gt (order_at column r v))
 
 -- Why the catalog has no place for the row: its relation is looked at before its arity.
 abbrev pub row_fault : List Declaration → RowRecord → Option RowFault

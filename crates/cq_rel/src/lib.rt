@@ -12,8 +12,10 @@
 #![tactic(auto)]
 
 mod catalog;
+mod column;
 mod fault;
 mod limits;
+mod near;
 mod reading;
 mod records;
 mod table;
@@ -22,6 +24,7 @@ mod tables;
 pub use catalog::Catalog;
 pub use fault::{CatalogFault, CsvFault, RowFault};
 pub use limits::MAX_RELATIONS;
+pub use near::rows_at;
 pub use reading::read_csv;
 pub use records::all_records;
 pub use tables::Tables;

@@ -1,17 +1,18 @@
 //! Tables.
 
-ghost use Rattle.std.specs.Prelude.{◌≡◌, ◌↔◌, ◌⊎◌, [], length, IsTrue, OnOk, OnErr, IfOk, IfSome, IfNone, None, Some};
+ghost use Rattle.std.specs.Prelude.{◌≡◌, ◌↔◌, ◌⊎◌, ◌<◌, [], length, filter, IsTrue, OnOk, OnErr, IfOk, IfSome, IfNone, None, Some};
 ghost use Rattle.std.specs.List.{All};
 ghost use Rattle.std.specs.List.Sorted.{IsStrictlySortedBy};
 ghost use Rattle.std.specs.Option.{option_map, option_copied};
 ghost use Rattle.cq_atom.specs.Answer.{Answers};
+ghost use Rattle.cq_atom.specs.Limits.{max_arity};
 ghost use Rattle.cq_atom.specs.Atom.{RowRecord};
-ghost use Rattle.cq_rel.specs.Tables.{TablesRecord, IsTables, IsRow, IsUnder, arity_in, has_row, rows_in, values_order, insert_fault, delete_fault, answer_of, with_row, without_row};
+ghost use Rattle.cq_rel.specs.Tables.{TablesRecord, IsTables, IsRow, IsUnder, arity_in, has_row, rows_in, values_order, has_at, insert_fault, delete_fault, answer_of, with_row, without_row};
 
 use crate::catalog::Catalog;
 use crate::fault::RowFault;
 use crate::table::Table;
-use cq_atom::Row;
+use cq_atom::{Row, Value};
 use std::alloc::{AllocError, Allocator, Global};
 use std::marker::Model;
 
@@ -71,20 +72,18 @@ impl<A: Allocator> Tables<A> {
         Some(self.tables[place].rows())
     }
 
-    /// Inserts the row.
-    ///
-    /// # Errors
-    /// In this order: `UnknownRelation` where the row's relation is not declared; `Arity` where it is
-    /// declared with another arity; `RowPresent` where the tables have the row; `NoMemory` where a
-    /// growth was refused. The row is dropped then, and the tables stay as they were.
-    pub fn insert(&mut self, row: Row<A>) -> Result<(), RowFault>
-        ensures answer { Answers RowFault.NoMemory (insert_fault self.old row) tt result }
-        ensures ok { OnOk result (self.new ≡ with_row row self.old) }
-        ensures member { OnOk result ((r : RowRecord) → IsRow self.new r ↔ ((r ≡ row) ⊎ IsRow self.old r)) }
-        ensures err { OnErr result (self.new ≡ self.old) }
+    /// The rows of the relation that have the value in the column, counted from 0, in order of their values: none where
+    /// the relation is not declared. It is for the columns after the first, by which the rows of a relation stand
+    /// anyhow. Two searches by halving.
+    pub fn rows_with(&self, relation: &str, column: usize, value: &Value<A>) -> &[Row<A>]
+        requires later { 0 < column }
+        requires within { column < max_arity }
+        ensures { result.now ≡ filter (has_at column value.now) (rows_in relation.now self.now) }
     {
-        let place = self.catalog.place_for(&row)?;
-        self.tables[place].insert(row)
+        match self.catalog.place_of(relation) {
+            Some(place) => self.tables[place].rows_with(column, value),
+            None => &[],
+        }
     }
 
     /// Deletes the row. It takes no memory.
@@ -105,6 +104,22 @@ impl<A: Allocator> Tables<A> {
 }
 
 impl<A: Allocator + Clone> Tables<A> {
+    /// Inserts the row.
+    ///
+    /// # Errors
+    /// In this order: `UnknownRelation` where the row's relation is not declared; `Arity` where it is
+    /// declared with another arity; `RowPresent` where the tables have the row; `NoMemory` where a
+    /// growth was refused. The row is dropped then, and the tables stay as they were.
+    pub fn insert(&mut self, row: Row<A>) -> Result<(), RowFault>
+        ensures answer { Answers RowFault.NoMemory (insert_fault self.old row) tt result }
+        ensures ok { OnOk result (self.new ≡ with_row row self.old) }
+        ensures member { OnOk result ((r : RowRecord) → IsRow self.new r ↔ ((r ≡ row) ⊎ IsRow self.old r)) }
+        ensures err { OnErr result (self.new ≡ self.old) }
+    {
+        let place = self.catalog.place_for(&row)?;
+        self.tables[place].insert(row)
+    }
+
     /// The tables without rows under the catalog, on the catalog's allocator.
     ///
     /// # Errors
@@ -115,7 +130,7 @@ impl<A: Allocator + Clone> Tables<A> {
         let count = catalog.len();
         let mut tables = Vec::with_capacity(catalog.allocator().clone()?, count)?;
         for _ in 0..count {
-            tables.push(Table::new(catalog.allocator().clone()?))?;
+            tables.push(Table::new(catalog.allocator().clone()?)?)?;
         }
         Ok(Tables { catalog, tables })
     }

@@ -9,19 +9,24 @@ use cq_tests_growths::{Outcome, Tried, refusals};
 use cq_text::{Form, read_ground_atom};
 use std::alloc::{AllocError, Allocator};
 
+// Names of more than 22 bytes take memory of their own.
+const LONG: &str = "FlightsThatLeaveInTheMorning";
+
+const LONGER: &str = "AirlinesThatHaveSuchFlights";
+
 /// A relation declared in a catalog without relations.
 struct Declaring;
 
 impl Tried for Declaring {
     fn tried<A: Allocator + Copy>(alloc: A) -> Outcome {
         let mut catalog = Catalog::empty(alloc);
-        match catalog.declare("Flights", 2) {
-            Ok(()) => Outcome::done_if(catalog.entry(0) == Some(("Flights", 2))),
+        match catalog.declare(LONG, 2) {
+            Ok(()) => Outcome::done_if(catalog.entry(0) == Some((LONG, 2))),
             Err(fault) => Outcome::refused_if(
                 fault == CatalogFault::NoMemory
                     && catalog.len() == 0
-                    && catalog.declare("Flights", 2) == Ok(())
-                    && catalog.entry(0) == Some(("Flights", 2)),
+                    && catalog.declare(LONG, 2) == Ok(())
+                    && catalog.entry(0) == Some((LONG, 2)),
             ),
         }
     }
@@ -124,21 +129,24 @@ fn refused_growth_in_copies(rt: HostRuntime) {
     assert!(rt; matches!(refusals::<Copying>(rt.alloc()), Ok(4..)));
 }
 
-/// A copy of the worked catalog.
+/// A copy of a catalog of two relations.
 struct CopyingCatalog;
+
+fn long_catalog<A: Allocator + Copy>(alloc: A) -> Result<Catalog<A>, CatalogFault> {
+    let mut catalog = Catalog::empty(alloc);
+    catalog.declare(LONG, 2)?;
+    catalog.declare(LONGER, 2)?;
+    Ok(catalog)
+}
 
 fn is_catalog_copied<A: Allocator + Clone>(catalog: &Catalog<A>) -> Result<bool, AllocError> {
     let copy = catalog.copy()?;
-    Ok(
-        copy.len() == 2
-            && copy.entry(0) == Some(("Flights", 2))
-            && copy.entry(1) == Some(("Airlines", 2)),
-    )
+    Ok(copy.len() == 2 && copy.entry(0) == Some((LONG, 2)) && copy.entry(1) == Some((LONGER, 2)))
 }
 
 impl Tried for CopyingCatalog {
     fn tried<A: Allocator + Copy>(alloc: A) -> Outcome {
-        let Ok(catalog) = travel_catalog(alloc) else {
+        let Ok(catalog) = long_catalog(alloc) else {
             return Outcome::Unready;
         };
         match is_catalog_copied(&catalog) {

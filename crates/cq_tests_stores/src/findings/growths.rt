@@ -57,7 +57,7 @@ impl<const PLACE: usize> Tried for Trying<PLACE> {
 
 #[test]
 fn refused_growth_in_add(rt: HostRuntime) {
-    assert!(rt; matches!(refusals::<Trying<ADD>>(rt.alloc()), Ok(4..)));
+    assert!(rt; matches!(refusals::<Trying<ADD>>(rt.alloc()), Ok(1..)));
 }
 
 #[test]

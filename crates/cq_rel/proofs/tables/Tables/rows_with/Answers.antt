@@ -1,0 +1,16 @@
+use Rattle.std.proofs.Common.{sym, ap, arith, refl, ◌∙◌}
+use Rattle.std.specs.List.{filter}
+use Rattle.cq_rel.specs.Tables.{has_at}
+use Rattle.cq_rel.proofs.Whole.{place-low, rows-absent, rows-shown}
+use Rattle.cq_rel.proofs.tables.Tables.rows_with.Goals as goal
+
+pub index-requires : goal.index-requires
+index-requires g c = omega (arith, place-low c.self.inside.catalog c.self.inside.tables.items c.args.relation.now c.in-Some.place c.self.invariant (sym c.in-Some.ensures), c.self.inside.tables.ok)
+
+pub returns-in-Some : goal.returns-in-Some
+returns-in-Some g c =
+    c.rows_with.ensures ∙ ap (filter (has_at c.args.column c.args.value.now))
+    (rows-shown c.self.inside.catalog c.self.inside.tables.items c.args.self.now c.args.relation.now c.in-Some.place c.index.result.now c.index.result.now c.self.view_is c.self.invariant (sym c.in-Some.ensures) c.index.ensures refl)
+
+pub returns-in-None : goal.returns-in-None
+returns-in-None g c = sym (ap (filter (has_at c.args.column c.args.value.now)) (rows-absent c.self.inside.catalog c.self.inside.tables.items c.args.self.now c.args.relation.now c.self.view_is c.self.invariant c.in-None.ensures))
