@@ -91,8 +91,11 @@ impl<A: Allocator + Copy> Clerk<A> {
         output.put_text(ok_line())
     }
 
-    /// The floor opens, where the setup lasts.
-    fn open(&mut self) -> Result<(), AllocError>
+    /// The floor opens, where the setup lasts. A floor is large, and stands in the frame of this call alone: so no other
+    /// line pays for it.
+    #[cold]
+    #[inline(never)]
+    fn open_floor(&mut self) -> Result<(), AllocError>
         ensures { OnOk result (self.new ≡ Serving (serving_of self.old)) }
     {
         if let Stage::Setup(setup) = &mut self.stage {
@@ -101,6 +104,16 @@ impl<A: Allocator + Copy> Clerk<A> {
             mem::drop(mem::replace(&mut self.stage, Stage::Serving(floor)));
         }
         Ok(())
+    }
+
+    /// The floor opens, where the setup lasts.
+    fn open(&mut self) -> Result<(), AllocError>
+        ensures { OnOk result (self.new ≡ Serving (serving_of self.old)) }
+    {
+        match &self.stage {
+            Stage::Setup(_) => self.open_floor(),
+            Stage::Serving(_) => Ok(()),
+        }
     }
 
     /// The floor, which opens where the setup lasts.
