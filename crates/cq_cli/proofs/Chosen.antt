@@ -1,6 +1,6 @@
 -- Texts of values, one after another.
 use Rattle.std.proofs.Common.{◌≡◌, refl, Bool, true, false, Bor, ◌≢◌, inl, inr, ℕ, ◌+◌, ◌<◌, ◌≤◌, arith, zero, suc, List, [], ◌∷◌, ◌++◌, length, take, drop, get_or, map, sym, ap, subst, ◌∙◌, append_assoc, append-nil}
-use Rattle.std.specs.Prelude.{codes, if◌then◌else◌, ◌&&◌, IsTrue, Option, Some, None, Ok, Err, MatchOption}
+use Rattle.std.specs.Prelude.{◌==◌, codes, if◌then◌else◌, ◌&&◌, IsTrue, Option, Some, None, Ok, Err, MatchOption}
 use Rattle.std.specs.List.{flat_map, join_by, list_all}
 use Rattle.std.proofs.lemmas.List.{append_cancel_right, map-append, take_more, drop_more}
 use Rattle.std.proofs.lemmas.Bool.{eqb-true}
@@ -82,6 +82,11 @@ module _ {Y : Type 0} (separator : List Y) where
 -- Texts of values, each with a comma behind it, and then a piece.
 abbrev pub IsBegun : List ℕ → List ValueContent → List ℕ → Type 0
 IsBegun text values piece = (texts : List (List ℕ)) × ArePaired StandsForValue texts values × (text ≡ closed (codes ",") texts ++ piece)
+
+-- an empty text lists no value
+pub lists-nothing : (text : List ℕ) (values : List ValueContent) → (length text == 0) ≡ true → values ≡ [] → ListsValues text values
+lists-nothing [] values e f = ([], subst (ArePaired StandsForValue []) (sym f) tt, refl)
+lists-nothing (b ∷ text) values e f = let never : suc (length text) ≡ 0 = eqb-true (suc (length text)) 0 e in absurd (omega (arith, never))
 
 pub begun-nothing : (text : List ℕ) (values : List ValueContent) (piece : List ℕ) → values ≡ [] → piece ≡ [] → IsBegun (take 0 text) values piece
 begun-nothing text values piece e f = rw (e, f) ([], tt, refl)
