@@ -1,17 +1,15 @@
 -- The test of candidates, against the keys of buckets and against what it stands for.
 use Rattle.std.proofs.Common.{◌≡◌, Bool, true, false, ◌&&◌, ◌||◌, nat_eq, length, Option, Some, None, is_some, refl, sym, ap, ◌∙◌, bytes_eq}
-use Rattle.std.specs.Option.{option_map, option_map_or}
+use Rattle.std.specs.Option.{option_map_or}
 use Rattle.std.proofs.lemmas.Bool.Decides.{Decides-eqb}
 use Rattle.std.proofs.lemmas.Slice.Eq.{bytes_eq-Decides}
 use Rattle.cq_atom.specs.Value.{ValueContent}
 use Rattle.cq_atom.specs.Atom.{AtomRecord}
 use Rattle.cq_index.specs.declared.key.First.TheVariants.{Any, Variable, Constant}
-use Rattle.cq_index.specs.declared.key.Key.{Key}
-use Rattle.cq_index.specs.declared.kept.Kept.{Kept}
 use Rattle.cq_index.specs.Index.{first_constant, same_value, may_agree, is_candidate, IsCandidate}
-use Rattle.cq_index.specs.Steps.Keys.{first_of, same_first, same_key, key_of, open_of, group_of}
-use Rattle.cq_index.specs.Steps.Kept.{belongs, is_keyed}
-use Rattle.cq_index.specs.Steps.Same.{by_bool, and_left, and_right, same_value-is, same_value-refl, same_key-is}
+use Rattle.cq_index.specs.Steps.Keys.{first_of, same_first, key_of, open_of, group_of}
+use Rattle.cq_index.specs.Steps.Kept.{belongs}
+use Rattle.cq_index.specs.Steps.Same.{by_bool, and_left, and_right, same_value-is, same_value-refl}
 
 -- ---- by the keys
 
@@ -49,31 +47,21 @@ none_first : (r n : Bool) (o f : Option ValueContent) → is_some f ≡ false �
 none_first r n o None h = variable_first r n o
 none_first r n o (Some v) h = absurd cc
 
-module _ {A : Type 0} where
-  same_keys : (x : Kept A) → is_keyed (Some x) ≡ true → (k : Key A) → belongs (Some x) k ≡ (same_key (key_of x.atom) k || same_key (group_of x.atom) k)
-  same_keys x keyed k =
-      let own : x.own ≡ key_of x.atom = same_key-is x.own (key_of x.atom) (and_left _ _ keyed) in
-      let group : x.group ≡ group_of x.atom = same_key-is x.group (group_of x.atom) (and_right (same_key x.own (key_of x.atom)) _ keyed) in
-      λ i. same_key (own i) k || same_key (group i) k
+pub constant_members : (o : Option AtomRecord) (given : AtomRecord) → is_some (first_constant given) ≡ true
+    → (belongs o (key_of given) || belongs o (open_of given)) ≡ option_map_or (is_candidate given) o false
+constant_members None given some = refl
+constant_members (Some a) given some =
+    some_first (bytes_eq a.relation given.relation) (nat_eq (length a.terms) (length given.terms)) (first_constant a) (first_constant given) some
 
-  pub constant_members : (o : Option (Kept A)) (given : AtomRecord) → is_keyed o ≡ true → is_some (first_constant given) ≡ true
-      → (belongs o (key_of given) || belongs o (open_of given)) ≡ option_map_or (is_candidate given) (option_map (λ x. x.atom) o) false
-  constant_members None given keyed some = refl
-  constant_members (Some x) given keyed some =
-      (λ i. same_keys x keyed (key_of given) i || same_keys x keyed (open_of given) i)
-      ∙ some_first (bytes_eq x.atom.relation given.relation) (nat_eq (length x.atom.terms) (length given.terms)) (first_constant x.atom) (first_constant given) some
+pub constant_apart : (o : Option AtomRecord) (given : AtomRecord) → is_some (first_constant given) ≡ true → belongs o (key_of given) ≡ true → belongs o (open_of given) ≡ true → ⊥
+constant_apart None given some a b = cc
+constant_apart (Some x) given some a b =
+    some_apart (bytes_eq x.relation given.relation) (nat_eq (length x.terms) (length given.terms)) (first_constant x) (first_constant given) some a b
 
-  pub constant_apart : (o : Option (Kept A)) (given : AtomRecord) → is_keyed o ≡ true → is_some (first_constant given) ≡ true → belongs o (key_of given) ≡ true → belongs o (open_of given) ≡ true → ⊥
-  constant_apart None given keyed some a b = cc
-  constant_apart (Some x) given keyed some a b =
-      some_apart (bytes_eq x.atom.relation given.relation) (nat_eq (length x.atom.terms) (length given.terms)) (first_constant x.atom) (first_constant given) some
-      (sym (same_keys x keyed (key_of given)) ∙ a) (sym (same_keys x keyed (open_of given)) ∙ b)
-
-  pub variable_members : (o : Option (Kept A)) (given : AtomRecord) → is_keyed o ≡ true → is_some (first_constant given) ≡ false
-      → belongs o (group_of given) ≡ option_map_or (is_candidate given) (option_map (λ x. x.atom) o) false
-  variable_members None given keyed none = refl
-  variable_members (Some x) given keyed none = same_keys x keyed (group_of given)
-      ∙ none_first (bytes_eq x.atom.relation given.relation) (nat_eq (length x.atom.terms) (length given.terms)) (first_constant x.atom) (first_constant given) none
+pub variable_members : (o : Option AtomRecord) (given : AtomRecord) → is_some (first_constant given) ≡ false
+    → belongs o (group_of given) ≡ option_map_or (is_candidate given) o false
+variable_members None given none = refl
+variable_members (Some x) given none = none_first (bytes_eq x.relation given.relation) (nat_eq (length x.terms) (length given.terms)) (first_constant x) (first_constant given) none
 
 -- ---- by what the test stands for
 

@@ -1,5 +1,5 @@
 -- What the buckets give are the candidates.
-use Rattle.std.proofs.Common.{◌≡◌, ◌↔◌, ℕ, true, false, ◌||◌, nat_eq, List, map, Option, Some, None, Result, Ok, Err, IfOk, is_some, Contains, refl, sym, ap, ◌∙◌}
+use Rattle.std.proofs.Common.{◌≡◌, ◌↔◌, ℕ, true, false, ◌||◌, nat_eq, List, Option, Some, None, Result, Ok, Err, IfOk, is_some, Contains, refl, sym, ap, ◌∙◌}
 use Rattle.std.specs.List.{list_any, IsDistinct}
 use Rattle.std.specs.List.Sorted.{IsStrictlyIncreasing, IsSorted, IsPermutation}
 use Rattle.std.specs.Option.{option_map_or}
@@ -11,12 +11,11 @@ use Rattle.std.proofs.lemmas.List.Sorted.{list_any-IsPermutation}
 use Rattle.std.proofs.lemmas.Map.Keys.{IsDistinct-IsPermutation, IsStrictlyIncreasing-from_sorted}
 use Rattle.std.proofs.lemmas.Map.Views.{list_any-from_Contains, Contains-from_any}
 use Rattle.cq_atom.specs.Atom.{AtomRecord}
-use Rattle.cq_index.specs.declared.key.Key.{Key}
-use Rattle.cq_index.specs.declared.kept.Kept.{Kept}
+use Rattle.cq_index.specs.declared.buckets.Bucket.{Bucket}
 use Rattle.cq_index.specs.Index.{first_constant, is_candidate, is_candidate_at, candidates_of, IsCandidate, IsCandidateAt}
-use Rattle.cq_index.specs.Steps.Keys.{key_of, open_of, group_of}
-use Rattle.cq_index.specs.Steps.Buckets.{Bucket, holds, Joins}
-use Rattle.cq_index.specs.Steps.Kept.{atom_entry, kept_at, atom_at, AreIndexed}
+use Rattle.cq_index.specs.Steps.Keys.{KeyContent, key_of, open_of, group_of}
+use Rattle.cq_index.specs.Steps.Buckets.{holds, Joins}
+use Rattle.cq_index.specs.Steps.Kept.{atom_at, AreIndexed}
 use Rattle.cq_index.proofs.Views.{get-view}
 use Rattle.cq_index.proofs.Candidates.{constant_members, constant_apart, variable_members, candidate_of, of_candidate}
 use Rattle.cq_index.proofs.Listed.{listed, candidates_rising, candidates_members}
@@ -25,21 +24,21 @@ pub if_ok : {T E : Type 0} {P Q : T → Type 0} (r : Result T E) → ((x : T) �
 if_ok (Ok x) f h = f x h
 if_ok (Err e) f h = tt
 
-module _ {A : Type 0} (kept : List (ℕ × Kept A)) (buckets : List (Key A × Bucket)) (m : FinMap nat_cmp AtomRecord) (is : from_entries (map atom_entry kept) ≡ m) (indexed : AreIndexed kept buckets) (given : AtomRecord) where
+module _ {A : Type 0} (kept : List (ℕ × AtomRecord)) (buckets : List (KeyContent × Bucket A)) (m : FinMap nat_cmp AtomRecord) (is : from_entries kept ≡ m) (indexed : AreIndexed kept buckets) (given : AtomRecord) where
   asked : (p : ℕ) → option_map_or (is_candidate given) (atom_at kept p) false ≡ is_candidate_at m given p
   asked p = ap (λ o. option_map_or (is_candidate given) o false) (sym (get-view kept p) ∙ ap (λ n. get n p) is)
 
   pub constant_gathered : is_some (first_constant given) ≡ true → (places : List ℕ) → Joins places (holds buckets (key_of given)) (holds buckets (open_of given)) → (p : ℕ) → list_any (nat_eq p) places ≡ is_candidate_at m given p
-  constant_gathered some places joins p = joins.members p ∙ (λ i. indexed.places (key_of given) p i || indexed.places (open_of given) p i)
-      ∙ constant_members (kept_at kept p) given (indexed.keyed p) some ∙ asked p
+  constant_gathered some places joins p = joins.members p ∙ (λ i. indexed (key_of given) p i || indexed (open_of given) p i)
+      ∙ constant_members (atom_at kept p) given some ∙ asked p
 
   pub constant_distinct : is_some (first_constant given) ≡ true → (places : List ℕ) → Joins places (holds buckets (key_of given)) (holds buckets (open_of given)) → IsDistinct nat_eq places
-  constant_distinct some places joins = joins.distinct (λ p a b. constant_apart (kept_at kept p) given (indexed.keyed p) some
-      (sym (indexed.places (key_of given) p) ∙ a) (sym (indexed.places (open_of given) p) ∙ b))
+  constant_distinct some places joins = joins.distinct (λ p a b. constant_apart (atom_at kept p) given some
+      (sym (indexed (key_of given) p) ∙ a) (sym (indexed (open_of given) p) ∙ b))
 
   pub variable_gathered : is_some (first_constant given) ≡ false → (places : List ℕ) → ((p : ℕ) → list_any (nat_eq p) places ≡ holds buckets (group_of given) p) → (p : ℕ) → list_any (nat_eq p) places ≡ is_candidate_at m given p
-  variable_gathered none places members p = members p ∙ indexed.places (group_of given) p
-      ∙ variable_members (kept_at kept p) given (indexed.keyed p) none ∙ asked p
+  variable_gathered none places members p = members p ∙ indexed (group_of given) p
+      ∙ variable_members (atom_at kept p) given none ∙ asked p
 
 module _ (m : FinMap nat_cmp AtomRecord) (given : AtomRecord) where
   pub listed_sorted : (xs ys : List ℕ) → ((p : ℕ) → list_any (nat_eq p) xs ≡ is_candidate_at m given p) → IsDistinct nat_eq xs → IsPermutation xs ys → IsSorted nat_cmp ys → ys ≡ candidates_of m given

@@ -1,9 +1,9 @@
 -- Two lists of places joined.
-use Rattle.std.proofs.Common.{◌≡◌, ℕ, Bool, true, false, ◌||◌, nat_eq, List, [], ◌∷◌, ◌++◌, refl, sym, ap, ◌∙◌}
+use Rattle.std.proofs.Common.{◌≡◌, ℕ, Bool, true, false, ◌||◌, nat_eq, List, [], ◌∷◌, ◌++◌, append-nil, refl, sym, ap, ◌∙◌}
 use Rattle.std.specs.List.{list_any, AllByRecursion, IsDistinct}
 use Rattle.std.proofs.lemmas.Bool.Decides.{Decides-eqb}
 use Rattle.std.proofs.lemmas.List.Folds.{list_any-append}
-use Rattle.cq_index.specs.Steps.Buckets.{Joins}
+use Rattle.cq_index.specs.Steps.Buckets.{Adds, Joins}
 use Rattle.cq_index.specs.Steps.Same.{by_bool}
 
 left_true : (a b : Bool) → a ≡ true → (a || b) ≡ true
@@ -34,9 +34,21 @@ distinct_joined (x ∷ xs) ys a b apart =
       distinct_joined xs ys a.1 b (λ p i j. apart p (right_true (nat_eq p x) _ i) j),
     )
 
-pub joins : (xs ys zs : List ℕ) (left right : ℕ → Bool) → zs ≡ xs ++ ys → ((p : ℕ) → list_any (nat_eq p) xs ≡ left p) → ((p : ℕ) → list_any (nat_eq p) ys ≡ right p)
-    → IsDistinct nat_eq xs → IsDistinct nat_eq ys → Joins zs left right
-joins xs ys zs left right is in_xs in_ys a b = record {
-  members = λ p. ap (list_any (nat_eq p)) is ∙ list_any-append (nat_eq p) xs ys ∙ (λ i. in_xs p i || in_ys p i);
-  distinct = λ apart. rw is (distinct_joined xs ys a b (λ p i j. apart p (sym (in_xs p) ∙ i) (sym (in_ys p) ∙ j)));
-}
+or_false : (b : Bool) → (b || false) ≡ b
+or_false true = refl
+or_false false = refl
+
+pub joins : (places between : List ℕ) (left right : ℕ → Bool) → Adds [] left between → Adds between right places → Joins places left right
+joins places between left right one other =
+    let is : places ≡ one.added ++ other.added = other.is ∙ ap (λ l. l ++ other.added) one.is in record {
+      members = λ p. ap (list_any (nat_eq p)) is ∙ list_any-append (nat_eq p) one.added other.added ∙ (λ i. one.members p i || other.members p i);
+      distinct = λ apart. rw is (distinct_joined one.added other.added one.distinct other.distinct (λ p i j. apart p (sym (one.members p) ∙ i) (sym (other.members p) ∙ j)));
+    }
+
+pub adds_one : (old new : List ℕ) (place : ℕ) (test : ℕ → Bool) → new ≡ old ++ place ∷ [] → ((p : ℕ) → nat_eq p place ≡ test p) → Adds old test new
+unfolding IsDistinct
+adds_one old new place test is same = record { added = place ∷ []; is = is; members = λ p. or_false (nat_eq p place) ∙ same p; distinct = (tt, tt) }
+
+pub adds_none : (old : List ℕ) (test : ℕ → Bool) → ((p : ℕ) → false ≡ test p) → Adds old test old
+unfolding IsDistinct
+adds_none old test none = record { added = []; is = sym (append-nil old); members = none; distinct = tt }

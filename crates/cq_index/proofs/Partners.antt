@@ -1,7 +1,7 @@
 -- Who unifies, place by place.
 use Rattle.std.proofs.Common.{◌≡◌, ◌↔◌, ℕ, ◌<◌, Bool, true, false, nat_eq, List, [], ◌∷◌, map, length, get_or, Contains, IsTrue, Option, Some, None, is_some, refl, sym, ap, subst, ◌∙◌}
 use Rattle.std.specs.List.{list_any}
-use Rattle.std.specs.Option.{option_map, option_map_or, option_copied}
+use Rattle.std.specs.Option.{option_map_or, option_copied}
 use Rattle.std.proofs.Math.ListN.{length-map}
 use Rattle.std.proofs.lemmas.List.Elements.{Contains-get_or}
 use Rattle.std.specs.Borrow.{Bor}
@@ -12,9 +12,8 @@ use Rattle.cq_atom.specs.Value.{ValueContent}
 use Rattle.cq_atom.specs.Atom.{TermContent, AtomRecord}
 use Rattle.cq_atom.specs.Valuation.{Bindings, term_under, under}
 use Rattle.cq_atom.specs.Unify.{Unify}
-use Rattle.cq_index.specs.declared.kept.Kept.{Kept}
 use Rattle.cq_index.specs.Index.{leading_constant, is_candidate, candidates_of, IsCandidate, IsCandidateAt, IsPartnerAt}
-use Rattle.cq_index.specs.Steps.Kept.{atom_entry, kept_at}
+use Rattle.cq_index.specs.Steps.Kept.{atom_at}
 use Rattle.cq_index.proofs.Views.{get-view}
 use Rattle.cq_index.proofs.Candidates.{of_candidate}
 use Rattle.cq_index.proofs.Listed.{candidates_members}
@@ -23,12 +22,12 @@ pub some_copied : {X : Type 0} (r : Option (Bor X)) (o : Option X) → option_co
 some_copied None o e h = let no : is_some o ≡ false = ap is_some (sym e) in cc
 some_copied (Some x) o e h = refl
 
-pub partner_at : {A : Type 0} (es : List (ℕ × Kept A)) (m : FinMap nat_cmp AtomRecord) (p : ℕ) → from_entries (map atom_entry es) ≡ m → (x : Kept A) (given : AtomRecord) (Says : Type 0)
-    → kept_at es p ≡ Some x → Says ↔ Unify given x.atom → Says ↔ IsPartnerAt m given p
+pub partner_at : (es : List (ℕ × AtomRecord)) (m : FinMap nat_cmp AtomRecord) (p : ℕ) → from_entries es ≡ m → (x : AtomRecord) (given : AtomRecord) (Says : Type 0)
+    → atom_at es p ≡ Some x → Says ↔ Unify given x → Says ↔ IsPartnerAt m given p
 partner_at es m p is x given Says at says =
-    let here : get m p ≡ Some x.atom = sym (sym (get-view es p) ∙ ap (λ n. get n p) is) ∙ ap (option_map (λ y. y.atom)) at in (
-      (λ h. (x.atom, here, says.0 h)),
-      (λ k. let same : x.atom ≡ k.0 = (let e : Some x.atom ≡ Some k.0 = sym here ∙ k.1 in cc) in says.1 (subst (λ a. Unify given a) (sym same) k.2)),
+    let here : get m p ≡ Some x = sym (sym (get-view es p) ∙ ap (λ n. get n p) is) ∙ at in (
+      (λ h. (x, here, says.0 h)),
+      (λ k. let same : x ≡ k.0 = (let e : Some x ≡ Some k.0 = sym here ∙ k.1 in cc) in says.1 (subst (λ a. Unify given a) (sym same) k.2)),
     )
 
 -- ---- atoms that unify are candidates

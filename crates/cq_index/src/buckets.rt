@@ -1,122 +1,173 @@
 //! Buckets of places.
 
-ghost use Rattle.std.specs.Prelude.{◌≡◌, ℕ, false, nat_eq, IsTrue, OnOk, OnErr};
-ghost use Rattle.std.specs.List.{list_any, IsDistinct};
-ghost use Rattle.cq_index.specs.Steps.Buckets.{holds, Puts, Takes, Keeps, IsNowhere, PutsBoth, TakesBoth};
+ghost use Rattle.std.specs.Prelude.{◌≡◌, ◌||◌, ◌&&◌, ℕ, false, not, nat_eq, IsTrue, IsFalse, IfOk, OnOk, OnErr};
+ghost use Rattle.std.specs.HashSet.{contains};
+ghost use Rattle.cq_index.specs.Steps.Keys.{asked_key, key_at, key_of, group_of};
+ghost use Rattle.cq_index.specs.Steps.Buckets.{Adds, IsBut, holds, is_in, Puts, Takes, Keeps, IsNowhere, PutsBoth, TakesBoth};
 
-use crate::key::Key;
+use crate::key::{Asked, Key, Reach, asked_of};
+use cq_atom::Atom;
 use indexmap::{IndexMap, IndexSet};
 use std::alloc::{AllocError, Allocator};
 use std::hash::{BuildHasherDefault, FoldHasher};
 
-/// Places, in no order that anyone asks for.
-pub type Bucket<A> = IndexSet<usize, BuildHasherDefault<FoldHasher>, A>;
+/// A set of places.
+type Places<A> = IndexSet<usize, BuildHasherDefault<FoldHasher>, A>;
+
+/// Places, in no order that anyone asks for. One that is alone takes no memory.
+#[derive(Drop)]
+pub enum Bucket<A: Allocator> {
+    One(usize),
+    Many(Places<A>),
+}
 
 /// Under each key the places of the atoms that belong there. A key without places has no bucket.
 pub type Buckets<A> = IndexMap<Key<A>, Bucket<A>, BuildHasherDefault<FoldHasher>, A>;
 
+/// The set of both places.
+fn both_of<A: Allocator + Copy>(alloc: A, one: usize, other: usize) -> Result<Places<A>, AllocError>
+    ensures { IfOk result (λ places. (p : ℕ) → contains nat_eq places p ≡ (nat_eq other p || nat_eq p one)) }
+{
+    let mut places = IndexSet::new(alloc);
+    places.insert(one)?;
+    places.insert(other)?;
+    Ok(places)
+}
+
+impl<A: Allocator + Copy> Bucket<A> {
+    /// Puts the place in.
+    fn put(&mut self, alloc: A, place: usize) -> Result<(), AllocError>
+        ensures ok { OnOk result ((p : ℕ) → is_in self.new p ≡ (nat_eq place p || is_in self.old p)) }
+        ensures err { OnErr result ((p : ℕ) → is_in self.new p ≡ is_in self.old p) }
+    {
+        match self {
+            Bucket::One(only) => {
+                let both = both_of(alloc, *only, place)?;
+                *self = Bucket::Many(both);
+            }
+            Bucket::Many(places) => {
+                places.insert(place)?;
+            }
+        }
+        Ok(())
+    }
+
+    /// Takes the place out, where others are left. Answers whether none is left.
+    fn take(&mut self, place: usize) -> bool
+        ensures left { IsFalse result → (p : ℕ) → is_in self.new p ≡ (not (nat_eq place p) && is_in self.old p) }
+        ensures none { IsTrue result → (p : ℕ) → (not (nat_eq place p) && is_in self.old p) ≡ false }
+    {
+        match self {
+            Bucket::One(only) => *only == place,
+            Bucket::Many(places) => {
+                places.swap_remove(&place);
+                places.is_empty()
+            }
+        }
+    }
+}
+
 /// Begins a bucket with the place under a key that has none.
 fn begin_bucket<A: Allocator + Copy>(
-    alloc: A,
     buckets: &mut Buckets<A>,
-    key: &Key<A>,
+    atom: &Atom<A>,
+    reach: Reach,
     place: usize,
 ) -> Result<(), AllocError>
-    requires { (p : ℕ) → holds buckets.old.entries key.now p ≡ false }
-    ensures ok { OnOk result (Puts buckets.old.entries key.now place buckets.new.entries) }
+    requires { (p : ℕ) → holds buckets.old.entries (key_at reach atom.now) p ≡ false }
+    ensures ok { OnOk result (Puts buckets.old.entries (key_at reach atom.now) place buckets.new.entries) }
     ensures err { OnErr result (Keeps buckets.old.entries buckets.new.entries) }
 {
-    let mut bucket = IndexSet::new(alloc);
-    bucket.insert(place)?;
-    buckets.insert(key.copy()?, bucket)?;
+    let key = Key::of(atom, reach)?;
+    buckets.insert(key, Bucket::One(place))?;
     Ok(())
 }
 
 /// Puts the place into the bucket of the key.
-pub fn put<A: Allocator + Copy>(
+fn put<A: Allocator + Copy>(
     alloc: A,
     buckets: &mut Buckets<A>,
-    key: &Key<A>,
+    atom: &Atom<A>,
+    reach: Reach,
     place: usize,
 ) -> Result<(), AllocError>
-    ensures ok { OnOk result (Puts buckets.old.entries key.now place buckets.new.entries) }
+    ensures ok { OnOk result (Puts buckets.old.entries (key_at reach atom.now) place buckets.new.entries) }
     ensures err { OnErr result (Keeps buckets.old.entries buckets.new.entries) }
 {
-    match buckets.get_mut(key) {
-        Some(bucket) => {
-            bucket.insert(place)?;
-            Ok(())
-        }
-        None => begin_bucket(alloc, buckets, key, place),
+    match buckets.get_mut(asked_of(atom, reach)) {
+        Some(bucket) => bucket.put(alloc, place),
+        None => begin_bucket(buckets, atom, reach, place),
     }
 }
 
-/// Takes the place out of the bucket of the key. Answers whether that has no place now.
-fn take_place<A: Allocator + Copy>(buckets: &mut Buckets<A>, key: &Key<A>, place: usize) -> bool
-    ensures takes { Takes buckets.old.entries key.now place buckets.new.entries }
-    ensures empty { IsTrue result → (p : ℕ) → holds buckets.new.entries key.now p ≡ false }
+/// Takes the place out of the bucket of the key, where others are left there. Answers whether none is left.
+fn take_place<A: Allocator + Copy>(
+    buckets: &mut Buckets<A>,
+    asked: Asked<'_, A>,
+    place: usize,
+) -> bool
+    ensures rest { IsBut buckets.old.entries (asked_key asked.entry) buckets.new.entries }
+    ensures left { IsFalse result → Takes buckets.old.entries (asked_key asked.entry) place buckets.new.entries }
+    ensures none { IsTrue result → (p : ℕ) → (not (nat_eq place p) && holds buckets.old.entries (asked_key asked.entry) p) ≡ false }
 {
-    match buckets.get_mut(key) {
-        Some(bucket) => {
-            bucket.swap_remove(&place);
-            bucket.is_empty()
-        }
+    match buckets.get_mut(asked) {
+        Some(bucket) => bucket.take(place),
         None => false,
     }
 }
 
 /// Takes the place out of the bucket of the key, and drops a bucket that is left empty. Takes no
 /// memory.
-pub fn take<A: Allocator + Copy>(buckets: &mut Buckets<A>, key: &Key<A>, place: usize)
-    ensures { Takes buckets.old.entries key.now place buckets.new.entries }
+fn take<A: Allocator + Copy>(buckets: &mut Buckets<A>, asked: Asked<'_, A>, place: usize)
+    ensures { Takes buckets.old.entries (asked_key asked.entry) place buckets.new.entries }
 {
-    if take_place(buckets, key, place) {
-        let _empty = buckets.swap_remove(key);
+    if take_place(buckets, asked, place) {
+        let _empty = buckets.swap_remove(asked);
     }
 }
 
-/// Puts the place into the buckets of both keys, or into none.
+/// Puts the place into the buckets of the atom: that of its relation, arity and first argument, and that of its
+/// relation and arity. Or into none.
 pub fn put_both<A: Allocator + Copy>(
     alloc: A,
     buckets: &mut Buckets<A>,
-    own: &Key<A>,
-    group: &Key<A>,
+    atom: &Atom<A>,
     place: usize,
 ) -> Result<(), AllocError>
     requires { IsNowhere buckets.old.entries place }
-    ensures ok { OnOk result (PutsBoth buckets.old.entries own.now group.now place buckets.new.entries) }
+    ensures ok { OnOk result (PutsBoth buckets.old.entries (key_of atom.now) (group_of atom.now) place buckets.new.entries) }
     ensures err { OnErr result (Keeps buckets.old.entries buckets.new.entries) }
 {
-    put(alloc, buckets, own, place)?;
-    match put(alloc, buckets, group, place) {
+    put(alloc, buckets, atom, Reach::Own, place)?;
+    match put(alloc, buckets, atom, Reach::Group, place) {
         Ok(()) => Ok(()),
         Err(refused) => {
-            take(buckets, own, place);
+            take(buckets, asked_of(atom, Reach::Own), place);
             Err(refused)
         }
     }
 }
 
-/// Takes the place out of the buckets of both keys. Takes no memory.
-pub fn take_both<A: Allocator + Copy>(
-    buckets: &mut Buckets<A>,
-    own: &Key<A>,
-    group: &Key<A>,
-    place: usize,
-)
-    ensures { TakesBoth buckets.old.entries own.now group.now place buckets.new.entries }
+/// Takes the place out of the buckets of the atom. Takes no memory.
+pub fn take_both<A: Allocator + Copy>(buckets: &mut Buckets<A>, atom: &Atom<A>, place: usize)
+    ensures { TakesBoth buckets.old.entries (key_of atom.now) (group_of atom.now) place buckets.new.entries }
 {
-    take(buckets, own, place);
-    take(buckets, group, place);
+    take(buckets, asked_of(atom, Reach::Own), place);
+    take(buckets, asked_of(atom, Reach::Group), place);
 }
 
-/// The places in the bucket of the key.
-pub fn places_of<'b, A: Allocator + Copy>(buckets: &'b Buckets<A>, key: &Key<A>) -> &'b [usize]
-    ensures members { (p : ℕ) → list_any (nat_eq p) result.now ≡ holds buckets.now.entries key.now p }
-    ensures distinct { IsDistinct nat_eq result.now }
+/// Adds the places in the bucket of the key.
+pub fn add_places<A: Allocator + Copy>(
+    places: &mut Vec<usize, A>,
+    buckets: &Buckets<A>,
+    asked: Asked<'_, A>,
+) -> Result<(), AllocError>
+    ensures { OnOk result (Adds places.old.items (holds buckets.now.entries (asked_key asked.entry)) places.new.items) }
 {
-    match buckets.get(key) {
-        Some(bucket) => bucket.as_slice(),
-        None => &[],
+    match buckets.get(asked) {
+        Some(Bucket::One(place)) => places.push(*place)?,
+        Some(Bucket::Many(many)) => places.extend_from_slice(many.as_slice())?,
+        None => {}
     }
+    Ok(())
 }

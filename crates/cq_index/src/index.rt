@@ -8,9 +8,9 @@ ghost use Rattle.cq_index.specs.Index.{candidates_of, is_candidate_at, IsCandida
 ghost use Rattle.cq_index.specs.Steps.Keys.{key_of, open_of, group_of};
 ghost use Rattle.cq_index.specs.Steps.Buckets.{holds, Joins};
 
-use crate::buckets::{Buckets, places_of};
+use crate::buckets::{Buckets, add_places};
 use crate::kept::{Places, forget, keep};
-use crate::key::{begins_with_constant, group_of, key_of, open_of};
+use crate::key::{Reach, asked_of, begins_with_constant};
 use cq_atom::{Atom, Meter, unify};
 use indexmap::IndexMap;
 use std::alloc::{AllocError, Allocator, Global};
@@ -25,7 +25,6 @@ pub struct AtomIndex<A: Allocator = Global> {
 }
 
 impl<A: Allocator> Model for AtomIndex<A> {
-    ghost use Rattle.std.specs.Prelude.{map};
     ghost use Rattle.std.specs.Ordering.{nat_cmp};
     ghost use Rattle.std.specs.FinMap.{FinMap, from_entries, code};
     ghost use Rattle.std.specs.Coded.{coded_ℕ, codes};
@@ -35,9 +34,9 @@ impl<A: Allocator> Model for AtomIndex<A> {
 
     ghost coded = { code coded_ℕ (Prim.hlevel codes) };
 
-    ghost use Rattle.cq_index.specs.Steps.Kept.{atom_entry, AreIndexed};
+    ghost use Rattle.cq_index.specs.Steps.Kept.{AreIndexed};
 
-    ghost view = { λ a. from_entries (map atom_entry a.kept.entries) };
+    ghost view = { λ a. from_entries a.kept.entries };
 
     ghost invariant = { λ a. AreIndexed a.kept.entries a.buckets.entries };
 }
@@ -50,10 +49,9 @@ fn beside<A: Allocator + Copy>(
 ) -> Result<Vec<usize, A>, AllocError>
     ensures { IfOk result (λ places. Joins places.items (holds buckets.now.entries (key_of atom.now)) (holds buckets.now.entries (open_of atom.now))) }
 {
-    let own = key_of(alloc, atom)?;
-    let open = open_of(alloc, atom)?;
-    let mut places = Vec::from_slice(alloc, places_of(buckets, &own))?;
-    places.extend_from_slice(places_of(buckets, &open))?;
+    let mut places = Vec::new(alloc);
+    add_places(&mut places, buckets, asked_of(atom, Reach::Own))?;
+    add_places(&mut places, buckets, asked_of(atom, Reach::Open))?;
     Ok(places)
 }
 
@@ -66,8 +64,9 @@ fn grouped<A: Allocator + Copy>(
     ensures members { IfOk result (λ places. (p : ℕ) → list_any (nat_eq p) places.items ≡ holds buckets.now.entries (group_of atom.now) p) }
     ensures distinct { IfOk result (λ places. IsDistinct nat_eq places.items) }
 {
-    let group = group_of(alloc, atom)?;
-    Vec::from_slice(alloc, places_of(buckets, &group))
+    let mut places = Vec::new(alloc);
+    add_places(&mut places, buckets, asked_of(atom, Reach::Group))?;
+    Ok(places)
 }
 
 impl<A: Allocator + Copy> AtomIndex<A> {
@@ -147,7 +146,7 @@ impl<A: Allocator + Copy> AtomIndex<A> {
         ensures ticks { meter.new ≡ min (meter.old + 1) u64.MAX }
     {
         let kept = self.kept.get(&place).unwrap();
-        unify(atom, &kept.atom, meter)
+        unify(atom, kept, meter)
     }
 
     /// The places of the atoms that unify with the given one, rising. The meter counts one test for
@@ -182,8 +181,8 @@ impl<A: Allocator + Copy> AtomIndex<A> {
         ensures { IfOk result (λ copy. copy ≡ self.now) }
     {
         let mut copy = AtomIndex::begin(*self.kept.allocator());
-        for (place, kept) in &self.kept {
-            copy.add(*place, &kept.atom)?;
+        for (place, atom) in &self.kept {
+            copy.add(*place, atom)?;
         }
         Ok(copy)
     }

@@ -7,7 +7,7 @@ use Rattle.cq_atom.specs.declared.value.Content.TheVariants.{Number, Text}
 use Rattle.cq_atom.specs.Value.{ValueContent}
 use Rattle.cq_index.specs.declared.key.First.{First}
 use Rattle.cq_index.specs.declared.key.First.TheVariants.{Any, Variable, Constant}
-use Rattle.cq_index.specs.declared.key.Key.{Key}
+use Rattle.cq_index.specs.Steps.Keys.{KeyContent, asked_key, same_asked}
 use Rattle.cq_index.specs.Index.{same_value}
 use Rattle.cq_index.specs.Steps.Keys.{same_first, same_key}
 
@@ -49,7 +49,7 @@ same_first-refl Any = refl
 same_first-refl Variable = refl
 same_first-refl (Constant v) = same_value-refl v
 
-pub same_key-is : {A : Type 0} (k l : Key A) → same_key k l ≡ true → k ≡ l
+pub same_key-is : (k l : KeyContent) → same_key k l ≡ true → k ≡ l
 same_key-is k l h =
     let rest = and_right (bytes_eq k.relation l.relation) _ h in
     let relation = (bytes_eq-Decides k.relation l.relation).0 (and_left _ _ h) in
@@ -57,7 +57,7 @@ same_key-is k l h =
     let first = same_first-is k.first l.first (and_right (nat_eq k.arity l.arity) _ rest) in
     λ i. record { relation = relation i; arity = arity i; first = first i }
 
-pub same_key-refl : {A : Type 0} (k : Key A) → same_key k k ≡ true
+pub same_key-refl : (k : KeyContent) → same_key k k ≡ true
 same_key-refl k = rw ((bytes_eq-Decides k.relation k.relation).1 refl, (Decides-eqb k.arity k.arity).1 refl, same_first-refl k.first) refl
 
 pub both_true : (a b : Bool) → (a ≡ true → b ≡ true) → (b ≡ true → a ≡ true) → a ≡ b
@@ -65,11 +65,18 @@ both_true true b f g = sym (f refl)
 both_true false true f g = g refl
 both_true false false f g = refl
 
-pub same_key_equiv : {A : Type 0} → IsEquivalence (same_key {A = A})
-same_key_equiv {A} = record {
+pub same_key_equiv : IsEquivalence same_key
+same_key_equiv = record {
   refl = same_key-refl;
   symm = λ k l. both_true (same_key k l) (same_key l k)
-      (λ t. ap (λ (m : Key A). same_key l m) (same_key-is k l t) ∙ same_key-refl l)
-      (λ t. ap (λ (m : Key A). same_key k m) (same_key-is l k t) ∙ same_key-refl k);
-  congr = λ k l m t. ap (λ (x : Key A). same_key x m) (same_key-is k l t);
+      (λ t. ap (λ (m : KeyContent). same_key l m) (same_key-is k l t) ∙ same_key-refl l)
+      (λ t. ap (λ (m : KeyContent). same_key k m) (same_key-is l k t) ∙ same_key-refl k);
+  congr = λ k l m t. ap (λ (x : KeyContent). same_key x m) (same_key-is k l t);
+}
+
+pub same_asked_equiv : {A : Type 0} → IsEquivalence (same_asked {A = A})
+same_asked_equiv {A} = record {
+  refl = λ q. same_key-refl (asked_key q);
+  symm = λ q r. same_key_equiv.symm (asked_key q) (asked_key r);
+  congr = λ q r s. same_key_equiv.congr (asked_key q) (asked_key r) (asked_key s);
 }

@@ -55,12 +55,12 @@ impl<const PLACE: usize> Tried for Trying<PLACE> {
 
 #[test]
 fn refused_growth_in_add(rt: HostRuntime) {
-    assert!(rt; matches!(refusals::<Trying<ADD>>(rt.alloc()), Ok(3..)));
+    assert!(rt; matches!(refusals::<Trying<ADD>>(rt.alloc()), Ok(2..)));
 }
 
 #[test]
 fn refused_growth_in_candidates(rt: HostRuntime) {
-    assert!(rt; matches!(refusals::<Trying<CANDIDATES>>(rt.alloc()), Ok(2..)));
+    assert!(rt; matches!(refusals::<Trying<CANDIDATES>>(rt.alloc()), Ok(1..)));
 }
 
 #[test]

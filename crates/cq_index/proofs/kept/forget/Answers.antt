@@ -1,11 +1,8 @@
-use Rattle.std.proofs.Common.{None, sym, ◌∙◌}
-use Rattle.cq_index.proofs.Indexed.{indexed_forgotten, sets_of}
+use Rattle.std.proofs.Common.{sym, ◌∙◌}
+use Rattle.cq_index.proofs.Indexed.{indexed_forgotten}
 use Rattle.cq_index.proofs.kept.forget.Goals as goal
 
 pub returns-clause-indexed : goal.returns-clause-indexed
 returns-clause-indexed g c =
-    indexed_forgotten c.args.places.now.entries c.swap_remove.new.self.entries c.args.buckets.now.entries c.take_both.new.buckets.entries c.args.place c.unwrap-kept.result
-    c.requires.indexed (sym c.swap_remove.ensures.value ∙ c.unwrap-kept.ensures) c.swap_remove.ensures.updates.0 c.take_both.ensures
-
-pub returns-clause-out : goal.returns-clause-out
-returns-clause-out g c = sets_of c.args.places.now.entries c.swap_remove.new.self.entries c.args.place None c.swap_remove.ensures.updates.0
+    indexed_forgotten c.args.places.now.entries c.swap_remove.new.self.entries c.args.buckets.now.entries c.take_both.new.buckets.entries c.args.place c.unwrap-atom.result
+    c.requires.indexed (sym c.swap_remove.ensures.value ∙ c.unwrap-atom.ensures) c.swap_remove.ensures.updates.0 c.take_both.ensures

@@ -1,4 +1,4 @@
-use Rattle.cq_index.proofs.Indexed.{on_ok}
+use Rattle.cq_index.proofs.Changes.{on_ok}
 use Rattle.cq_index.proofs.Views.{absent_at, view_inserted}
 use Rattle.cq_index.proofs.index.AtomIndex.add.Goals as goal
 

@@ -3,7 +3,7 @@ use Rattle.std.specs.List.{IsDistinct}
 use Rattle.std.specs.Map.{keys_of}
 use Rattle.std.specs.Map.Iter.{deref_pair}
 use Rattle.std.proofs.lemmas.Map.Iter.{rest_more}
-use Rattle.cq_index.specs.declared.kept.Kept.{Kept}
+use Rattle.cq_atom.specs.Atom.{AtomRecord}
 use Rattle.cq_index.proofs.Copied.{copied_absent, copied_more}
 use Rattle.cq_index.proofs.index.AtomIndex.copy.Goals as goal
 
@@ -14,19 +14,19 @@ pub add-requires : goal.add-requires
 add-requires g c =
     let whole = c.into_iter-place-iterator.result in
     let gives = c.into_iter-place-iterator.ensures.into_iter_gives in
-    let distinct : IsDistinct nat_eq (keys_of whole) = subst (λ (l : List (ℕ × Kept g.row.A.Denot)). IsDistinct nat_eq (keys_of l)) (sym gives.0) gives.4 in
+    let distinct : IsDistinct nat_eq (keys_of whole) = subst (λ (l : List (ℕ × AtomRecord)). IsDistinct nat_eq (keys_of l)) (sym gives.0) gives.4 in
     let now = c.loop-place.invariant in
-    let more = rest_more deref_pair c.loop-place.place-iterator c.next.new.self c.next.result (c.in-Some.place, c.in-Some.kept) c.in-Some.is c.next.ensures.steps in
-    copied_absent c.loop-place.copy now.done (c.in-Some.place.now, c.in-Some.kept.now) c.next.new.self whole now.made (now.split ∙ ap (λ l. now.done ++ l) more) distinct
+    let more = rest_more deref_pair c.loop-place.place-iterator c.next.new.self c.next.result (c.in-Some.place, c.in-Some.atom) c.in-Some.is c.next.ensures.steps in
+    copied_absent c.loop-place.copy now.done (c.in-Some.place.now, c.in-Some.atom.now) c.next.new.self whole now.made (now.split ∙ ap (λ l. now.done ++ l) more) distinct
 
 pub loop-place-preserved : goal.loop-place-preserved
 loop-place-preserved g c =
     let whole = c.into_iter-place-iterator.result in
     let gives = c.into_iter-place-iterator.ensures.into_iter_gives in
-    let distinct : IsDistinct nat_eq (keys_of whole) = subst (λ (l : List (ℕ × Kept g.row.A.Denot)). IsDistinct nat_eq (keys_of l)) (sym gives.0) gives.4 in
+    let distinct : IsDistinct nat_eq (keys_of whole) = subst (λ (l : List (ℕ × AtomRecord)). IsDistinct nat_eq (keys_of l)) (sym gives.0) gives.4 in
     let now = c.loop-place.invariant in
-    let item : ℕ × Kept g.row.A.Denot = (c.in-Some.place.now, c.in-Some.kept.now) in
-    let more = rest_more deref_pair c.loop-place.place-iterator c.next.new.self c.next.result (c.in-Some.place, c.in-Some.kept) c.in-Some.is c.next.ensures.steps in
+    let item : ℕ × AtomRecord = (c.in-Some.place.now, c.in-Some.atom.now) in
+    let more = rest_more deref_pair c.loop-place.place-iterator c.next.new.self c.next.result (c.in-Some.place, c.in-Some.atom) c.in-Some.is c.next.ensures.steps in
     let split : whole ≡ now.done ++ item ∷ c.next.new.self = now.split ∙ ap (λ l. now.done ++ l) more in
     record {
       done = now.done ++ item ∷ [];

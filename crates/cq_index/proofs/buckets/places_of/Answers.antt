@@ -1,6 +1,0 @@
-use Rattle.std.specs.List.{IsDistinct}
-use Rattle.cq_index.proofs.buckets.places_of.Goals as goal
-
-pub returns-in-None-clause-distinct : goal.returns-in-None-clause-distinct
-unfolding IsDistinct
-returns-in-None-clause-distinct g c = tt
