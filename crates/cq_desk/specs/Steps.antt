@@ -1,2 +1,3 @@
 -- What the code is stated with beside the definitions; no part of what a reader must believe.
 pub mod Laws
+pub mod Turns

@@ -7,12 +7,11 @@ ghost use Rattle.cq_desk.specs.declared.event.Event.TheVariants.{Enter, Publish,
 ghost use Rattle.cq_atom.specs.Answer.{Answers};
 ghost use Rattle.cq_desk.specs.Standing.{IsTold, MayWant, StopsAt, sessions_fault, stepped, played};
 
-use crate::desk::Desk;
 use crate::event::{Answer, Event, StepFault};
 use crate::journal::Entry;
 use crate::live::{Live, NoMemory};
-use crate::plain::Plain;
 use crate::refused::Refused;
+use crate::turns::Turns;
 use std::alloc::{AllocError, Allocator, Global};
 use std::marker::Model;
 use thiserror::Error;
@@ -34,26 +33,24 @@ pub enum FloorFault {
     NoMemory,
 }
 
-/// A desk, and for each session how many entries it has seen or heard of. Contracts see the opening
+/// A journal with its two states, and for each session how many entries it has seen or heard of. Contracts see the opening
 /// content, the journal's limit, and the machine: journal, published count and seen counts. That no
 /// session has seen more than is published stands in this type.
 #[derive(Drop)]
 pub struct Floor<L: Live, A: Allocator + Copy = Global> {
-    desk: Desk<L, Plain<L, A>, A>,
+    turns: Turns<L, A>,
     seen: Vec<u64, A>,
 }
 
 impl<L: Live, A: Allocator + Copy> Model for Floor<L, A> {
-    ghost use Rattle.std.specs.Prelude.{length};
-    ghost use Rattle.cq_desk.specs.History.{edits_of};
     ghost use Rattle.cq_desk.specs.Plain.{AreWithin};
     ghost use Rattle.cq_desk.specs.Standing.{StandingRecord};
 
     ghost Value = { StandingRecord L.Content L.Edit };
 
-    ghost view = { λ f. record { opening = f.desk.publisher.opening; limit = f.desk.limit; machine = record { journal = f.desk.journal; published = length (edits_of f.desk.publisher.history); seen = f.seen.items } } };
+    ghost view = { λ f. record { opening = f.turns.opening; limit = f.turns.limit; machine = record { journal = f.turns.journal; published = f.turns.published; seen = f.seen.items } } };
 
-    ghost invariant = { λ f. AreWithin (length (edits_of f.desk.publisher.history)) f.seen.items };
+    ghost invariant = { λ f. AreWithin f.turns.published f.seen.items };
 }
 
 impl From<NoMemory> for FloorFault {
@@ -100,24 +97,22 @@ impl<L: Live, A: Allocator + Copy> Floor<L, A> {
             return Err(FloorFault::Sessions);
         }
         let seen = unseen(alloc, sessions)?;
-        let working = state.copy()?;
-        let publisher = Plain::begin(alloc, state)?;
-        let desk = Desk::begin(alloc, working, publisher, journal);
-        Ok(Floor { desk, seen })
+        let turns = Turns::begin(alloc, state, journal)?;
+        Ok(Floor { turns, seen })
     }
 
     /// The published state.
     pub fn board(&self) -> &L
         ensures { L.content result.now ≡ published_content L.after self.now.opening self.now.machine }
     {
-        self.desk.publisher().published()
+        self.turns.shown()
     }
 
     /// The working state, which is what the whole journal leaves.
     pub fn working(&self) -> &L
         ensures { L.content result.now ≡ working_content L.after self.now.opening self.now.machine }
     {
-        self.desk.working()
+        self.turns.working()
     }
 
     /// How many entries the session has seen or heard of. `None` where there is no session of that
@@ -133,14 +128,14 @@ impl<L: Live, A: Allocator + Copy> Floor<L, A> {
     pub fn journal(&self) -> &[Entry<L::Edit>]
         ensures { result.now ≡ self.now.machine.journal }
     {
-        self.desk.journal()
+        self.turns.journal()
     }
 
     /// How many entries are published.
     pub fn published_count(&self) -> u64
         ensures { result ≡ self.now.machine.published }
     {
-        self.desk.published_count()
+        self.turns.published()
     }
 
     fn enter(&mut self, author: usize, edit: L::Edit) -> Told<L::Why>
@@ -151,7 +146,7 @@ impl<L: Live, A: Allocator + Copy> Floor<L, A> {
         if author >= self.seen.len() {
             return Err(StepFault::NoSession);
         }
-        match self.desk.enter(author, edit) {
+        match self.turns.enter(author, edit) {
             Ok(number) => Ok(Answer::Entered(number)),
             Err(Refused::JournalFull) => Err(StepFault::JournalFull),
             Err(Refused::Not(why)) => Err(StepFault::Not(why)),
@@ -164,11 +159,8 @@ impl<L: Live, A: Allocator + Copy> Floor<L, A> {
         ensures ok { OnOk result (self.new ≡ record self.old { machine = moved self.old.machine Publish }) }
         ensures err { OnErr result (self.new ≡ self.old) }
     {
-        let _ = self.desk.publisher();
-        match self.desk.publish(&()) {
-            Ok(count) => Ok(Answer::Published(count)),
-            Err(NoMemory) => Err(StepFault::NoMemory),
-        }
+        let _known = self.turns.published();
+        Ok(Answer::Published(self.turns.publish()))
     }
 
     /// A look of the session: how many entries are published, which is never below what the session
@@ -184,7 +176,7 @@ impl<L: Live, A: Allocator + Copy> Floor<L, A> {
         if session >= self.seen.len() {
             return None;
         }
-        let count = self.desk.published_count();
+        let count = self.turns.published();
         self.seen[session] = count;
         Some(count)
     }
@@ -197,7 +189,7 @@ impl<L: Live, A: Allocator + Copy> Floor<L, A> {
         if session >= self.seen.len() {
             return Err(StepFault::NoSession);
         }
-        if count > self.desk.published_count() {
+        if count > self.turns.published() {
             return Err(StepFault::Ahead);
         }
         let heard = self.seen[session].max(count);

@@ -7,7 +7,7 @@
 //! leaves over the publisher's opening content, and that the published entries, then those pending or
 //! not yet handed over, are the journal's, authors included (`specs/Desk`).
 //!
-//! A [`Floor`] is a desk over a `Plain` that several sessions look at. It is proved against the floor
+//! A [`Floor`] is a journal with two states that take turns, and several sessions look at it. It is proved against the floor
 //! machine (`specs/Machine`), which keeps a journal, a published count and what each session has seen,
 //! and no state: `Floor::play` says that after any list of events the answers and what is kept are
 //! those of the machine, `working` and `board` that the states have what the whole journal and its
@@ -36,6 +36,7 @@ mod plain;
 mod publisher;
 mod refused;
 mod reply;
+mod turns;
 
 pub use desk::Desk;
 pub use event::{Answer, Event, StepFault};
