@@ -3,21 +3,39 @@
 use crate::fault::Fault;
 use cq_atom::Name;
 use cq_board::{Board, Edit, EditKind, Why};
-use cq_desk::Reply;
+use cq_desk::{Live, Reply};
 use cq_room::{Front, Pair, Receipt, Room, RoomName, Session};
 use cq_text::{Form, read_ground_atom, read_query};
 use std::alloc::Global;
 use std::sync::Wait;
 use std::thread::{Threads, join};
 
-/// A room over a board.
-pub type BoardRoom<N, R> = Room<Board, N, Pair<Board, N, R>>;
+/// What is asked of the state that the clients share. It stands as a parameter, here and below: what is known of a session or
+/// a room over a board itself would be too much for the prover.
+pub trait Shared: Live<Edit = Edit, Why = Why> {
+    /// Whether the query of that name is matched, in a word.
+    fn standing(&self, name: &Name) -> &'static str;
 
-/// One client's seat in such a room.
-pub type Seat<N> = Session<Board, N>;
+    /// How many groundings the query of that name has.
+    fn groundings(&self, name: &Name) -> usize;
+}
 
-/// That so much of a board is published.
-pub type Told<N> = Front<Board, N>;
+impl Shared for Board {
+    fn standing(&self, name: &Name) -> &'static str {
+        match self.is_matched(name) {
+            Some(true) => "matched",
+            Some(false) => "waiting",
+            None => "absent",
+        }
+    }
+
+    fn groundings(&self, name: &Name) -> usize {
+        Board::groundings(self, name).map_or(0, |found| found.count())
+    }
+}
+
+/// A room over such a state.
+pub type SharedRoom<L, N, R> = Room<L, N, Pair<L, N, R>>;
 
 /// The insertion of the row that the text stands for.
 pub fn insertion(alloc: Global, row: &str) -> Result<Edit, Fault> {
@@ -32,16 +50,18 @@ fn posting(alloc: Global, name: &str, query: &str) -> Result<Edit, Fault> {
     Ok(EditKind::Post { name, query })
 }
 
-fn is_entered(reply: &Reply<Why>) -> bool {
+fn is_entered<W>(reply: &Reply<W>) -> bool {
     matches!(reply, Reply::Entered(_))
 }
 
-fn are_entered(replies: &[Reply<Why>]) -> bool {
+fn are_entered<W>(replies: &[Reply<W>]) -> bool {
     replies.iter().all(is_entered)
 }
 
 /// The front of a submit of which nothing was refused.
-fn front_of<N: RoomName<Board>>(receipt: Receipt<Board, N>) -> Result<Told<N>, Fault> {
+fn front_of<L: Live, N: RoomName<L::Content>>(
+    receipt: Receipt<L, N>,
+) -> Result<Front<L, N>, Fault> {
     let Receipt { submitted, front } = receipt;
     let Some(front) = front else {
         return Err(Fault::Unpublished);
@@ -54,24 +74,24 @@ fn front_of<N: RoomName<Board>>(receipt: Receipt<Board, N>) -> Result<Told<N>, F
 }
 
 /// Submits the edits, and gives the front to hand on to others.
-pub fn submit<N: RoomName<Board>, R: Wait + Drop>(
+pub fn submit<L: Live, N: RoomName<L::Content>, R: Wait + Drop>(
     rt: &R,
-    room: &BoardRoom<N, R>,
-    session: &mut Seat<N>,
-    asked: Vec<Edit>,
-) -> Result<Told<N>, Fault> {
+    room: &SharedRoom<L, N, R>,
+    session: &mut Session<L, N>,
+    asked: Vec<L::Edit>,
+) -> Result<Front<L, N>, Fault> {
     front_of(session.submit(rt, room, asked)?)
 }
 
 /// Posts the query that the text stands for.
-fn post<N: RoomName<Board>, R: Wait + Drop>(
+fn post<L: Shared, N: RoomName<L::Content>, R: Wait + Drop>(
     rt: &R,
     alloc: Global,
-    room: &BoardRoom<N, R>,
-    session: &mut Seat<N>,
+    room: &SharedRoom<L, N, R>,
+    session: &mut Session<L, N>,
     name: &str,
     query: &str,
-) -> Result<Told<N>, Fault> {
+) -> Result<Front<L, N>, Fault> {
     let mut asked = Vec::new(alloc);
     asked.push(posting(alloc, name, query)?)?;
     submit(rt, room, session, asked)
@@ -79,18 +99,23 @@ fn post<N: RoomName<Board>, R: Wait + Drop>(
 
 /// A client that posts one query. It owns its session and borrows the room, so it can run in a thread.
 #[derive(Drop)]
-pub struct Client<'a, N: RoomName<Board>, R: Wait + Drop> {
+pub struct Client<'a, L: Shared, N: RoomName<L::Content>, R: Wait + Drop> {
     pub rt: &'a R,
     pub alloc: Global,
-    pub room: &'a BoardRoom<N, R>,
-    pub session: Seat<N>,
+    pub room: &'a SharedRoom<L, N, R>,
+    pub session: Session<L, N>,
     pub name: &'static str,
     pub query: &'static str,
 }
 
-impl<'a, N: RoomName<Board> + Send + Sync, R: Wait + Drop + Send + Sync> Client<'a, N, R> {
+impl<
+    'a,
+    L: Shared + Send + Sync,
+    N: RoomName<L::Content> + Send + Sync,
+    R: Wait + Drop + Send + Sync,
+> Client<'a, L, N, R> {
     /// Posts the query, and gives the front.
-    fn run(self) -> Result<Told<N>, Fault> {
+    fn run(self) -> Result<Front<L, N>, Fault> {
         let Client {
             rt,
             alloc,
@@ -104,11 +129,16 @@ impl<'a, N: RoomName<Board> + Send + Sync, R: Wait + Drop + Send + Sync> Client<
 }
 
 /// Runs both clients, each in a thread, and gives the fronts that the joins hand back.
-pub fn run_both<N: RoomName<Board> + Send + Sync, R: Wait + Drop + Send + Sync, T: Threads>(
+pub fn run_both<
+    L: Shared + Send + Sync,
+    N: RoomName<L::Content> + Send + Sync,
+    R: Wait + Drop + Send + Sync,
+    T: Threads,
+>(
     threads: &T,
-    one: Client<'_, N, R>,
-    other: Client<'_, N, R>,
-) -> Result<(Told<N>, Told<N>), Fault> {
+    one: Client<'_, L, N, R>,
+    other: Client<'_, L, N, R>,
+) -> Result<(Front<L, N>, Front<L, N>), Fault> {
     let (one, other) = join(threads, || one.run(), || other.run());
     Ok((one?, other?))
 }

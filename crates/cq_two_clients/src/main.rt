@@ -13,12 +13,12 @@ ghost use Rattle.std.specs.Prelude.{◌≡◌, ◌∷◌, []};
 mod client;
 mod fault;
 
-use crate::client::{BoardRoom, Client, Seat, insertion, run_both, submit};
+use crate::client::{Client, Shared, SharedRoom, insertion, run_both, submit};
 use crate::fault::Fault;
 use cq_atom::Name;
 use cq_board::{Board, Edit, Limits};
 use cq_rel::Catalog;
-use cq_room::{Parts, Room, RoomName};
+use cq_room::{Parts, Room, RoomName, Session};
 use std::alloc::Global;
 use std::marker::Brand;
 use std::process::ExitCode;
@@ -55,14 +55,19 @@ fn flights(alloc: Global) -> Result<Vec<Edit>, Fault> {
 }
 
 /// Runs Kramer and Jerry in threads, and lets the airline hear what each of them was told.
-fn post_both<N: RoomName<Board> + Send + Sync, R: Wait + Drop + Send + Sync, T: Threads>(
+fn post_both<
+    L: Shared + Send + Sync,
+    N: RoomName<L::Content> + Send + Sync,
+    R: Wait + Drop + Send + Sync,
+    T: Threads,
+>(
     threads: &T,
     rt: &R,
     alloc: Global,
-    room: &BoardRoom<N, R>,
-    airline: &mut Seat<N>,
-    kramer: Seat<N>,
-    jerry: Seat<N>,
+    room: &SharedRoom<L, N, R>,
+    airline: &mut Session<L, N>,
+    kramer: Session<L, N>,
+    jerry: Session<L, N>,
 ) -> Result<(), Fault> {
     let kramer = Client {
         rt,
@@ -87,14 +92,15 @@ fn post_both<N: RoomName<Board> + Send + Sync, R: Wait + Drop + Send + Sync, T: 
 }
 
 /// Writes whether the query of that name is matched, and how many groundings it has.
-fn show_query<T: Print>(out: &T, alloc: Global, board: &Board, name: &str) -> Result<(), Fault> {
+fn show_query<L: Shared, T: Print>(
+    out: &T,
+    alloc: Global,
+    state: &L,
+    name: &str,
+) -> Result<(), Fault> {
     let named = Name::new(alloc, name)?;
-    let standing = match board.is_matched(&named) {
-        Some(true) => "matched",
-        Some(false) => "waiting",
-        None => "absent",
-    };
-    let groundings = board.groundings(&named).map_or(0, |found| found.count());
+    let standing = state.standing(&named);
+    let groundings = state.groundings(&named);
     match println!(out; "{name} {standing} groundings {groundings}") {
         Ok(()) => Ok(()),
         Err(_) => Err(Fault::Write),
@@ -102,19 +108,19 @@ fn show_query<T: Print>(out: &T, alloc: Global, board: &Board, name: &str) -> Re
 }
 
 /// Writes how many edits a look shows, and the two queries, in an order that no thread decides.
-fn show<T: Print>(out: &T, alloc: Global, count: u64, board: &Board) -> Result<(), Fault> {
+fn show<L: Shared, T: Print>(out: &T, alloc: Global, count: u64, state: &L) -> Result<(), Fault> {
     if println!(out; "edits {count}").is_err() {
         return Err(Fault::Write);
     }
-    show_query(out, alloc, board, "jerry")?;
-    show_query(out, alloc, board, "kramer")
+    show_query(out, alloc, state, "jerry")?;
+    show_query(out, alloc, state, "kramer")
 }
 
 /// Looks, and writes what there is to see.
-fn look<N: RoomName<Board>, T: Print>(
+fn look<L: Shared, N: RoomName<L::Content>, T: Print>(
     out: &T,
     alloc: Global,
-    session: Seat<N>,
+    session: Session<L, N>,
 ) -> Result<(), Fault> {
     match session.watch() {
         Ok(look) => show(out, alloc, look.count(), look.state()),
@@ -123,7 +129,7 @@ fn look<N: RoomName<Board>, T: Print>(
 }
 
 /// The seats of the airline, Kramer and Jerry, which are those with the numbers 0, 1 and 2.
-fn seats<N: RoomName<Board>>(mut sessions: Vec<Seat<N>>) -> Option<(Seat<N>, Seat<N>, Seat<N>)> {
+fn seats<S: Drop>(mut sessions: Vec<S>) -> Option<(S, S, S)> {
     let jerry = sessions.pop()?;
     let kramer = sessions.pop()?;
     let airline = sessions.pop()?;
@@ -131,12 +137,17 @@ fn seats<N: RoomName<Board>>(mut sessions: Vec<Seat<N>>) -> Option<(Seat<N>, Sea
 }
 
 /// What happens in the open room.
-fn meet<N: RoomName<Board> + Send + Sync, R: Wait + Drop + Send + Sync, T: Threads + Print>(
+fn meet<
+    L: Shared + Send + Sync,
+    N: RoomName<L::Content> + Send + Sync,
+    R: Wait + Drop + Send + Sync,
+    T: Threads + Print,
+>(
     host: &T,
     rt: &R,
     alloc: Global,
-    room: &BoardRoom<N, R>,
-    sessions: Vec<Seat<N>>,
+    room: &SharedRoom<L, N, R>,
+    sessions: Vec<Session<L, N>>,
 ) -> Result<(), Fault> {
     let Some((mut airline, kramer, jerry)) = seats(sessions) else {
         return Err(Fault::Gone);
@@ -147,12 +158,12 @@ fn meet<N: RoomName<Board> + Send + Sync, R: Wait + Drop + Send + Sync, T: Threa
 }
 
 /// Opens the room under the name.
-fn open<N: RoomName<Board> + Send + Sync, R: Wait + Drop + Send + Sync, T: Threads + Print>(
-    host: &T,
-    rt: &R,
-    alloc: Global,
-    parts: Parts<Board, R>,
-) -> Result<(), Fault>
+fn open<
+    L: Shared + Send + Sync,
+    N: RoomName<L::Content> + Send + Sync,
+    R: Wait + Drop + Send + Sync,
+    T: Threads + Print,
+>(host: &T, rt: &R, alloc: Global, parts: Parts<L, R>) -> Result<(), Fault>
     requires book { parts.book ≡ N.book }
     requires opening { N.opening ≡ parts.opening ∷ [] }
     requires limit { N.limit ≡ parts.limit }
@@ -175,7 +186,10 @@ fn status<T: Eprint>(errors: &T, ended: Result<(), Fault>) -> ExitCode {
 fn main(rt: HostRuntime) -> ExitCode {
     let handle = &rt;
     match parts(handle, rt.alloc()) {
-        Ok(parts) => status(&rt, open::<Brand, _, _>(&rt, &handle, rt.alloc(), parts)),
+        Ok(parts) => status(
+            &rt,
+            open::<Board, Brand, _, _>(&rt, &handle, rt.alloc(), parts),
+        ),
         Err(fault) => status(&rt, Err(fault)),
     }
 }
