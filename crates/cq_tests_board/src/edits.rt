@@ -1,42 +1,40 @@
 //! Edits: the first reason of each refusal, and copies.
 
-use crate::samples::{JERRY, KRAMER, Setup, TRAVEL, WORKED, admit, admit_all, made, shows};
+use crate::page::Page;
+use crate::rows::put_answer;
+use crate::samples::{KRAMER_AND_JERRY, Setup, TRAVEL, WORKED, admit, admit_all, made, shows};
 use crate::shown::page_of;
-use cq_atom::Part;
-use cq_board::{Board, Why, pools_stay_good, unifies_is_unify};
+use cq_board::{Board, pools_stay_good, unifies_is_unify};
 use std::alloc::{AllocError, Global};
 
 /// The travel setup with a query `a`.
 const OF_A: Setup = Setup {
-    rows: &TRAVEL,
-    others: &["post a {} R(1) <-"],
+    first: TRAVEL,
+    then: "post a {} R(1) <-",
 };
 
-/// Edits that are refused behind the setup, one for each reason but a full pool.
-const REFUSED: [(&str, Why); 7] = [
-    ("post a {} R(2) <-", Why::NameTaken),
-    (
-        "post c {R(1), Airlines(1, 2)} Flights(1, 2) <- Trains(1)",
-        Why::NotAnswer {
-            part: Part::Posts,
-            place: 1,
-        },
-    ),
-    (
-        "post d {} R(x) <- Flights(x, 1), Flights(x)",
-        Why::Arity { place: 1 },
-    ),
-    ("withdraw b", Why::NoSuchName),
-    ("insert Trains(1, 2)", Why::UnknownRelation { place: 0 }),
-    ("insert Flights(122, Paris)", Why::RowPresent),
-    ("delete Flights(122, Rome)", Why::RowAbsent),
-];
+/// Edits that are refused behind the setup, one for each reason but a full pool, each with its reason behind ` = `.
+const REFUSED: &str = "post a {} R(2) <- = NameTaken
+post c {R(1), Airlines(1, 2)} Flights(1, 2) <- Trains(1) = NotAnswer { part: Posts, place: 1 }
+post d {} R(x) <- Flights(x, 1), Flights(x) = Arity { place: 1 }
+withdraw b = NoSuchName
+insert Trains(1, 2) = UnknownRelation { place: 0 }
+insert Flights(122, Paris) = RowPresent
+delete Flights(122, Rome) = RowAbsent";
+
+/// Whether the edit of the row is answered so.
+fn is_refused(alloc: Global, board: &mut Board, row: &str) -> Result<bool, AllocError> {
+    let (line, wanted) = row.split_once(" = ").unwrap_or((row, ""));
+    let mut page = Page::new();
+    put_answer(admit(alloc, board, line)?, &mut page);
+    Ok(page.is(wanted))
+}
 
 /// The first of the edits that is not refused so, or after which the board shows something else.
 fn other_refused(alloc: Global, board: &mut Board) -> Result<Option<&'static str>, AllocError> {
-    for (line, why) in REFUSED {
-        if admit(alloc, board, line)? != Some(why) || !shows(alloc, board, OF_A)? {
-            return Ok(Some(line));
+    for row in REFUSED.lines() {
+        if !is_refused(alloc, board, row)? || !shows(alloc, board, OF_A)? {
+            return Ok(Some(row));
         }
     }
     Ok(None)
@@ -66,51 +64,55 @@ fn every_refusal(rt: HostRuntime) {
 #[derive(Clone, Copy)]
 struct Stage {
     name: &'static str,
-    edits_of_board: &'static [&'static str],
-    edits_of_copy: &'static [&'static str],
-    board: &'static [&'static str],
-    copy: &'static [&'static str],
+    edits_of_board: &'static str,
+    edits_of_copy: &'static str,
+    board: &'static str,
+    copy: &'static str,
     /// Whether board and copy show the same.
     same: bool,
 }
 
-const NEWMAN: &str = "post newman {} N(z) <- Flights(z, Rome)";
+const NEWMAN_TOO: &str = "insert Flights(140, Rome)
+post kramer {R(Jerry, x)} R(Kramer, x) <- Flights(x, Paris)
+post jerry {R(Kramer, y)} R(Jerry, y) <- Flights(y, Paris), Airlines(y, United)
+post newman {} N(z) <- Flights(z, Rome)";
+
+const KRAMER_ALONE: &str = "delete Flights(134, Paris)
+post kramer {R(Jerry, x)} R(Kramer, x) <- Flights(x, Paris)";
 
 const STAGES: [Stage; 3] = [
     Stage {
         name: "the copy is made",
-        edits_of_board: &[],
-        edits_of_copy: &[],
-        board: &[KRAMER, JERRY],
-        copy: &[KRAMER, JERRY],
+        edits_of_board: "",
+        edits_of_copy: "",
+        board: KRAMER_AND_JERRY,
+        copy: KRAMER_AND_JERRY,
         same: true,
     },
     Stage {
         name: "a query and a row come to the board",
-        edits_of_board: &[NEWMAN, "insert Flights(140, Rome)"],
-        edits_of_copy: &[],
-        board: &["insert Flights(140, Rome)", KRAMER, JERRY, NEWMAN],
-        copy: &[KRAMER, JERRY],
+        edits_of_board: "post newman {} N(z) <- Flights(z, Rome)
+insert Flights(140, Rome)",
+        edits_of_copy: "",
+        board: NEWMAN_TOO,
+        copy: KRAMER_AND_JERRY,
         same: false,
     },
     Stage {
         name: "a query and a row go from the copy",
-        edits_of_board: &[],
-        edits_of_copy: &["withdraw jerry", "delete Flights(134, Paris)"],
-        board: &["insert Flights(140, Rome)", KRAMER, JERRY, NEWMAN],
-        copy: &["delete Flights(134, Paris)", KRAMER],
+        edits_of_board: "",
+        edits_of_copy: "withdraw jerry
+delete Flights(134, Paris)",
+        board: NEWMAN_TOO,
+        copy: KRAMER_ALONE,
         same: false,
     },
 ];
 
 /// Whether the board shows what a travel board with these lines does.
-fn is_travel(
-    alloc: Global,
-    board: &Board,
-    others: &'static [&'static str],
-) -> Result<bool, AllocError> {
-    let rows = &TRAVEL;
-    shows(alloc, board, Setup { rows, others })
+fn is_travel(alloc: Global, board: &Board, then: &'static str) -> Result<bool, AllocError> {
+    let first = TRAVEL;
+    shows(alloc, board, Setup { first, then })
 }
 
 /// Whether board and copy show behind the edits what they must.

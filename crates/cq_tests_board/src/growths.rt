@@ -1,99 +1,122 @@
 //! Each growth of a call refused in turn, and calls that ask for none.
 
-use crate::able::{P, Q};
+use crate::able::P_AND_Q;
 use crate::page::Page;
-use crate::samples::{JERRY, KRAMER, LIMITS, Setup, TRAVEL, WORKED, catalog, edit, made, shows};
+use crate::samples::{KRAMER_AND_JERRY, LIMITS, Setup, TRAVEL, WORKED, catalog, edit, made, shows};
 use crate::scratch::{Lists, is_worked, lists_of};
-use crate::shown::{Look, Looks, is_answer, other_look, page_of};
+use crate::shown::{other_look, page_of};
 use crate::views::{BY_SLIP, CROWD, CROWD_SHOWN, JERRY_WAITS, PAIR, SLIPS};
 use cq_board::{Board, Edit, ScratchFault};
 use cq_rel::Catalog;
 use cq_tests_growths::{Outcome, Refusing, Tried, refusals};
 use std::alloc::{AllocError, Allocator, Global};
 
-/// A call that is tried on a board, or by which one is made.
+/// What stands before a call, and the call: `begin` or `scratch`, by which a board is begun or is made from scratch; `copy`; `show`,
+/// by which the board shows what stands behind; or an edit, behind which it shows what a board of the first lines and
+/// those behind does.
 #[derive(Clone, Copy)]
-pub enum Call {
-    /// A board begun.
-    Begin,
-    /// A board from scratch.
-    Scratch,
-    /// A board copied.
-    Copy,
-    /// The edit of a line, behind which the board shows what that of the other lines does.
-    Edit(&'static str, Setup),
-    /// What the board shows, by one call after another.
-    Show(Looks),
+struct Trial {
+    setup: Setup,
+    call: &'static str,
+    behind: &'static str,
 }
 
-/// What stands before the call, and the call.
-pub type Trial = (Setup, Call);
+const BEGIN: Trial = Trial {
+    setup: WORKED,
+    call: "begin",
+    behind: "",
+};
 
-/// An edit by which a query is posted, which coordinates with the one that waits.
-const JERRY_COMES: Trial = (
-    Setup {
-        rows: &TRAVEL,
-        others: &[KRAMER],
-    },
-    Call::Edit(JERRY, WORKED),
-);
-
-/// An edit by which a row is inserted, and two queries gain a grounding.
-const ROW_COMES: Trial = (
-    TWO,
-    Call::Edit(
-        "insert F(2)",
-        Setup {
-            rows: &["insert F(1)"],
-            others: &[POST_A, POST_B, "insert F(2)"],
-        },
-    ),
-);
-
-const POST_A: &str = "post a {A(x)} B(x) <- F(x)";
-
-const POST_B: &str = "post b {B(x)} A(x) <- F(x)";
+const SCRATCH: Trial = Trial {
+    setup: WORKED,
+    call: "scratch",
+    behind: "",
+};
 
 /// Two queries over one row.
 const TWO: Setup = Setup {
-    rows: &["insert F(1)"],
-    others: &[POST_A, POST_B],
+    first: "insert F(1)",
+    then: "post a {A(x)} B(x) <- F(x)
+post b {B(x)} A(x) <- F(x)",
+};
+
+const COPY: Trial = Trial {
+    setup: TWO,
+    call: "copy",
+    behind: "",
+};
+
+/// An edit by which a query is posted, which coordinates with the one that waits.
+const JERRY_COMES: Trial = Trial {
+    setup: Setup {
+        first: TRAVEL,
+        then: "post kramer {R(Jerry, x)} R(Kramer, x) <- Flights(x, Paris)",
+    },
+    call: "post jerry {R(Kramer, y)} R(Jerry, y) <- Flights(y, Paris), Airlines(y, United)",
+    behind: KRAMER_AND_JERRY,
+};
+
+/// An edit by which a row is inserted, and two queries gain a grounding.
+const ROW_COMES: Trial = Trial {
+    setup: TWO,
+    call: "insert F(2)",
+    behind: "post a {A(x)} B(x) <- F(x)
+post b {B(x)} A(x) <- F(x)
+insert F(2)",
 };
 
 /// An edit by which a row is inserted, and a query becomes able.
-const ROW_ENABLES: Trial = (
-    Setup {
-        rows: &[],
-        others: &[P, Q],
+const ROW_ENABLES: Trial = Trial {
+    setup: Setup {
+        first: P_AND_Q,
+        then: "",
     },
-    Call::Edit(
-        "insert F(7)",
-        Setup {
-            rows: &[],
-            others: &[P, Q, "insert F(7)"],
-        },
-    ),
-);
+    call: "insert F(7)",
+    behind: "insert F(7)",
+};
+
+const VIEWS: Trial = Trial {
+    setup: CROWD,
+    call: "show",
+    behind: CROWD_SHOWN,
+};
+
+const WHY_WAITING: Trial = Trial {
+    setup: PAIR,
+    call: "show",
+    behind: JERRY_WAITS,
+};
+
+const NEAR_MISSES: Trial = Trial {
+    setup: SLIPS,
+    call: "show",
+    behind: BY_SLIP,
+};
 
 const TRIALS: [Trial; 9] = [
-    (WORKED, Call::Begin),
-    (WORKED, Call::Scratch),
-    (TWO, Call::Copy),
+    BEGIN,
+    SCRATCH,
+    COPY,
     JERRY_COMES,
     ROW_COMES,
     ROW_ENABLES,
-    (CROWD, Call::Show(CROWD_SHOWN)),
-    (PAIR, Call::Show(JERRY_WAITS)),
-    (SLIPS, Call::Show(BY_SLIP)),
+    VIEWS,
+    WHY_WAITING,
+    NEAR_MISSES,
 ];
+
+/// The trial at that place. It is looked up apart from the call, which is generic.
+fn trial_at(place: usize) -> Option<Trial> {
+    TRIALS.get(place).copied()
+}
 
 /// The trial at that place.
 struct Nth<const N: usize>;
 
 impl<const N: usize> Tried for Nth<N> {
     fn tried<A: Allocator + Copy>(alloc: A) -> Outcome {
-        match TRIALS.get(N) {
-            Some(trial) => tried(alloc, *trial),
+        match trial_at(N) {
+            Some(trial) => tried(alloc, trial),
             None => Outcome::Wrong,
         }
     }
@@ -108,13 +131,12 @@ fn is_refused<T: Tried>(alloc: Global, least: u64) -> bool {
 }
 
 fn tried<A: Allocator + Copy>(alloc: A, trial: Trial) -> Outcome {
-    let (setup, call) = trial;
-    match call {
-        Call::Begin => begun(alloc),
-        Call::Scratch => scratched(alloc, setup),
-        _ => match made(alloc, setup) {
+    match trial.call {
+        "begin" => begun(alloc),
+        "scratch" => scratched(alloc, trial.setup),
+        _ => match made(alloc, trial.setup) {
             Ok(mut board) => {
-                let outcome = on_board(alloc, &mut board, call);
+                let outcome = on_board(alloc, &mut board, trial);
                 drop(board);
                 outcome
             }
@@ -123,21 +145,31 @@ fn tried<A: Allocator + Copy>(alloc: A, trial: Trial) -> Outcome {
     }
 }
 
-fn on_board<A: Allocator + Copy>(alloc: A, board: &mut Board<A>, call: Call) -> Outcome {
-    match call {
-        Call::Copy => copied(alloc, board),
-        Call::Edit(line, behind) => edited(alloc, board, line, behind),
-        Call::Show(looks) => shown(alloc, board, looks),
-        _ => Outcome::Wrong,
+fn on_board<A: Allocator + Copy>(alloc: A, board: &mut Board<A>, trial: Trial) -> Outcome {
+    match trial.call {
+        "copy" => copied(alloc, board),
+        "show" => shown(alloc, board, trial.behind),
+        line => {
+            let behind = Setup {
+                first: trial.setup.first,
+                then: trial.behind,
+            };
+            edited(alloc, board, line, behind)
+        }
     }
+}
+
+/// What is known of the board that begins is large, and goes no further.
+fn begun_over<A: Allocator + Copy>(alloc: A, catalog: Catalog<A>) -> Result<Board<A>, AllocError> {
+    Board::begin(alloc, catalog, LIMITS)
 }
 
 /// Whether a board that is begun over the catalog has the limits, and neither query nor row.
 fn begins<A: Allocator + Copy>(alloc: A, catalog: Catalog<A>) -> Result<bool, AllocError> {
-    let board = Board::begin(alloc, catalog, LIMITS)?;
-    let empty = is_answer(alloc, &board, Look::Counts, "0 3 9 0 0");
+    let board = begun_over(alloc, catalog)?;
+    let other = other_look(alloc, &board, "counts: 0 3 9 0 0");
     drop(board);
-    empty
+    Ok(other?.is_none())
 }
 
 fn begins_again<A: Allocator + Copy>(alloc: A) -> bool {
@@ -266,7 +298,7 @@ fn edited<A: Allocator + Copy>(
     }
 }
 
-fn shown<A: Allocator + Copy>(alloc: A, board: &Board<A>, looks: Looks) -> Outcome {
+fn shown<A: Allocator + Copy>(alloc: A, board: &Board<A>, looks: &str) -> Outcome {
     match other_look(alloc, board, looks) {
         Ok(other) => Outcome::done_if(other.is_none()),
         Err(_) => Outcome::refused_if(other_look(alloc, board, looks) == Ok(None)),

@@ -1,185 +1,153 @@
-//! The worked rows: after each edit its answer, the matched queries, and the work.
+//! The worked rows: after each edit its answer, the work, and the matched queries.
 
-use crate::samples::{JERRY, KRAMER, TRAVEL, admit_all, begun, edit};
-use crate::shown::{Look, is_answer};
-use cq_atom::Part;
+use crate::page::Page;
+use crate::samples::{TRAVEL, admit_all, begun, edit};
+use crate::shown::put_matched;
+use cq_atom::Meter;
 use cq_board::{Board, Why, Work};
 use std::alloc::{AllocError, Global};
+use std::fmt::Write;
 
-/// What comes of an edit, and its work. Work that is not told is not done.
+/// How many queries may be pending on a board, the edits that are put into it, and the rows that follow. A row is an edit and,
+/// behind ` = `, what comes of it: `ok` or why it is refused; how many tests, visits and edges that lose their matched
+/// provider; and behind a colon the names that are matched after it.
 #[derive(Clone, Copy)]
-pub enum Comes {
-    /// A query comes: one visit, and so many tests.
-    Posted(u64),
-    /// A query goes: so many edges lose their matched provider.
-    Withdrawn(u64),
-    /// A row comes: so many visits.
-    Inserted(u64),
-    /// A row goes: so many visits, and so many edges lose their matched provider.
-    Deleted(u64, u64),
-    /// The edit is refused for this reason.
-    Refused(Why),
+pub struct Worked {
+    pub pool: usize,
+    pub setup: &'static str,
+    pub rows: &'static str,
 }
 
-use Comes::{Deleted, Inserted, Posted, Refused, Withdrawn};
+// One waits, and coordinates with the one that comes; it is withdrawn, and posted again.
+const KRAMER_AND_JERRY: Worked = Worked {
+    pool: 9,
+    setup: TRAVEL,
+    rows: "post kramer {R(Jerry, x)} R(Kramer, x) <- Flights(x, Paris) = ok 0 1 0:
+post jerry {R(Kramer, y)} R(Jerry, y) <- Flights(y, Paris), Airlines(y, United) = ok 2 1 0: kramer jerry
+withdraw kramer = ok 0 0 2:
+post kramer {R(Jerry, x)} R(Kramer, x) <- Flights(x, Paris) = ok 2 1 0: jerry kramer",
+};
 
-/// The line of an edit, what comes of it, and the names that are matched after it.
-pub type Step = (&'static str, Comes, &'static str);
+const RING_OF_THREE: Worked = Worked {
+    pool: 9,
+    setup: "",
+    rows: "post a {S(2)} S(1) <- = ok 0 1 0:
+post b {S(3)} S(2) <- = ok 1 1 0:
+post c {S(1)} S(3) <- = ok 2 1 0: a b c
+withdraw b = ok 0 0 3:
+post b {S(3)} S(2) <- = ok 2 1 0: a c b",
+};
 
-const KRAMER_WAITS: [Step; 1] = [(KRAMER, Posted(0), "")];
+// Two revived by a third, which is withdrawn and posted again.
+const REVIVED_BY_A_THIRD: Worked = Worked {
+    pool: 9,
+    setup: "",
+    rows: "post u {P(2), P(3)} P(1) <- = ok 0 1 0:
+post v {P(1), P(3)} P(2) <- = ok 2 1 0:
+post z {} P(3) <- = ok 2 1 0: u v z
+withdraw z = ok 0 0 4:
+post z {} P(3) <- = ok 2 1 0: u v z",
+};
 
-const KRAMER_AND_JERRY: [Step; 1] = [(JERRY, Posted(2), "kramer jerry")];
+const CROWDED_SUPPLIER: Worked = Worked {
+    pool: 9,
+    setup: "",
+    rows: "post w {R(1)} Q(1) <- = ok 0 1 0:
+post h1 {} R(1) <- = ok 1 1 0: w h1
+post h2 {Z(1)} R(1) <- = ok 1 1 0: w h1
+withdraw h2 = ok 0 0 0: w h1",
+};
 
-const KRAMER_WITHDRAWN: [Step; 1] = [("withdraw kramer", Withdrawn(2), "")];
+const SUPPLIES_ITSELF: Worked = Worked {
+    pool: 9,
+    setup: TRAVEL,
+    rows: "post s {R(A, x)} R(A, x) <- Flights(x, Rome) = ok 1 1 0: s",
+};
 
-const KRAMER_POSTED_AGAIN: [Step; 1] = [(KRAMER, Posted(2), "jerry kramer")];
-
-const RING_OF_THREE: [Step; 5] = [
-    ("post a {S(2)} S(1) <-", Posted(0), ""),
-    ("post b {S(3)} S(2) <-", Posted(1), ""),
-    ("post c {S(1)} S(3) <-", Posted(2), "a b c"),
-    ("withdraw b", Withdrawn(3), ""),
-    ("post b {S(3)} S(2) <-", Posted(2), "a c b"),
-];
-
-const REVIVED_BY_A_THIRD: [Step; 3] = [
-    ("post u {P(2), P(3)} P(1) <-", Posted(0), ""),
-    ("post v {P(1), P(3)} P(2) <-", Posted(2), ""),
-    ("post z {} P(3) <-", Posted(2), "u v z"),
-];
-
-const THIRD_WITHDRAWN: [Step; 2] = [
-    ("withdraw z", Withdrawn(4), ""),
-    ("post z {} P(3) <-", Posted(2), "u v z"),
-];
-
-const CROWDED_SUPPLIER: [Step; 4] = [
-    ("post w {R(1)} Q(1) <-", Posted(0), ""),
-    ("post h1 {} R(1) <-", Posted(1), "w h1"),
-    ("post h2 {Z(1)} R(1) <-", Posted(1), "w h1"),
-    ("withdraw h2", Withdrawn(0), "w h1"),
-];
-
-const SUPPLIES_ITSELF: [Step; 1] = [(
-    "post s {R(A, x)} R(A, x) <- Flights(x, Rome)",
-    Posted(1),
-    "s",
-)];
-
-const BOTH_WAYS: [Step; 5] = [
-    ("post t {} R(x, y) <- T(x, y), T(y, x)", Posted(0), ""),
-    ("insert T(1, 2)", Inserted(1), ""),
-    ("insert T(2, 1)", Inserted(1), "t"),
-    ("insert T(1, 1)", Inserted(1), "t"),
-    ("delete T(1, 2)", Deleted(1, 0), "t"),
-];
+const BOTH_WAYS: Worked = Worked {
+    pool: 9,
+    setup: "",
+    rows: "post t {} R(x, y) <- T(x, y), T(y, x) = ok 0 1 0:
+insert T(1, 2) = ok 0 1 0:
+insert T(2, 1) = ok 0 1 0: t
+insert T(1, 1) = ok 0 1 0: t
+delete T(1, 2) = ok 0 1 0: t",
+};
 
 // The query supplies itself and another one, until its last row goes; and itself alone, until it goes.
-const SUPPLIES_TWO: [Step; 9] = [
-    ("post w {R(1)} Q(1) <-", Posted(0), ""),
-    ("post s {R(1)} R(1) <- F(x)", Posted(2), ""),
-    ("insert F(7)", Inserted(1), "w s"),
-    ("insert F(8)", Inserted(1), "w s"),
-    ("delete F(7)", Deleted(1, 0), "w s"),
-    ("delete F(8)", Deleted(1, 2), ""),
-    ("withdraw w", Withdrawn(0), ""),
-    ("insert F(7)", Inserted(1), "s"),
-    ("withdraw s", Withdrawn(1), ""),
-];
+const SUPPLIES_TWO: Worked = Worked {
+    pool: 9,
+    setup: "",
+    rows: "post w {R(1)} Q(1) <- = ok 0 1 0:
+post s {R(1)} R(1) <- F(x) = ok 2 1 0:
+insert F(7) = ok 0 1 0: w s
+insert F(8) = ok 0 1 0: w s
+delete F(7) = ok 0 1 0: w s
+delete F(8) = ok 0 1 2:
+withdraw w = ok 0 0 0:
+insert F(7) = ok 0 1 0: s
+withdraw s = ok 0 0 1:",
+};
 
-const EMPTY_BODY: [Step; 1] = [("post one {} R(1) <-", Posted(0), "one")];
+const EMPTY_BODY: Worked = Worked {
+    pool: 9,
+    setup: "",
+    rows: "post one {} R(1) <- = ok 0 1 0: one",
+};
 
-const NUMBER_IS_NO_TEXT: [Step; 3] = [
-    ("post n {R(122)} Q(1) <-", Posted(0), ""),
-    ("post t {} R(\"122\") <-", Posted(0), "t"),
-    ("post l {} R(-9223372036854775808) <-", Posted(0), "t l"),
-];
+const NUMBER_IS_NO_TEXT: Worked = Worked {
+    pool: 9,
+    setup: "",
+    rows: "post n {R(122)} Q(1) <- = ok 0 1 0:
+post t {} R(\"122\") <- = ok 0 1 0: t
+post l {} R(-9223372036854775808) <- = ok 0 1 0: t l",
+};
 
-const EVERY_REFUSAL: [Step; 10] = [
-    ("insert Flights(122, Paris)", Inserted(0), ""),
-    ("insert Flights(122, Paris)", Refused(Why::RowPresent), ""),
-    ("delete Flights(122, Rome)", Refused(Why::RowAbsent), ""),
-    ("post a {} R(1) <-", Posted(0), "a"),
-    ("post a {} R(2) <-", Refused(Why::NameTaken), "a"),
-    ("withdraw a", Withdrawn(0), ""),
-    ("withdraw a", Refused(Why::NoSuchName), ""),
-    (
-        "post c {} Flights(1, 2) <-",
-        Refused(Why::NotAnswer {
-            part: Part::Heads,
-            place: 0,
-        }),
-        "",
-    ),
-    (
-        "post d {} R(x) <- Flights(x)",
-        Refused(Why::Arity { place: 0 }),
-        "",
-    ),
-    (
-        "post e {} R(x) <- Trains(x)",
-        Refused(Why::UnknownRelation { place: 0 }),
-        "",
-    ),
-];
+const EVERY_REFUSAL: Worked = Worked {
+    pool: 9,
+    setup: "",
+    rows: "insert Flights(122, Paris) = ok 0 0 0:
+insert Flights(122, Paris) = RowPresent 0 0 0:
+delete Flights(122, Rome) = RowAbsent 0 0 0:
+post a {} R(1) <- = ok 0 1 0: a
+post a {} R(2) <- = NameTaken 0 0 0: a
+withdraw a = ok 0 0 0:
+withdraw a = NoSuchName 0 0 0:
+post c {} Flights(1, 2) <- = NotAnswer { part: Heads, place: 0 } 0 0 0:
+post d {} R(x) <- Flights(x) = Arity { place: 0 } 0 0 0:
+post e {} R(x) <- Trains(x) = UnknownRelation { place: 0 } 0 0 0:",
+};
 
-const PUBLISHED_GROUNDINGS: [Step; 4] = [
-    ("insert Flights(122, Paris)", Inserted(0), ""),
-    ("post k {} R(x) <- Flights(x, Paris)", Posted(0), "k"),
-    ("delete Flights(122, Paris)", Deleted(1, 0), ""),
-    ("insert Flights(122, Rome)", Inserted(1), ""),
-];
+const PUBLISHED_GROUNDINGS: Worked = Worked {
+    pool: 9,
+    setup: "",
+    rows: "insert Flights(122, Paris) = ok 0 0 0:
+post k {} R(x) <- Flights(x, Paris) = ok 0 1 0: k
+delete Flights(122, Paris) = ok 0 1 0:
+insert Flights(122, Rome) = ok 0 1 0:",
+};
 
-const LIMITS: [Step; 2] = [
-    ("post a {} R(1) <-", Posted(0), "a"),
-    ("post a {} R(1) <-", Refused(Why::PoolFull), "a"),
-];
-
-/// What is put into a board, how many queries may be pending on it, and rows that follow one another there, each by its
-/// name and its steps.
-pub type Worked = (
-    &'static [&'static str],
-    usize,
-    &'static [(&'static str, &'static [Step])],
-);
+const LIMITS: Worked = Worked {
+    pool: 1,
+    setup: "",
+    rows: "post a {} R(1) <- = ok 0 1 0: a
+post a {} R(1) <- = PoolFull 0 0 0: a",
+};
 
 const WORKED: [Worked; 12] = [
-    (
-        &TRAVEL,
-        9,
-        &[
-            ("kramer_waits", &KRAMER_WAITS),
-            ("kramer_and_jerry", &KRAMER_AND_JERRY),
-            ("kramer_withdrawn", &KRAMER_WITHDRAWN),
-            ("kramer_posted_again", &KRAMER_POSTED_AGAIN),
-        ],
-    ),
-    (&[], 9, &[("ring_of_three", &RING_OF_THREE)]),
-    (
-        &[],
-        9,
-        &[
-            ("revived_by_a_third", &REVIVED_BY_A_THIRD),
-            ("third_withdrawn", &THIRD_WITHDRAWN),
-        ],
-    ),
-    (&[], 9, &[("crowded_supplier", &CROWDED_SUPPLIER)]),
-    (&TRAVEL, 9, &[("supplies_itself", &SUPPLIES_ITSELF)]),
-    (&[], 9, &[("both_ways", &BOTH_WAYS)]),
-    (&[], 9, &[("supplies_two", &SUPPLIES_TWO)]),
-    (&[], 9, &[("empty_body", &EMPTY_BODY)]),
-    (&[], 9, &[("number_is_no_text", &NUMBER_IS_NO_TEXT)]),
-    (&[], 9, &[("every_refusal", &EVERY_REFUSAL)]),
-    (&[], 9, &[("published_groundings", &PUBLISHED_GROUNDINGS)]),
-    (&[], 1, &[("limits", &LIMITS)]),
+    KRAMER_AND_JERRY,
+    RING_OF_THREE,
+    REVIVED_BY_A_THIRD,
+    CROWDED_SUPPLIER,
+    SUPPLIES_ITSELF,
+    BOTH_WAYS,
+    SUPPLIES_TWO,
+    EMPTY_BODY,
+    NUMBER_IS_NO_TEXT,
+    EVERY_REFUSAL,
+    PUBLISHED_GROUNDINGS,
+    LIMITS,
 ];
-
-fn is_told(comes: Comes, told: Option<Why>) -> bool {
-    match comes {
-        Refused(why) => told == Some(why),
-        _ => told.is_none(),
-    }
-}
 
 /// The work that was done before an edit: one of each. An edit adds to it.
 fn begun_work() -> Work {
@@ -190,78 +158,71 @@ fn begun_work() -> Work {
     work
 }
 
-fn is_done(comes: Comes, work: &Work) -> bool {
-    let (tests, visits, changes) = match comes {
-        Posted(tests) => (tests, 1, 0),
-        Withdrawn(changes) => (0, 0, changes),
-        Inserted(visits) => (0, visits, 0),
-        Deleted(visits, changes) => (0, visits, changes),
-        Refused(_) => (0, 0, 0),
-    };
-    let done = (
-        work.tests.count(),
-        work.visits.count(),
-        work.changes.count(),
-    );
-    done == (
-        tests.saturating_add(1),
-        visits.saturating_add(1),
-        changes.saturating_add(1),
-    )
+/// Writes how many were counted but the one before; `none` where that is gone.
+fn put_more(meter: &Meter, page: &mut Page) {
+    page.space();
+    match meter.count().checked_sub(1) {
+        Some(more) => page.put_number(more),
+        None => page.put("none"),
+    }
 }
 
-/// Whether the edit of the line comes out so.
-fn is_admitted(
+/// Writes the answer to an edit.
+pub fn put_answer(told: Option<Why>, page: &mut Page) {
+    match told {
+        Some(why) => {
+            let _ = write!(page, "{why:?}");
+        }
+        None => page.put("ok"),
+    }
+}
+
+/// Writes what comes of the edit of the line: the answer and the work.
+fn put_admitted(
     alloc: Global,
     board: &mut Board,
     line: &str,
-    wanted: Comes,
-) -> Result<bool, AllocError> {
+    page: &mut Page,
+) -> Result<(), AllocError> {
     let edit = edit(alloc, line.as_bytes())?;
     let mut work = begun_work();
     let told = board.admit_counted(&edit, &mut work);
     drop(edit);
-    Ok(is_told(wanted, told?) && is_done(wanted, &work))
+    put_answer(told?, page);
+    put_more(&work.tests, page);
+    put_more(&work.visits, page);
+    put_more(&work.changes, page);
+    Ok(())
 }
 
-/// The line of the first step that does not go as told.
-fn other_step(
-    alloc: Global,
-    board: &mut Board,
-    steps: &[Step],
-) -> Result<Option<&'static str>, AllocError> {
-    for (line, wanted, matched) in steps {
-        if !is_admitted(alloc, board, line, *wanted)?
-            || !is_answer(alloc, board, Look::Matched, matched)?
-        {
-            return Ok(Some(*line));
-        }
-    }
-    Ok(None)
+/// Whether the edit of the row comes out so.
+fn is_right(alloc: Global, board: &mut Board, row: &str) -> Result<bool, AllocError> {
+    let (line, wanted) = row.split_once(" = ").unwrap_or((row, ""));
+    let mut page = Page::new();
+    put_admitted(alloc, board, line, &mut page)?;
+    page.put(":");
+    put_matched(board, &mut page)?;
+    Ok(page.is(wanted))
 }
 
-/// The first row and line that do not go as told, behind the setup.
+/// The first row that does not go as told, behind the setup.
 fn other_behind(
     alloc: Global,
     board: &mut Board,
     worked: Worked,
-) -> Result<Option<(&'static str, &'static str)>, AllocError> {
-    let (setup, _, rows) = worked;
-    admit_all(alloc, board, setup)?;
-    for (name, steps) in rows {
-        if let Some(line) = other_step(alloc, board, steps)? {
-            return Ok(Some((*name, line)));
+) -> Result<Option<&'static str>, AllocError> {
+    admit_all(alloc, board, worked.setup)?;
+    for row in worked.rows.lines() {
+        if !is_right(alloc, board, row)? {
+            return Ok(Some(row));
         }
     }
     Ok(None)
 }
 
-/// The first row and line that do not go as told.
-pub fn other_row(
-    alloc: Global,
-    worked: Worked,
-) -> Result<Option<(&'static str, &'static str)>, AllocError> {
-    let mut board = begun(alloc, worked.1)?;
+/// The first row that does not go as told.
+pub fn other_row(alloc: Global, worked: Worked) -> Result<Option<&'static str>, AllocError> {
+    let mut board = begun(alloc, worked.pool)?;
     let other = other_behind(alloc, &mut board, worked);
     drop(board);
     other

@@ -1,7 +1,7 @@
 //! Boards that several tests use.
 
 use crate::page::Page;
-use crate::shown::{Looks, other_look, page_of};
+use crate::shown::{other_look, page_of};
 use cq_board::{Board, Edit, EditKind, Limits, Why};
 use cq_rel::Catalog;
 use cq_text::{CommandKind, Form, read_command};
@@ -12,34 +12,31 @@ pub const LIMITS: Limits = Limits {
     journal: 9,
 };
 
-pub const KRAMER: &str = "post kramer {R(Jerry, x)} R(Kramer, x) <- Flights(x, Paris)";
-
-pub const JERRY: &str =
-    "post jerry {R(Kramer, y)} R(Jerry, y) <- Flights(y, Paris), Airlines(y, United)";
-
 /// The rows of the worked travel setup.
-pub const TRAVEL: [&str; 8] = [
-    "insert Flights(122, Paris)",
-    "insert Flights(123, Paris)",
-    "insert Flights(134, Paris)",
-    "insert Flights(136, Rome)",
-    "insert Airlines(122, United)",
-    "insert Airlines(123, United)",
-    "insert Airlines(134, Lufthansa)",
-    "insert Airlines(136, Alitalia)",
-];
+pub const TRAVEL: &str = "insert Flights(122, Paris)
+insert Flights(123, Paris)
+insert Flights(134, Paris)
+insert Flights(136, Rome)
+insert Airlines(122, United)
+insert Airlines(123, United)
+insert Airlines(134, Lufthansa)
+insert Airlines(136, Alitalia)";
 
-/// The lines of edits that a board is made by: the rows, and then what else is put in.
+/// The lines of edits that a board is made by.
 #[derive(Clone, Copy)]
 pub struct Setup {
-    pub rows: &'static [&'static str],
-    pub others: &'static [&'static str],
+    pub first: &'static str,
+    pub then: &'static str,
 }
+
+/// The two worked queries.
+pub const KRAMER_AND_JERRY: &str = "post kramer {R(Jerry, x)} R(Kramer, x) <- Flights(x, Paris)
+post jerry {R(Kramer, y)} R(Jerry, y) <- Flights(y, Paris), Airlines(y, United)";
 
 /// The travel setup with the two worked queries.
 pub const WORKED: Setup = Setup {
-    rows: &TRAVEL,
-    others: &[KRAMER, JERRY],
+    first: TRAVEL,
+    then: KRAMER_AND_JERRY,
 };
 
 /// The edit that a line of a script asks for; a line of no edit is want of memory.
@@ -69,9 +66,9 @@ pub fn admit<A: Allocator + Copy>(
 pub fn admit_all<A: Allocator + Copy>(
     alloc: A,
     board: &mut Board<A>,
-    lines: &[&str],
+    lines: &str,
 ) -> Result<(), AllocError> {
-    for line in lines {
+    for line in lines.lines() {
         if admit(alloc, board, line) != Ok(None) {
             return Err(AllocError);
         }
@@ -102,8 +99,8 @@ pub fn begun<A: Allocator + Copy>(alloc: A, pool: usize) -> Result<Board<A>, All
 /// The board of the setup.
 pub fn made<A: Allocator + Copy>(alloc: A, setup: Setup) -> Result<Board<A>, AllocError> {
     let mut board = begun(alloc, LIMITS.pool)?;
-    admit_all(alloc, &mut board, setup.rows)?;
-    admit_all(alloc, &mut board, setup.others)?;
+    admit_all(alloc, &mut board, setup.first)?;
+    admit_all(alloc, &mut board, setup.then)?;
     Ok(board)
 }
 
@@ -126,11 +123,11 @@ pub fn shows<A: Allocator + Copy>(
     Ok(page.is_same(&wanted))
 }
 
-/// The words of the first look that the board of the setup does not answer so.
+/// The line of the first look that the board of the setup does not answer so.
 pub fn other_made<A: Allocator + Copy>(
     alloc: A,
     setup: Setup,
-    looks: Looks,
+    looks: &'static str,
 ) -> Result<Option<&'static str>, AllocError> {
     let board = made(alloc, setup)?;
     let other = other_look(alloc, &board, looks);

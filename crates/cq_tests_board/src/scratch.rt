@@ -1,7 +1,7 @@
 //! Boards from scratch.
 
 use crate::page::Page;
-use crate::samples::{JERRY, KRAMER, LIMITS, Setup, WORKED, catalog, edit};
+use crate::samples::{KRAMER_AND_JERRY, LIMITS, Setup, WORKED, catalog, edit};
 use crate::shown::{other_look, page_of};
 use crate::views::WORKED_SHOWN;
 use cq_atom::{Name, Query, Row};
@@ -41,8 +41,8 @@ impl<A: Allocator + Copy> Lists<A> {
         Ok(())
     }
 
-    fn take_all(&mut self, alloc: A, lines: &[&str]) -> Result<(), AllocError> {
-        for line in lines {
+    fn take_all(&mut self, alloc: A, lines: &str) -> Result<(), AllocError> {
+        for line in lines.lines() {
             self.take(edit(alloc, line.as_bytes())?)?;
         }
         Ok(())
@@ -62,8 +62,8 @@ impl<A: Allocator + Copy> Lists<A> {
 /// The queries and the rows of the setup.
 pub fn lists_of<A: Allocator + Copy>(alloc: A, setup: Setup) -> Result<Lists<A>, AllocError> {
     let mut lists = Lists::new(alloc);
-    lists.take_all(alloc, setup.rows)?;
-    lists.take_all(alloc, setup.others)?;
+    lists.take_all(alloc, setup.first)?;
+    lists.take_all(alloc, setup.then)?;
     Ok(lists)
 }
 
@@ -107,8 +107,9 @@ fn from_scratch(rt: HostRuntime) {
 
 /// The second row does not fit the catalog.
 const UNFIT: Setup = Setup {
-    rows: &["insert Flights(1, 2)", "insert Flights(1)"],
-    others: &[KRAMER, JERRY],
+    first: "insert Flights(1, 2)
+insert Flights(1)",
+    then: KRAMER_AND_JERRY,
 };
 
 #[test]

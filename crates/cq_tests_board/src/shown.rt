@@ -93,15 +93,25 @@ impl<'a, A: Allocator> Worded for NearMiss<&'a Name<A>> {
 /// As `1`, or `"1"` where it is a text.
 impl<A: Allocator> Worded for Value<A> {
     fn put(&self, page: &mut Page) {
-        if let Some(number) = self.as_num() {
-            page.put(if number < 0 { "-" } else { "" });
-            page.put_number(number.unsigned_abs());
-        }
-        if let Some(text) = self.as_text() {
-            page.put("\"");
-            page.put(text);
-            page.put("\"");
-        }
+        put_signed(self.as_num(), page);
+        put_quoted(self.as_text(), page);
+    }
+}
+
+/// The number, where there is one.
+fn put_signed(number: Option<i64>, page: &mut Page) {
+    if let Some(number) = number {
+        page.put(if number < 0 { "-" } else { "" });
+        page.put_number(number.unsigned_abs());
+    }
+}
+
+/// The text between quotes, where there is one.
+fn put_quoted(text: Option<&str>, page: &mut Page) {
+    if let Some(text) = text {
+        page.put("\"");
+        page.put(text);
+        page.put("\"");
     }
 }
 
@@ -141,35 +151,6 @@ fn put_told<T: Worded + Drop, A: Allocator>(
     let items = told?;
     put_each(items.as_slice(), page);
     Ok(())
-}
-
-/// What is asked of a board.
-#[derive(Clone, Copy)]
-pub enum Look {
-    /// How many queries are pending, the limits, and how many rows `Flights` and `Airlines` have.
-    Counts,
-    Names,
-    /// The name at that place; `none` where there is none.
-    NameAt(usize),
-    /// The edges by the numbers of the queries.
-    Numbered,
-    Edges,
-    Matched,
-    Crowded,
-    Falls,
-    /// Something about the query of that name.
-    Of(&'static str, About),
-}
-
-/// What is asked about a query.
-#[derive(Clone, Copy)]
-pub enum About {
-    /// Whether it is matched, how many groundings it has, and of how many atoms its body is.
-    Itself,
-    /// Why it waits; `none` where it does not.
-    Waits,
-    /// The heads that nearly supply that postcondition.
-    Near(u8),
 }
 
 fn put_count(count: Option<usize>, page: &mut Page) {
@@ -233,6 +214,70 @@ fn put_waits<A: Allocator + Copy>(
     }
 }
 
+/// What is asked of a board.
+#[derive(Clone, Copy)]
+enum Look<'t> {
+    /// How many queries are pending, the limits, and how many rows `Flights` and `Airlines` have.
+    Counts,
+    Names,
+    /// The name at that place; `none` where there is none.
+    NameAt(usize),
+    /// The edges by the numbers of the queries.
+    Numbered,
+    Edges,
+    Matched,
+    Crowded,
+    Falls,
+    /// Something about the query of that name.
+    Of(&'t str, About),
+}
+
+/// What is asked about a query.
+#[derive(Clone, Copy)]
+enum About {
+    /// Whether it is matched, how many groundings it has, and of how many atoms its body is.
+    Itself,
+    /// Why it waits; `none` where it does not.
+    Waits,
+    /// The heads that nearly supply that postcondition.
+    Near(u8),
+}
+
+/// The look of these words, which are as the variants of `Look` in small letters.
+///
+/// - `counts`, `names`, `numbered`, `edges`, `matched`, `crowded`, `falls`.
+/// - `name 2`: the name at that place.
+/// - `query kramer`, `waits kramer`, `near 1 kramer`: something about the query of that name, its postcondition 1.
+fn look_of(words: &str) -> Option<Look<'_>> {
+    match words {
+        "counts" => Some(Look::Counts),
+        "names" => Some(Look::Names),
+        "numbered" => Some(Look::Numbered),
+        "edges" => Some(Look::Edges),
+        "matched" => Some(Look::Matched),
+        "crowded" => Some(Look::Crowded),
+        "falls" => Some(Look::Falls),
+        _ => look_with(words),
+    }
+}
+
+/// The same of words behind the first of which something stands.
+fn look_with(words: &str) -> Option<Look<'_>> {
+    let (word, with) = words.split_once(' ')?;
+    match word {
+        "name" => Some(Look::NameAt(with.parse::<usize>().ok()?)),
+        "query" => Some(Look::Of(with, About::Itself)),
+        "waits" => Some(Look::Of(with, About::Waits)),
+        "near" => near(with),
+        _ => None,
+    }
+}
+
+fn near(words: &str) -> Option<Look<'_>> {
+    let (post, name) = words.split_once(' ')?;
+    Some(Look::Of(name, About::Near(post.parse::<u8>().ok()?)))
+}
+
 fn put_about<A: Allocator + Copy>(
     board: &Board<A>,
     name: &Name<A>,
@@ -271,7 +316,7 @@ fn put_of<A: Allocator + Copy>(
 fn put_look<A: Allocator + Copy>(
     alloc: A,
     board: &Board<A>,
-    look: Look,
+    look: Look<'_>,
     page: &mut Page,
 ) -> Result<(), AllocError> {
     match look {
@@ -293,33 +338,42 @@ fn put_look<A: Allocator + Copy>(
     }
 }
 
-/// Whether the board answers these words.
-pub fn is_answer<A: Allocator + Copy>(
+/// Whether the board answers to the look of the line, which stands before a colon, with the words behind it. A look of none is
+/// want of memory.
+fn is_answer<A: Allocator + Copy>(
     alloc: A,
     board: &Board<A>,
-    look: Look,
-    wanted: &str,
+    line: &str,
 ) -> Result<bool, AllocError> {
+    let (words, wanted) = line.split_once(':').unwrap_or((line, ""));
+    let Some(look) = look_of(words) else {
+        return Err(AllocError);
+    };
     let mut page = Page::new();
     put_look(alloc, board, look, &mut page)?;
-    Ok(page.is(wanted))
+    Ok(page.is(wanted.trim_start()))
 }
 
-/// Looks, each with the words that the board must answer.
-pub type Looks = &'static [(Look, &'static str)];
-
-/// The words of the first look that the board does not answer so.
-pub fn other_look<A: Allocator + Copy>(
+/// The line of the first look that the board does not answer so.
+pub fn other_look<'t, A: Allocator + Copy>(
     alloc: A,
     board: &Board<A>,
-    looks: Looks,
-) -> Result<Option<&'static str>, AllocError> {
-    for (look, wanted) in looks {
-        if !is_answer(alloc, board, *look, wanted)? {
-            return Ok(Some(*wanted));
+    looks: &'t str,
+) -> Result<Option<&'t str>, AllocError> {
+    for line in looks.lines() {
+        if !is_answer(alloc, board, line)? {
+            return Ok(Some(line));
         }
     }
     Ok(None)
+}
+
+/// Writes the matched names.
+pub fn put_matched<A: Allocator + Copy>(
+    board: &Board<A>,
+    page: &mut Page,
+) -> Result<(), AllocError> {
+    put_told(board.matched(), page)
 }
 
 fn put_rows<A: Allocator + Copy>(board: &Board<A>, page: &mut Page) -> Result<(), AllocError> {
