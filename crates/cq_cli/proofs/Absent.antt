@@ -47,3 +47,9 @@ pub read_absent : (left : Option (List ℕ)) (board script : PoolRecord) (names 
 read_absent None board script names before after is reads taken = tt
 read_absent (Some input) board script names before after is reads taken =
     λ readings are. subst (λ (pool : PoolRecord). Appends before after (absent_lines pool names)) (is ∙ reads readings are) taken
+
+-- the same of anything that is said of that board
+pub read_over : (left : Option (List ℕ)) (board script : PoolRecord) (Says : PoolRecord → Type 0) → board ≡ script → IfSome left (λ input. (readings : List Reading) → AreReadings (lines_of input) readings → script ≡ pool_left readings)
+    → Says board → IfSome left (λ input. (readings : List Reading) → AreReadings (lines_of input) readings → Says (pool_left readings))
+read_over None board script Says is reads said = tt
+read_over (Some input) board script Says is reads said = λ readings are. subst Says (is ∙ reads readings are) said
