@@ -66,12 +66,12 @@ where
     finding
 }
 
-fn runs<N: RoomName<Board> + Send + Sync, R: Wait + Drop + Send + Sync, T: Threads + Sync>(
-    threads: &T,
-    rt: &R,
-    alloc: Global,
-    parts: Parts<Board, R>,
-) -> Option<Finding>
+fn runs<
+    L: Posted + Send + Sync,
+    N: RoomName<L::Content> + Send + Sync,
+    R: Wait + Drop + Send + Sync,
+    T: Threads + Sync,
+>(threads: &T, rt: &R, alloc: Global, parts: Parts<L, R>) -> Option<Finding>
     requires book { parts.book ≡ N.book }
     requires opening { N.opening ≡ parts.opening ∷ [] }
     requires limit { N.limit ≡ parts.limit }
@@ -91,7 +91,7 @@ fn sixteen_sessions(rt: HostRuntime) {
     let handle = &rt;
     match opened(handle, rt.alloc()) {
         Some(parts) => {
-            let finding = runs::<Brand, _, _>(&rt, &handle, rt.alloc(), parts);
+            let finding = runs::<Board, Brand, _, _>(&rt, &handle, rt.alloc(), parts);
             assert!(rt; finding == Some(Finding::Right), "{finding:?}");
         }
         None => assert!(rt; false),
