@@ -18,11 +18,18 @@ const COPY: usize = 3;
 /// The trials, each at the place of its name. An added atom is of an arity that no other has, so that the answers are the
 /// worked ones with it too, also those of a copy.
 const TRIALS: &[Trial<'static, Call>] = &[
+    // The first atom of all, before the worked ones.
     Trial {
-        before: &[WORKED],
+        before: &[],
         tried: Call::Put(&["5", "x", "y"], 4),
-        shown: &[&[Call::Has(4, false)], ANSWERS],
-        after: &[ANSWERS, &[Call::Copy], ANSWERS],
+        shown: &[&[Call::Has(4, false)]],
+        after: &[
+            &[Call::Has(4, true)],
+            WORKED,
+            ANSWERS,
+            &[Call::Copy],
+            ANSWERS,
+        ],
     },
     Trial {
         before: &[WORKED],
@@ -55,7 +62,7 @@ impl<const PLACE: usize> Tried for Trying<PLACE> {
 
 #[test]
 fn refused_growth_in_add(rt: HostRuntime) {
-    assert!(rt; matches!(refusals::<Trying<ADD>>(rt.alloc()), Ok(2..)));
+    assert!(rt; matches!(refusals::<Trying<ADD>>(rt.alloc()), Ok(4..)));
 }
 
 #[test]
