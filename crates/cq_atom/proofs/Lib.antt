@@ -7,5 +7,6 @@ pub mod Closes
 pub mod Bindings
 pub mod Bound
 pub mod Names
-pub mod Variables
+pub mod Firsts
+pub mod Among
 pub mod Finite

@@ -68,7 +68,7 @@ impl<A: Allocator + Clone> Atom<A> {
         if let Some(bad) = arity_fault(relation, terms.len()) {
             return Err(bad);
         }
-        let relation = Name::new(alloc.clone()?, relation)?;
+        let relation = Name::known(alloc.clone()?, relation)?;
         let parts = Arc::new(alloc, AtomParts { relation, terms })?;
         Ok(Atom { parts })
     }

@@ -41,6 +41,14 @@ impl<A: Allocator> Name<A> {
         if !is_name_text(text) {
             return Err(Bad::BadName);
         }
+        Ok(Name::known(alloc, text)?)
+    }
+
+    /// The name of these bytes, which are known to be one.
+    pub(crate) fn known(alloc: A, text: &str) -> Result<Name<A>, AllocError>
+        requires { IsTrue (is_name text.now) }
+        ensures { IfOk result (λ name. name ≡ text.now) }
+    {
         let text = Bytes::from_str(alloc, text)?;
         Ok(Name { text })
     }

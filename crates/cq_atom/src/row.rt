@@ -52,7 +52,7 @@ impl<A: Allocator + Clone> Row<A> {
         if let Some(bad) = arity_fault(relation, values.len()) {
             return Err(bad);
         }
-        let relation = Name::new(alloc.clone()?, relation)?;
+        let relation = Name::known(alloc.clone()?, relation)?;
         let parts = Arc::new(alloc, RowParts { relation, values })?;
         Ok(Row { parts })
     }

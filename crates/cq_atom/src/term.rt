@@ -64,8 +64,19 @@ impl<A: Allocator> Term<A> {
         if !is_variable_text(name) {
             return Err(Bad::BadName);
         }
+        Ok(Term::known_variable(alloc, name)?)
+    }
+
+    /// The variable of that name, which is known to be a variable's.
+    ///
+    /// # Errors
+    /// `AllocError` where the growth was refused.
+    pub fn known_variable(alloc: A, name: &str) -> Result<Term<A>, AllocError>
+        requires { IsTrue (is_variable_name name.now) }
+        ensures { IfOk result (λ term. term ≡ TermKind.Variable name.now) }
+    {
         Ok(Term {
-            kind: TermKind::Variable(Name::new(alloc, name)?),
+            kind: TermKind::Variable(Name::known(alloc, name)?),
         })
     }
 

@@ -1,7 +1,7 @@
 //! Queries.
 
 use crate::samples::query;
-use cq_atom::{Bad, Part, Query, binds, binds_all, value_place};
+use cq_atom::{Bad, Part, Query, Variables, binds, value_place};
 use std::alloc::Global;
 use std::test::Fail;
 
@@ -92,6 +92,8 @@ fn variables_of_a_body(rt: HostRuntime) -> Result<(), Fail> {
         assert!(rt; found(&query, name) == wanted, "{name}");
     }
     // The heads have no `y`.
-    assert!(rt; binds_all(query.body(), query.heads()) && !binds_all(query.heads(), query.body()));
+    let of_body = Variables::of(rt.alloc(), query.body())?;
+    let of_heads = Variables::of(rt.alloc(), query.heads())?;
+    assert!(rt; of_body.bind_all(query.heads()) && !of_heads.bind_all(query.body()));
     Ok(())
 }

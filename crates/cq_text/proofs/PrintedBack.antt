@@ -21,7 +21,7 @@ use Rattle.cq_text.proofs.PrintedBound.{fits}
 use Rattle.cq_text.proofs.PrintedLengths.{line_atom, line_row, line_query}
 use Rattle.cq_text.proofs.PrintedTokens.{Spells, Anything, Ended, spells_then, spells_whole, spells_name, short_name, spells_text, spells_number, spells_open_paren, spells_close_paren, spells_open_brace, spells_close_brace, spells_comma, spells_arrow, spells_space, and_parts}
 use Rattle.cq_text.specs.declared.form.Form.{Form}
-use Rattle.cq_text.specs.declared.form.Form.TheVariants.{One, Two}
+use Rattle.cq_text.specs.declared.form.Form.TheVariants.{Two}
 use Rattle.cq_text.specs.Forms.{most_terms}
 
 -- The bytes spell tokens that the grammar G allows, before whatever P allows.

@@ -34,7 +34,9 @@ pub use fault::{Kind, TextFault, WholeFault};
 pub use field::read_field;
 pub use form::Form;
 pub use limits::{MAX_BYTES, MAX_COUNT, MAX_FORM, MAX_PIECE, MAX_READS};
-pub use printing::{print_atom, print_query, print_row, print_values, push_escaped};
+pub use printing::{
+    print_atom, print_query, print_row, print_values, push_escaped, push_query, push_values,
+};
 pub use reading::{one_reading, read_command, read_ground_atom, read_query};
 pub use sink::{Sink, write_all};
 pub use source::{Failed, Source};

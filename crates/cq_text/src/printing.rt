@@ -8,7 +8,7 @@ ghost use Rattle.cq_text.specs.Print.{is_escaped, escaped, printed_text, printed
 ghost use Rattle.cq_text.specs.declared.form.Form.TheVariants.{One, Two};
 ghost use Rattle.cq_text.specs.Forms.{most_terms};
 ghost use Rattle.cq_text.specs.Grammar.{FewTerms, FitsQuery, StandsForQuery, StandsForRow};
-ghost use Rattle.cq_text.specs.Steps.Sound.{IsSoundTerm, IsSoundAtom, IsSoundRow, IsSoundQuery};
+ghost use Rattle.cq_text.specs.Steps.Sound.{IsSoundTerm, IsSoundAtom, IsSoundRow};
 ghost use Rattle.cq_text.specs.Steps.Separators.{separator_at};
 
 use cq_atom::{Atom, Query, Row, Term, Value};
@@ -106,7 +106,7 @@ fn push_terms<A: Allocator>(printed: &mut String<A>, terms: &[Term<A>]) -> Resul
     Ok(())
 }
 
-fn push_values<A: Allocator>(printed: &mut String<A>, values: &[Value<A>]) -> Result<(), AllocError>
+fn push_listed<A: Allocator>(printed: &mut String<A>, values: &[Value<A>]) -> Result<(), AllocError>
     ensures printed { OnOk result (string_bytes printed.new ≡ string_bytes printed.old ++ join_by printed_value (codes ", ") values.now) }
     ensures sound { OnOk result (All IsValue values.now) }
 {
@@ -150,9 +150,16 @@ fn push_body<A: Allocator>(printed: &mut String<A>, body: &[Atom<A>]) -> Result<
     Ok(())
 }
 
-fn push_query<A: Allocator>(printed: &mut String<A>, query: &Query<A>) -> Result<(), AllocError>
+/// Puts a query after what is there, as `print_query` gives it: `{posts} heads <- body`. In proportion to the query.
+///
+/// # Errors
+/// `AllocError` where a growth was refused. A front of the query may have been put then.
+pub fn push_query<A: Allocator>(printed: &mut String<A>, query: &Query<A>) -> Result<(), AllocError>
     ensures printed { OnOk result (string_bytes printed.new ≡ string_bytes printed.old ++ printed_query query.now) }
-    ensures sound { OnOk result (IsSoundQuery query.now) }
+    // In format 2 what is put is read as the query.
+    ensures reads_back { OnOk result (StandsForQuery Two (printed_query query.now) query.now) }
+    // In format 1 too, where it keeps that format's limits.
+    ensures reads_back_in_one { OnOk result (FitsQuery One query.now → StandsForQuery One (printed_query query.now) query.now) }
 {
     printed.push('{')?;
     push_atoms(printed, query.posts())?;
@@ -169,7 +176,7 @@ fn push_row<A: Allocator>(printed: &mut String<A>, row: &Row<A>) -> Result<(), A
 {
     printed.push_str(row.relation())?;
     printed.push('(')?;
-    push_values(printed, row.values())?;
+    push_listed(printed, row.values())?;
     printed.push(')')?;
     Ok(())
 }
@@ -223,7 +230,23 @@ pub fn print_row<A: Allocator + Copy>(alloc: A, row: &Row<A>) -> Result<String<A
     Ok(printed)
 }
 
-/// Values in brackets as a text, as `(1, "a")`, and `()` where there are none.
+/// Puts values in brackets after what is there, as `(1, "a")`, and `()` where there are none. In proportion to the values.
+///
+/// # Errors
+/// `AllocError` where a growth was refused. A front of the values may have been put then.
+pub fn push_values<A: Allocator>(
+    printed: &mut String<A>,
+    values: &[Value<A>],
+) -> Result<(), AllocError>
+    ensures { OnOk result (string_bytes printed.new ≡ string_bytes printed.old ++ printed_values values.now) }
+{
+    printed.push('(')?;
+    push_listed(printed, values)?;
+    printed.push(')')?;
+    Ok(())
+}
+
+/// Values in brackets as a text, as `push_values` puts them.
 ///
 /// # Errors
 /// `AllocError` where a growth was refused.
@@ -234,8 +257,6 @@ pub fn print_values<A: Allocator + Copy>(
     ensures { IfOk result (λ text. string_bytes text ≡ printed_values values.now) }
 {
     let mut printed = String::new(alloc);
-    printed.push('(')?;
     push_values(&mut printed, values)?;
-    printed.push(')')?;
     Ok(printed)
 }

@@ -11,12 +11,15 @@ use cq_atom::{Bad, Value};
 use std::alloc::{AllocError, Allocator};
 use std::str;
 
+/// For how many bytes a text has room at first, so that it seldom grows.
+const ROOM: usize = 64;
+
 /// What the bytes behind an opening quote stand for, and how many they are with the closing quote.
 fn content<A: Allocator>(alloc: A, bytes: &[u8]) -> Result<Option<(Vec<u8, A>, usize)>, AllocError>
     ensures content { IfOk result (λ found. option_map (λ x. (x.0.items, x.1)) found ≡ content bytes.now) }
     ensures within { IfOk result (λ found. MatchOption found (Unit {0}) (λ x. x.1 ≤ length bytes.now)) }
 {
-    let mut text = Vec::new(alloc);
+    let mut text = Vec::with_capacity(alloc, ROOM)?;
     let mut is_escaped = false;
     for i in 0..bytes.len() {
         let byte = bytes[i];

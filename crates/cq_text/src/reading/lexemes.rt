@@ -120,11 +120,7 @@ fn variable_term<A: Allocator>(alloc: A, word: &str) -> Result<Term<A>, TextFaul
     requires { IsTrue (is_variable_name word.now) }
     ensures { Gives (λ term. term) result (Ok (TermKind.Variable word.now)) }
 {
-    match Term::variable(alloc, word) {
-        Ok(term) => Ok(term),
-        Err(Bad::NoMemory) => Err(TextFault::NoMemory),
-        Err(_) => unreachable!(),
-    }
+    Ok(Term::known_variable(alloc, word)?)
 }
 
 fn word_term<A: Allocator>(alloc: A, word: &Identifier, at: usize) -> Result<Term<A>, TextFault>

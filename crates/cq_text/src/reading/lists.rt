@@ -1,8 +1,9 @@
 //! Reads terms, atoms, rows and queries.
 
-ghost use Rattle.std.specs.Prelude.{◌≤◌, Ok, IfOk, IsTrue, length};
+ghost use Rattle.std.specs.Prelude.{◌≡◌, ◌≤◌, Ok, IfOk, IsTrue, length};
 ghost use Rattle.cq_atom.specs.Text.{is_relation_name};
 ghost use Rattle.cq_atom.specs.Atom.{is_arity};
+ghost use Rattle.cq_atom.specs.Query.{variables_of};
 ghost use Rattle.cq_text.specs.Steps.Lists.{value_at, values_at, row_record, row_at, next_unbound_at, atom_record, term_at, terms_at, applied_at, atom_at, atoms_at, atoms_if_any_at, unbound_at, first_unbound_from, query_record, unbound_fault, bound_query, query_at};
 ghost use Rattle.cq_text.specs.Steps.Lexemes.{Gives, Fails};
 ghost use Rattle.cq_text.specs.Steps.Binding.{binds_both};
@@ -14,8 +15,11 @@ use crate::form::Form;
 use crate::reading::Reader;
 use crate::reading::lexemes::{is_finish, limit, shape, term_in, value_in};
 use crate::token::{Close, Sign};
-use cq_atom::{Atom, Bad, Query, Row, Term, Value};
+use cq_atom::{Atom, Bad, Query, Row, Term, Value, Variables};
 use std::alloc::Allocator;
+
+/// For how many terms, values or atoms a list has room at first: most have no more, and no room is left empty for others.
+const ROOM: usize = 2;
 
 fn new_row<A: Allocator + Clone>(
     alloc: A,
@@ -54,19 +58,17 @@ fn new_query<A: Allocator + Copy>(
     posts: Vec<Atom<A>, A>,
     heads: Vec<Atom<A>, A>,
     body: Vec<Atom<A>, A>,
+    variables: Variables<A>,
 ) -> Result<Query<A>, TextFault>
     requires posts { length posts.items ≤ max_atoms }
     requires some { 1 ≤ length heads.items }
     requires heads { length heads.items ≤ max_atoms }
     requires body { length body.items ≤ max_atoms }
     requires bound { IsTrue (binds_both body.items posts.items heads.items) }
+    requires variables { variables ≡ variables_of body.items }
     ensures { Gives (λ query. query) result (Ok (query_record posts.items heads.items body.items)) }
 {
-    match Query::new(alloc, posts, heads, body) {
-        Ok(query) => Ok(query),
-        Err(Bad::NoMemory) => Err(TextFault::NoMemory),
-        Err(_) => unreachable!(),
-    }
+    Ok(Query::bound(alloc, posts, heads, body, variables)?)
 }
 
 impl<'a, A: Allocator + Copy> Reader<'a, A> {
@@ -90,7 +92,7 @@ impl<'a, A: Allocator + Copy> Reader<'a, A> {
         ensures terms { Gives (λ v. (v.items, self.new)) result (terms_at form self.old) }
         ensures arity { IfOk result (λ v. IsTrue (is_arity (length v.items))) }
     {
-        let mut terms = Vec::new(self.alloc);
+        let mut terms = Vec::with_capacity(self.alloc, ROOM)?;
         'terms: loop {
             let (term, has_more) = self.term(terms.len() < form.max_terms())?;
             terms.push(term)?;
@@ -136,7 +138,7 @@ impl<'a, A: Allocator + Copy> Reader<'a, A> {
         ensures some { IfOk result (λ v. 1 ≤ length v.items) }
         ensures few { IfOk result (λ v. length v.items ≤ max_atoms) }
     {
-        let mut atoms = Vec::new(self.alloc);
+        let mut atoms = Vec::with_capacity(self.alloc, ROOM)?;
         'atoms: loop {
             let (atom, has_more) = self.atom(form, close, atoms.len() < form.max_atoms())?;
             atoms.push(atom)?;
@@ -178,7 +180,7 @@ impl<'a, A: Allocator + Copy> Reader<'a, A> {
         ensures values { Gives (λ v. (v.items, self.new)) result (values_at form self.old) }
         ensures arity { IfOk result (λ v. IsTrue (is_arity (length v.items))) }
     {
-        let mut values = Vec::new(self.alloc);
+        let mut values = Vec::with_capacity(self.alloc, ROOM)?;
         'values: loop {
             let (value, has_more) = self.value(values.len() < form.max_terms())?;
             values.push(value)?;
@@ -266,8 +268,9 @@ impl<'a, A: Allocator + Copy> Reader<'a, A> {
         requires body { length body.items ≤ max_atoms }
         ensures { Gives (λ query. query) result (bound_query posts.items heads.items body.items self.old) }
     {
-        if binds_both(&body, &posts, &heads) {
-            new_query(self.alloc, posts, heads, body)
+        let variables = Variables::of(self.alloc, &body)?;
+        if binds_both(&variables, &posts, &heads) {
+            new_query(self.alloc, posts, heads, body, variables)
         } else {
             Err(self.unbound_fault(&body))
         }

@@ -10,7 +10,7 @@ use Rattle.cq_text.proofs.printing.push_row.Goals as goal
 
 pub returns-clause-printed : goal.returns-clause-printed
 returns-clause-printed g c =
-    rw (c.in_ok-push-2.ensures.bytes, c.in_ok-push_values.ensures.printed, c.in_ok-push.ensures.bytes, c.in_ok-push_str.ensures.bytes, c.relation.ensures.value, c.values.ensures.value, encode_ascii 40 (omega arith), encode_ascii 41 (omega arith))
+    rw (c.in_ok-push-2.ensures.bytes, c.in_ok-push_listed.ensures.printed, c.in_ok-push.ensures.bytes, c.in_ok-push_str.ensures.bytes, c.relation.ensures.value, c.values.ensures.value, encode_ascii 40 (omega arith), encode_ascii 41 (omega arith))
     (four_parts (string_bytes c.args.printed.now) c.args.row.now.relation (codes "(") (join_by printed_value (codes ", ") c.args.row.now.values) (codes ")"))
 
 pub returns-clause-sound : goal.returns-clause-sound
@@ -18,5 +18,5 @@ returns-clause-sound g c = record {
   relation = subst (λ (w : List ℕ). IsTrue (is_relation_name w)) c.relation.ensures.value c.relation.ensures.valid;
   some = c.values.ensures.some;
   few = c.values.ensures.few;
-  values = subst (λ (xs : List ValueContent). All IsValue xs) c.values.ensures.value c.in_ok-push_values.ensures.sound;
+  values = subst (λ (xs : List ValueContent). All IsValue xs) c.values.ensures.value c.in_ok-push_listed.ensures.sound;
 }

@@ -9,12 +9,12 @@ pub atoms-init : goal.atoms-init
 unfolding atoms_at
 atoms-init g c = record {
   few = search rules;
-  goes_on = begins (atom_at c.args.form c.args.close) (most_atoms c.args.form) c.new-atoms.result.items (vec_len c.new-atoms.result) c.args.self.now c.new-atoms.ensures.items c.new-atoms.ensures.len;
+  goes_on = begins (atom_at c.args.form c.args.close) (most_atoms c.args.form) c.in_ok-atoms.atoms.items (vec_len c.in_ok-atoms.atoms) c.args.self.now c.in_ok-atoms.ensures.items c.in_ok-atoms.ensures.len;
 }
 
 pub returns-in_err-atom-clause-atoms : goal.returns-in_err-atom-clause-atoms
 returns-in_err-atom-clause-atoms g c =
-    let p = err_from_is_err_and c.from_residual.result c.from_residual.ensures.1 in
+    let p = err_from_is_err_and c.from_residual-in_err-atom.result c.from_residual-in_err-atom.ensures.1 in
     let h = rw (c.len.ensures, c.max_atoms.ensures) at c.in_err-atom.ensures in
     rw (p.1, p.2) (step_fails (atom_at c.args.form c.args.close) c.in_err-atom.field-0.0 (most_atoms c.args.form) c.atoms.atoms.items (vec_len c.atoms.atoms) c.atoms.self (atoms_at c.args.form c.args.close c.args.self.now) (atom_needs c.args.form c.args.close) c.atoms.invariant.few c.atoms.invariant.goes_on h)
 

@@ -9,12 +9,12 @@ pub terms-init : goal.terms-init
 unfolding terms_at
 terms-init g c = record {
   few = search rules;
-  goes_on = begins term_at (most_terms c.args.form) c.new-terms.result.items (vec_len c.new-terms.result) c.args.self.now c.new-terms.ensures.items c.new-terms.ensures.len;
+  goes_on = begins term_at (most_terms c.args.form) c.in_ok-terms.terms.items (vec_len c.in_ok-terms.terms) c.args.self.now c.in_ok-terms.ensures.items c.in_ok-terms.ensures.len;
 }
 
 pub returns-in_err-term-clause-terms : goal.returns-in_err-term-clause-terms
 returns-in_err-term-clause-terms g c =
-    let p = err_from_is_err_and c.from_residual.result c.from_residual.ensures.1 in
+    let p = err_from_is_err_and c.from_residual-in_err-term.result c.from_residual-in_err-term.ensures.1 in
     let h = rw (c.len.ensures, c.max_terms.ensures) at c.in_err-term.ensures in
     rw (p.1, p.2) (step_fails term_at c.in_err-term.field-0.0 (most_terms c.args.form) c.terms.terms.items (vec_len c.terms.terms) c.terms.self (terms_at c.args.form c.args.self.now) term_needs c.terms.invariant.few c.terms.invariant.goes_on h)
 

@@ -9,12 +9,12 @@ pub values-init : goal.values-init
 unfolding values_at
 values-init g c = record {
   few = search rules;
-  goes_on = begins value_at (most_terms c.args.form) c.new-values.result.items (vec_len c.new-values.result) c.args.self.now c.new-values.ensures.items c.new-values.ensures.len;
+  goes_on = begins value_at (most_terms c.args.form) c.in_ok-values.values.items (vec_len c.in_ok-values.values) c.args.self.now c.in_ok-values.ensures.items c.in_ok-values.ensures.len;
 }
 
 pub returns-in_err-value-clause-values : goal.returns-in_err-value-clause-values
 returns-in_err-value-clause-values g c =
-    let p = err_from_is_err_and c.from_residual.result c.from_residual.ensures.1 in
+    let p = err_from_is_err_and c.from_residual-in_err-value.result c.from_residual-in_err-value.ensures.1 in
     let h = rw (c.len.ensures, c.max_terms.ensures) at c.in_err-value.ensures in
     rw (p.1, p.2) (step_fails value_at c.in_err-value.field-0.0 (most_terms c.args.form) c.values.values.items (vec_len c.values.values) c.values.self (values_at c.args.form c.args.self.now) value_needs c.values.invariant.few c.values.invariant.goes_on h)
 

@@ -3,9 +3,9 @@ use Rattle.std.proofs.Common.{sym, ◌∙◌, ap, map, fold, drop, ◌+◌}
 use Rattle.std.specs.List.{filter_map}
 use Rattle.cq_atom.specs.Atom.{variable_of}
 use Rattle.cq_atom.specs.Steps.Variables.{with_variable}
-use Rattle.cq_atom.proofs.Variables.{fold-variable, fold-constant}
-use Rattle.cq_atom.proofs.query.add_variables.Goals as goal
-use Rattle.cq_atom.proofs.query.add_variables.Goals.{in-Some+in_ok-add_variable, in_default}
+use Rattle.cq_atom.proofs.Firsts.{fold-variable, fold-constant}
+use Rattle.cq_atom.proofs.variables.add_variables.Goals as goal
+use Rattle.cq_atom.proofs.variables.add_variables.Goals.{in-Some+in_ok-add_variable, in_default}
 
 pub loop-term-preserved : goal.loop-term-preserved
 loop-term-preserved g c =

@@ -1,7 +1,7 @@
 use Rattle.std.specs.Prelude.{string_bytes}
 use Rattle.std.proofs.Common.{sym, ◌∙◌}
-use Rattle.cq_atom.proofs.Variables.{with_variable-old, with_variable-new}
-use Rattle.cq_atom.proofs.query.add_variable.Goals as goal
+use Rattle.cq_atom.proofs.Firsts.{with_variable-old, with_variable-new}
+use Rattle.cq_atom.proofs.variables.add_variable.Goals as goal
 
 pub returns-in_ok-push : goal.returns-in_ok-push
 returns-in_ok-push g c =

@@ -5,7 +5,7 @@ use Rattle.std.proofs.lemmas.List.Elements.{All-more}
 use Rattle.cq_atom.specs.Value.{ValueContent, IsValue}
 use Rattle.cq_text.specs.Print.{printed_value}
 use Rattle.cq_text.proofs.PrintedItems.{item_more}
-use Rattle.cq_text.proofs.printing.push_values.Goals as goal
+use Rattle.cq_text.proofs.printing.push_listed.Goals as goal
 
 pub loop-place-preserved : goal.loop-place-preserved
 loop-place-preserved g c = record {

@@ -4,7 +4,7 @@ use Rattle.std.proofs.Common.{◌≡◌, map, fold, drop}
 use Rattle.cq_atom.specs.Atom.{variable_of}
 use Rattle.cq_atom.specs.Query.{occurrences}
 use Rattle.cq_atom.specs.Steps.Variables.{with_variable}
-use Rattle.cq_atom.proofs.query.add_variables.Given as goal
+use Rattle.cq_atom.proofs.variables.add_variables.Given as goal
 
 abbrev pub invariant-loop-term : goal.invariant-loop-term
 invariant-loop-term g l =
