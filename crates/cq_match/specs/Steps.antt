@@ -1,4 +1,5 @@
 pub mod Falls
+pub mod Counts
 pub mod Kept
 pub mod Places
 pub mod Settle

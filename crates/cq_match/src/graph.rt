@@ -6,7 +6,7 @@ ghost use Rattle.std.specs.Result.{is_ok};
 ghost use Rattle.cq_match.specs.Graph.{leads_to};
 ghost use Rattle.cq_match.specs.Steps.Kept.{is_live, edges_left, count_at};
 
-use crate::marks::Counts;
+use crate::counts::Counts;
 use std::alloc::{AllocError, Allocator};
 use std::marker::Model;
 

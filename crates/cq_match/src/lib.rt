@@ -18,6 +18,7 @@
 //! Not here: whose head supplies which postcondition, which is said of atoms, and names.
 #![tactic(auto)]
 
+mod counts;
 mod edge;
 mod falls;
 mod graph;

@@ -5,98 +5,10 @@ ghost use Rattle.std.specs.List.{list_any};
 ghost use Rattle.cq_match.specs.Steps.Settle.{stands};
 ghost use Rattle.cq_match.specs.Steps.Kept.{place_at, count_at, edges_left, edges_from, feeds_post, busy, was_raised, OutsFit, Pruning, Counting, Grown, Reaches, Reaching, Settled, Closed};
 
+use crate::counts::Counts;
 use crate::graph::{Graph, is_live};
 use cq_atom::Meter;
 use std::alloc::{AllocError, Allocator};
-use std::marker::Model;
-
-/// For each postcondition of a node, how many edges to it are counted.
-#[derive(Drop)]
-pub(crate) struct Counts<A: Allocator> {
-    counts: Vec<usize, A>,
-}
-
-impl<A: Allocator> Model for Counts<A> {
-    ghost use Rattle.std.specs.Prelude.{List, ℕ};
-
-    ghost Value = { List ℕ };
-
-    ghost view = { λ counts. counts.counts.items };
-}
-
-impl<A: Allocator> Counts<A> {
-    /// No postconditions.
-    pub(crate) fn none(alloc: A) -> Counts<A>
-        ensures { result ≡ [] }
-    {
-        Counts {
-            counts: Vec::new(alloc),
-        }
-    }
-
-    /// Nothing counted of so many postconditions.
-    pub(crate) fn zeros(alloc: A, posts: u8) -> Result<Counts<A>, AllocError>
-        ensures { IfOk result (λ counts. counts ≡ replicate posts 0) }
-    {
-        let counts = vec![in alloc; 0usize; usize::from(posts)]?;
-        Ok(Counts { counts })
-    }
-
-    /// How many edges to the postcondition are counted, 0 where there is no such postcondition.
-    pub(crate) fn at(&self, post: usize) -> usize
-        ensures { result ≡ slice_index self.now post }
-    {
-        match self.counts.get(post) {
-            Some(count) => *count,
-            None => 0,
-        }
-    }
-
-    /// Counts one edge less, and tells whether none is left.
-    pub(crate) fn lower(&mut self, post: usize) -> bool
-        requires within { post < length self.old }
-        requires counted { 1 ≤ slice_index self.old post }
-        ensures lowered { self.new ≡ slice_set self.old post (slice_index self.old post - 1) }
-        ensures none { result ≡ (slice_index self.old post - 1 == 0) }
-    {
-        self.counts[post] -= 1;
-        self.counts[post] == 0
-    }
-
-    /// Counts one edge more.
-    pub(crate) fn raise(&mut self, post: usize)
-        requires within { post < length self.old }
-        requires fits { slice_index self.old post < usize.MAX }
-        ensures { self.new ≡ slice_set self.old post (slice_index self.old post + 1) }
-    {
-        self.counts[post] += 1;
-    }
-
-    /// Lets all postconditions go, and keeps the room.
-    pub(crate) fn clear(&mut self)
-        ensures { self.new ≡ [] }
-    {
-        self.counts.clear();
-    }
-
-    /// Whether some postcondition has no counted edge.
-    pub(crate) fn has_none(&self) -> bool
-        ensures { result ≡ list_any (λ count. count == 0) self.now }
-    {
-        self.counts.iter().any(|count| *count == 0)
-    }
-}
-
-impl<A: Allocator + Clone> Clone for Counts<A> {
-    ghost use Rattle.std.specs.Prelude.{◌≡◌};
-
-    ghost is_clone = { λ a b. b ≡ a };
-
-    fn clone(&self) -> Result<Counts<A>, AllocError> {
-        let counts = self.counts.clone()?;
-        Ok(Counts { counts })
-    }
-}
 
 /// What is known of the nodes by their places.
 #[derive(Drop)]

@@ -10,9 +10,10 @@ ghost use Rattle.cq_match.specs.Matched.{is_matched, numbers};
 ghost use Rattle.cq_match.specs.Matcher.{nothing, has_node, with_flag, without, with_number, is_apart, lost, leaves, waiter_cmp};
 ghost use Rattle.cq_match.specs.Steps.Kept.{is_able, nodes_from, edges_from, marked_from, IsKept};
 
+use crate::counts::Counts;
 use crate::edge::Edge;
 use crate::graph::{Graph, Leaving, Out, Place, lower_totals};
-use crate::marks::{Counts, Marks};
+use crate::marks::Marks;
 use crate::showing::{copied_graph, copied_marks, waiters_of};
 use cq_atom::Meter;
 use std::alloc::{AllocError, Allocator, Global};
@@ -96,10 +97,10 @@ fn grow<A: Allocator + Copy>(
     marks.reserve_place(graph.places.len() + 1)?;
     graph.places.push_reserved(FREE);
     graph.leaving.push_reserved(Leaving::new(alloc));
-    graph.totals.push_reserved(Counts::none(alloc));
+    graph.totals.push_reserved(Counts::none());
     marks.matched.push_reserved(false);
     marks.raised.push_reserved(false);
-    marks.counts.push_reserved(Counts::none(alloc));
+    marks.counts.push_reserved(Counts::none());
     Ok(())
 }
 
