@@ -27,6 +27,9 @@ mod ViewSeats
 mod Waited
 mod Told
 mod Missing
+mod Nearest
+mod Apart
+mod Grouped
 mod Waiters
 pub mod Placed
 pub mod Linked

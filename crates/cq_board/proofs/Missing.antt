@@ -1,22 +1,18 @@
 -- Heads that nearly supply a postcondition, as they are found.
-use Rattle.std.proofs.Common.{◌≡◌, ℕ, zero, suc, ◌+◌, ◌<◌, inl, inr, Bool, if◌then◌else◌, List, [], ◌∷◌, ◌++◌, length, map, take, get_or, refl, sym, ap, subst, ◌∙◌, arith, append_assoc}
+use Rattle.std.proofs.Common.{◌≡◌, ℕ, zero, suc, ◌+◌, ◌<◌, inl, inr, Bool, if◌then◌else◌, List, [], ◌∷◌, ◌++◌, length, map, take, get_or, sym, ap, subst, ◌∙◌, arith, append_assoc}
 use Rattle.std.specs.List.{flat_map, enumerate_from}
 use Rattle.std.proofs.lemmas.List.{append-nil, map-append, take_more, length-take}
 use Rattle.std.proofs.Math.ListN.{length-map}
 use Rattle.cq_atom.specs.Atom.{TermContent, AtomRecord}
-use Rattle.cq_findings.specs.Findings.{FindingMap}
 use Rattle.std.specs.Prelude.{Option, Some, None}
 use Rattle.std.specs.List.{Contains}
 use Rattle.std.specs.Option.{option_map_or}
 use Rattle.std.proofs.lemmas.List.Sorted.{Contains-permutation, IsPermutation-sym}
 use Rattle.std.proofs.lemmas.Option.{slice_get_within}
-use Rattle.cq_roster.specs.Roster.{SeatRecord}
 use Rattle.cq_board.specs.Near.{differ, differences, misses, miss_if, misses_of, post_named, misses_named, AreNearest}
-use Rattle.cq_board.specs.Steps.Stores.{pending_of}
 use Rattle.cq_board.proofs.Among.{Contains-In, In-Contains}
 use Rattle.cq_board.proofs.Ends.{In-get_or, In-enumerate}
 use Rattle.cq_board.specs.Pool.{PendingQuery}
-use Rattle.cq_board.specs.Steps.Near.{misses_at}
 use Rattle.cq_board.proofs.Members.{In, by_bool, In-flat_map_gives}
 
 one-more : (ss ts : List TermContent) (i : ℕ) (d e : TermContent) → i < length ss → length ss ≡ length ts
@@ -76,15 +72,7 @@ pub counts_none : (b : Bool) (before after : ℕ) → b ≡ Bool.false → after
 counts_none Bool.true before after e is = absurd (let never : Bool.true ≡ Bool.false = e in cc)
 counts_none Bool.false before after e is = let back : after ≡ before + 0 = omega arith in back
 
--- ---- the heads that miss, as the board has them
-
-misses-from : (wanted : AtomRecord) (m : FindingMap) (seats : List SeatRecord) (n : ℕ)
-    → flat_map (misses_at wanted m) (enumerate_from n (map (λ s. s.place) seats)) ≡ flat_map (λ p. flat_map (miss_if wanted p.0) (enumerate_from 0 p.1.query.heads)) (enumerate_from n (pending_of seats m))
-misses-from wanted m [] n = refl
-misses-from wanted m (s ∷ seats) n = ap (λ ys. misses_at wanted m (n, s.place) ++ ys) (misses-from wanted m seats (n + 1))
-
-pub misses-shown : (wanted : AtomRecord) (m : FindingMap) (seats : List SeatRecord) → flat_map (misses_at wanted m) (enumerate_from 0 (map (λ s. s.place) seats)) ≡ misses_of wanted (pending_of seats m)
-misses-shown wanted m seats = misses-from wanted m seats 0
+-- ---- the places of heads that miss
 
 miss-low : (wanted : AtomRecord) (pending : List PendingQuery) (miss : ℕ × ℕ × ℕ) → In miss (misses_of wanted pending) → miss.1 < length pending
 miss-low wanted pending miss h =

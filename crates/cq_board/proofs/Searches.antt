@@ -15,7 +15,7 @@ use Rattle.cq_board.proofs.Members.{by_bool, In, In-left, In-right, any_gives, a
 
 -- ---- values
 
-same_value_true : (c d : ValueContent) → same_value c d ≡ true → c ≡ d
+pub same_value_true : (c d : ValueContent) → same_value c d ≡ true → c ≡ d
 same_value_true (Number (pos m)) (Number (pos n)) t = ap (λ k. Number (pos k)) (eqb-true m n t)
 same_value_true (Number (pos m)) (Number (negsuc n)) t = cc
 same_value_true (Number (negsuc m)) (Number (pos n)) t = cc

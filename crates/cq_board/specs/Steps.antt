@@ -6,5 +6,7 @@ pub mod Stores
 pub mod Scratch
 pub mod Flags
 pub mod Waiting
-pub mod Near
+pub mod Linear
+pub mod Nearest
+pub mod Heads
 pub mod Left

@@ -17,8 +17,10 @@
 mod board;
 mod choice;
 mod edit;
+mod heads;
 mod laws;
 mod limits;
+mod linear;
 mod link;
 mod near;
 mod pending;
@@ -35,6 +37,7 @@ mod work;
 pub use board::Board;
 pub use choice::Choice;
 pub use edit::{Edit, EditKind, Why};
+pub use heads::Heads;
 pub use laws::{pools_stay_good, unifies_is_unify};
 pub use limits::Limits;
 pub use link::{Crowd, Link};

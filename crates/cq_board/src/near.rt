@@ -1,19 +1,14 @@
 //! Which heads nearly supply a postcondition.
 
-ghost use Rattle.std.specs.Prelude.{◌≡◌, ◌<◌, ◌≤◌, ◌++◌, ℕ, List, length, map, IfOk, OnOk};
-ghost use Rattle.std.specs.List.{All, flat_map, enumerate_from};
-ghost use Rattle.std.specs.Option.{option_copied};
-ghost use Rattle.cq_atom.specs.declared.limits.TheConstants.{MAX_ATOMS};
+ghost use Rattle.std.specs.Prelude.{◌≡◌, ◌<◌, ◌≤◌, ◌++◌, ◌∷◌, [], ℕ, List, length, map, not, true, IsTrue, IfOk, OnOk};
+ghost use Rattle.std.specs.List.{All, AllPairs, flat_map, prefix_len};
 ghost use Rattle.cq_board.specs.Pool.{PendingQuery, name_of};
-ghost use Rattle.cq_board.specs.Near.{differ, differences, misses, miss_if, misses_of, AreNearest, miss_named, miss_read, post_named, misses_named};
-ghost use Rattle.cq_board.specs.Steps.Near.{misses_at};
+ghost use Rattle.cq_board.specs.Near.{differ, differences, misses, AreNearest, miss_named, miss_read};
+ghost use Rattle.cq_board.specs.Steps.Nearest.{head_read, is_nearer, IsEarlier, miss_at};
 
-use crate::board::Board;
 use crate::supply::supplies;
 use crate::views::name_of;
 use cq_atom::{Atom, Meter, Name, Term};
-use cq_findings::Findings;
-use cq_roster::Seat;
 use std::alloc::{AllocError, Allocator};
 
 /// A head that does not unify with a postcondition of its relation and arity, over what holds a name.
@@ -62,80 +57,90 @@ fn misses<A: Allocator>(wanted: &Atom<A>, head: &Atom<A>) -> bool
         && !supplies(head, wanted, &mut Meter::new())
 }
 
-/// Adds the head, where it misses the postcondition.
-fn add_miss<A: Allocator>(
-    found: &mut Vec<(usize, usize, u8), A>,
-    wanted: &Atom<A>,
-    place: usize,
-    head: u8,
-    offered: &Atom<A>,
-) -> Result<(), AllocError>
-    ensures { OnOk result (found.new.items ≡ found.old.items ++ miss_if wanted.now place (head, offered.now)) }
+/// A head of a pending query, over what holds an atom: the number of the query in posting order, and the place among its heads.
+#[derive(Clone, Copy, Drop)]
+pub(crate) struct Head<T> {
+    pub(crate) number: usize,
+    pub(crate) place: u8,
+    pub(crate) atom: T,
+}
+
+/// Whether the one miss comes before the other: by differences, then by posting, then by head.
+fn is_nearer(one: &(usize, usize, u8), other: &(usize, usize, u8)) -> bool
+    ensures { result ≡ is_nearer one.now other.now }
 {
-    if misses(wanted, offered) {
-        found.push((differences(offered.terms(), wanted.terms()), place, head))?;
+    one < other
+}
+
+/// The place of a miss among sorted ones: behind those that it is not nearer than.
+fn place_for(kept: &[(usize, usize, u8)], miss: &(usize, usize, u8)) -> usize
+    ensures { result ≡ prefix_len (λ other. not (is_nearer miss.now other)) kept.now }
+{
+    kept.iter()
+        .take_while(|other| !is_nearer(miss, other))
+        .count()
+}
+
+/// Keeps the nearest of those that are kept and of one more.
+fn keep_miss<A: Allocator>(
+    kept: &mut Vec<(usize, usize, u8), A>,
+    miss: (usize, usize, u8),
+) -> Result<(), AllocError>
+    ensures { (all : List (ℕ × ℕ × ℕ)) → AreNearest all kept.old.items → OnOk result (AreNearest (all ++ miss ∷ []) kept.new.items) }
+{
+    let place = place_for(kept, &miss);
+    kept.insert(place, miss)?;
+    kept.truncate(MOST);
+    Ok(())
+}
+
+/// The same, where the head misses the postcondition.
+fn keep_head<A: Allocator>(
+    kept: &mut Vec<(usize, usize, u8), A>,
+    wanted: &Atom<A>,
+    head: &Head<&Atom<A>>,
+) -> Result<(), AllocError>
+    ensures { (all : List (ℕ × ℕ × ℕ)) → AreNearest all kept.old.items → OnOk result (AreNearest (all ++ miss_at wanted.now (head_read head.now)) kept.new.items) }
+{
+    if misses(wanted, head.atom) {
+        let differences = differences(head.atom.terms(), wanted.terms());
+        keep_miss(kept, (differences, head.number, head.place))?;
     }
     Ok(())
 }
 
-/// Adds the heads that miss the postcondition.
-fn add_misses<A: Allocator>(
-    found: &mut Vec<(usize, usize, u8), A>,
-    wanted: &Atom<A>,
-    place: usize,
-    heads: &[Atom<A>],
-) -> Result<(), AllocError>
-    requires { length heads.now ≤ MAX_ATOMS }
-    ensures { OnOk result (found.new.items ≡ found.old.items ++ flat_map (miss_if wanted.now place) (enumerate_from 0 heads.now)) }
+/// Whether as many misses are kept as are told, each with so few differences.
+fn is_settled(kept: &[(usize, usize, u8)], least: usize) -> bool
+    ensures many { IsTrue result → length kept.now ≡ 3 }
+    ensures few { IsTrue result → All (λ miss. miss.0 ≤ least) kept.now }
 {
-    for head in 0..heads.len() {
-        add_miss(found, wanted, place, head as u8, &heads[head])?;
-    }
-    Ok(())
+    kept.len() == MOST && kept.iter().all(|miss| miss.0 <= least)
 }
 
-/// Adds the heads that miss the postcondition, of the query at the place, which has that number.
-fn add_misses_at<A: Allocator + Copy>(
-    found: &mut Vec<(usize, usize, u8), A>,
-    wanted: &Atom<A>,
-    findings: &Findings<A>,
-    number: usize,
-    place: usize,
-) -> Result<(), AllocError>
-    ensures { OnOk result (found.new.items ≡ found.old.items ++ misses_at wanted.now findings.now (number, place)) }
-{
-    match findings.query(place) {
-        Some(query) => add_misses(found, wanted, number, query.heads()),
-        None => Ok(()),
-    }
-}
-
-/// All heads of the queries at the places of the seats that miss the postcondition.
-fn all_misses<A: Allocator + Copy>(
+/// The nearest of the heads that miss the postcondition. The heads stand in posting order, and each that misses differs at
+/// so many places at least: so heads that come later are not looked at once those that are kept differ at no more.
+pub(crate) fn nearest_of<A: Allocator>(
     alloc: A,
-    findings: &Findings<A>,
-    seats: &[&Seat<Name<A>>],
     wanted: &Atom<A>,
+    heads: &[Head<&Atom<A>>],
+    least: usize,
 ) -> Result<Vec<(usize, usize, u8), A>, AllocError>
-    ensures { IfOk result (λ found. found.items ≡ flat_map (misses_at wanted.now findings.now) (enumerate_from 0 (map (λ s. s.now.place) seats.now))) }
+    requires rising { AllPairs (λ g h. IsEarlier (head_read g) (head_read h)) heads.now }
+    requires least { All (λ h. misses wanted.now h.atom.now ≡ true → least ≤ differences h.atom.now.terms wanted.now.terms) heads.now }
+    ensures { IfOk result (λ kept. AreNearest (flat_map (miss_at wanted.now) (map head_read heads.now)) kept.items) }
 {
-    let mut found = Vec::new(alloc);
-    for number in 0..seats.len() {
-        add_misses_at(&mut found, wanted, findings, number, seats[number].place)?;
+    let mut kept = Vec::with_capacity(alloc, MOST + 1)?;
+    for head in heads {
+        if is_settled(&kept, least) {
+            break;
+        }
+        keep_head(&mut kept, wanted, head)?;
     }
-    Ok(found)
-}
-
-/// Keeps the first of them, sorted by differences, posting, head.
-fn keep_nearest<A: Allocator>(found: &mut Vec<(usize, usize, u8), A>)
-    ensures { AreNearest found.old.items found.new.items }
-{
-    found.sort_unstable_by_key(|miss| (miss.0, miss.1, miss.2));
-    found.truncate(MOST);
+    Ok(kept)
 }
 
 /// The misses by the names of their queries.
-fn named<'a, A: Allocator>(
+pub(crate) fn named<'a, A: Allocator>(
     alloc: A,
     names: &[&'a Name<A>],
     found: &[(usize, usize, u8)],
@@ -152,53 +157,4 @@ fn named<'a, A: Allocator>(
         })?;
     }
     Ok(near)
-}
-
-impl<A: Allocator + Copy> Board<A> {
-    /// The postcondition of the pending query of that name, counted from 0.
-    fn post_of(&self, name: &Name<A>, post: u8) -> Option<&Atom<A>>
-        ensures { option_copied result ≡ post_named name.now post self.now.pending }
-    {
-        let query = self.query(name)?;
-        query.posts().get(usize::from(post))
-    }
-
-    /// All heads of pending queries that miss the postcondition, by the numbers of their queries in posting order.
-    fn misses_of(&self, wanted: &Atom<A>) -> Result<Vec<(usize, usize, u8), A>, AllocError>
-        ensures { IfOk result (λ found. found.items ≡ misses_of wanted.now self.now.pending) }
-    {
-        let stores = self.stores();
-        let seats = stores.roster.in_order()?;
-        all_misses(self.allocator(), &stores.findings, &seats, wanted)
-    }
-
-    /// The same of the postcondition of the pending query of that name; none where there is no such postcondition.
-    fn misses(&self, name: &Name<A>, post: u8) -> Result<Vec<(usize, usize, u8), A>, AllocError>
-        ensures { IfOk result (λ found. found.items ≡ misses_named name.now post self.now.pending) }
-    {
-        match self.post_of(name, post) {
-            Some(wanted) => self.misses_of(wanted),
-            None => Ok(Vec::new(self.allocator())),
-        }
-    }
-
-    /// What looks like a typing error at a postcondition of the pending query of that name, counted from 0: of the heads of
-    /// pending queries that have its relation and arity and do not unify with it, the first three, by the number of places
-    /// where two constants differ, then by posting, then by head. None where no such query is pending or it has no such
-    /// postcondition. One pass over the heads of the pool, and sorting what is found.
-    ///
-    /// # Errors
-    /// `AllocError` where a growth was refused.
-    pub fn near_misses(
-        &self,
-        name: &Name<A>,
-        post: u8,
-    ) -> Result<Vec<NearMiss<&Name<A>>, A>, AllocError>
-        ensures { IfOk result (λ near. (nearest : List (ℕ × ℕ × ℕ)) × AreNearest (misses_named name.now post self.now.pending) nearest × (map (miss_read (λ name. name.now)) near.items ≡ map (miss_named self.now.pending) nearest)) }
-    {
-        let mut found = self.misses(name, post)?;
-        keep_nearest(&mut found);
-        let names = self.names()?;
-        named(self.allocator(), &names, &found)
-    }
 }

@@ -20,23 +20,25 @@ use crate::listing::{Listing, name_or_none};
 use crate::numbering::{Numbers, numbers_of};
 use crate::resting::{edges_into, part_at, place_in, places_of};
 use cq_atom::{Atom, Bad, Name};
-use cq_board::{Board, NearMiss};
+use cq_board::{Board, Heads, NearMiss};
 use cq_match::{Edge, Fall, Reason};
 use cq_text::print_atom;
 use std::alloc::{AllocError, Allocator};
 
-/// A board, the names of its pending queries in posting order, all edges, and the falls of the queries that wait; the number of
-/// each name, and the place of each fall by its number.
+/// A board, the names of its pending queries in posting order, all edges, their heads by relation and arity, and the falls of
+/// the queries that wait; the number of each name, and the place of each fall by its number.
 #[derive(Drop)]
 struct Fallen<'a, 'n, A: Allocator> {
     board: &'a Board<A>,
     names: &'a [&'a Name<A>],
     edges: &'a [Edge],
+    heads: &'a Heads<'n, A>,
     falls: &'a [Fall],
     numbers: &'a Numbers<'n, A>,
     places: &'a [usize],
     ghost named: { map (λ name. name.now) names.now ≡ map name_of board.now.pending },
     ghost listed: { edges.now ≡ edges_of board.now.pending },
+    ghost offered: { heads.now ≡ board.now },
     ghost numbered: { (name : List ℕ) → get_by (λ k. bytes_eq name k.now) numbers.now ≡ place_of name board.now.pending },
     ghost placed: { ArePlaces falls.now places.now },
 }
@@ -126,14 +128,14 @@ fn missing_words<A: Allocator + Copy>(
 /// What is told of a postcondition that has no provider.
 fn missing<A: Allocator + Copy>(
     alloc: A,
-    board: &Board<A>,
+    fallen: &Fallen<'_, '_, A>,
     name: &Name<A>,
     post: u8,
 ) -> Result<String<A>, AllocError>
-    ensures { IfOk result (λ text. IsUnmetTold board.now.pending name.now post [] (string_bytes text)) }
+    ensures { IfOk result (λ text. IsUnmetTold fallen.now.board.now.pending name.now post [] (string_bytes text)) }
 {
-    let near = board.near_misses(name, post)?;
-    missing_words(alloc, board, &near)
+    let near = fallen.heads.near_misses(name, post)?;
+    missing_words(alloc, fallen.board, &near)
 }
 
 /// The numbers of the queries from which those of the edges come that lead to a postcondition at that place.
@@ -197,15 +199,15 @@ fn only_words<A: Allocator + Copy>(alloc: A, names: &[&str]) -> Result<String<A>
 /// What is told of an unmet postcondition, by its providers.
 fn unmet<A: Allocator + Copy>(
     alloc: A,
-    board: &Board<A>,
+    fallen: &Fallen<'_, '_, A>,
     name: &Name<A>,
     post: u8,
     providers: &[&str],
 ) -> Result<String<A>, AllocError>
-    ensures { IfOk result (λ text. IsUnmetTold board.now.pending name.now post (map (λ name. name.now) providers.now) (string_bytes text)) }
+    ensures { IfOk result (λ text. IsUnmetTold fallen.now.board.now.pending name.now post (map (λ name. name.now) providers.now) (string_bytes text)) }
 {
     if providers.is_empty() {
-        missing(alloc, board, name, post)
+        missing(alloc, fallen, name, post)
     } else {
         only_words(alloc, providers)
     }
@@ -226,7 +228,7 @@ fn unmet_words<A: Allocator + Copy>(
         names: fallen.names,
     };
     let names = names_of(alloc, &listing, providers)?;
-    unmet(alloc, fallen.board, name, post, &names)
+    unmet(alloc, fallen, name, post, &names)
 }
 
 fn post_reason<A: Allocator + Copy>(
@@ -418,6 +420,7 @@ fn put_words<A: Allocator + Copy>(
 {
     let names = board.names()?;
     let edges = board.edges_by_place()?;
+    let heads = board.heads()?;
     let falls = board.falls()?;
     let numbers = numbers_of(alloc, &names)?;
     let places = places_of(alloc, &falls, names.len())?;
@@ -425,6 +428,7 @@ fn put_words<A: Allocator + Copy>(
         board,
         names: &names,
         edges: &edges,
+        heads: &heads,
         falls: &falls,
         numbers: &numbers,
         places: &places,
@@ -452,7 +456,7 @@ fn waiting<'a, A: Allocator + Copy>(
 /// Why queries of a board wait, told of each of the words in their order. Of a name under which a query waits it is a line
 /// `NAME waits`, and below it a line for each query on which that one rests, itself last, with its reason; of a name under which
 /// a query is matched a line that says so; nothing of any other word. All queries fall once, in the time of [`Board::falls`]; then
-/// each line has the time of its providers, up to sorting, and where there is none, that of [`Board::near_misses`].
+/// each line has the time of its providers, up to sorting, and where there is none, that of [`Heads::near_misses`].
 ///
 /// # Errors
 /// `AllocError` where a growth was refused.

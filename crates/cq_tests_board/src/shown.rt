@@ -241,13 +241,15 @@ enum About {
     Waits,
     /// The heads that nearly supply that postcondition.
     Near(u8),
+    /// Those that nearly supply the first two postconditions, by heads that are made once.
+    BothNear,
 }
 
 /// The look of these words, which are as the variants of `Look` in small letters.
 ///
 /// - `counts`, `names`, `numbered`, `edges`, `matched`, `crowded`, `falls`.
 /// - `name 2`: the name at that place.
-/// - `query kramer`, `waits kramer`, `near 1 kramer`: something about the query of that name, its postcondition 1.
+/// - `query kramer`, `waits kramer`, `near 1 kramer`, `nears kramer`: something about the query of that name, its postcondition 1.
 fn look_of(words: &str) -> Option<Look<'_>> {
     match words {
         "counts" => Some(Look::Counts),
@@ -269,6 +271,7 @@ fn look_with(words: &str) -> Option<Look<'_>> {
         "query" => Some(Look::Of(with, About::Itself)),
         "waits" => Some(Look::Of(with, About::Waits)),
         "near" => near(with),
+        "nears" => Some(Look::Of(with, About::BothNear)),
         _ => None,
     }
 }
@@ -276,6 +279,16 @@ fn look_with(words: &str) -> Option<Look<'_>> {
 fn near(words: &str) -> Option<Look<'_>> {
     let (post, name) = words.split_once(' ')?;
     Some(Look::Of(name, About::Near(post.parse::<u8>().ok()?)))
+}
+
+fn put_both_near<A: Allocator + Copy>(
+    board: &Board<A>,
+    name: &Name<A>,
+    page: &mut Page,
+) -> Result<(), AllocError> {
+    let heads = board.heads()?;
+    put_told(heads.near_misses(name, 0), page)?;
+    put_told(heads.near_misses(name, 1), page)
 }
 
 fn put_about<A: Allocator + Copy>(
@@ -291,6 +304,7 @@ fn put_about<A: Allocator + Copy>(
         }
         About::Waits => put_waits(board, name, page),
         About::Near(post) => put_told(board.near_misses(name, post), page),
+        About::BothNear => put_both_near(board, name, page),
     }
 }
 

@@ -108,7 +108,20 @@ near 2 w: h1.1:0 h2.0:0 h1.0:1
 near 3 w:
 near 0 newman:";
 
-const SHOWN: [(&str, Setup, &str); 11] = [
+/// Five heads differ from the first postcondition, and the three that differ least come before the last. From the second
+/// differ three in one constant, and a later head in none.
+const MANY: Setup = Setup {
+    first: "",
+    then: "post h1 {} S(1, 1), S(1, 2), S(2, 2), U(1, 2), U(2, 2), U(4, 2) <-
+post w {S(3, 2), U(3, 2)} Q(1) <-
+post h2 {} S(3, 1), S(3, 4), U(x, x) <- F(x)",
+};
+
+const MANY_NEAR: &str = "near 0 w: h1.1:1 h1.2:1 h2.0:1
+near 1 w: h2.2:0 h1.3:1 h1.4:1
+nears w: h1.1:1 h1.2:1 h2.0:1 h2.2:0 h1.3:1 h1.4:1";
+
+const SHOWN: [(&str, Setup, &str); 12] = [
     ("queries_by_name", WORKED, QUERIES_BY_NAME),
     ("queries_in_posting_order", WORKED, QUERIES_IN_POSTING_ORDER),
     ("counts", WORKED, WORKED_SHOWN),
@@ -120,6 +133,7 @@ const SHOWN: [(&str, Setup, &str); 11] = [
     ("able_and_unable: one is withdrawn", PAIR_PARTED, PARTED),
     ("why_each_waits", PAIR, WHY_EACH_WAITS),
     ("slips_of_the_pen", SLIPS, SLIPS_OF_THE_PEN),
+    ("many_near_heads", MANY, MANY_NEAR),
 ];
 
 #[test]
