@@ -14,13 +14,12 @@ ghost use Rattle.cq_report.specs.Report.{relation_line, state_word, name_line, t
 ghost use Rattle.cq_board.specs.Steps.Left.{query_at, edges_to_query, edges_at};
 
 use crate::listing::Listing;
-use crate::page::put;
 use cq_atom::{Name, Query, Value};
 use cq_board::Board;
 use cq_ground::Groundings;
 use cq_match::{Edge, is_crowd};
 use cq_rel::Tables;
-use cq_text::{print_query, print_values};
+use cq_text::{push_query, push_values};
 use std::alloc::{AllocError, Allocator};
 
 /// How many rows the relation has; none where it is not declared.
@@ -33,16 +32,16 @@ fn row_count<A: Allocator>(tables: &Tables<A>, relation: &str) -> usize
     }
 }
 
-fn relation_line<A: Allocator>(
-    alloc: A,
+fn put_relation<A: Allocator>(
     tables: &Tables<A>,
     relation: &str,
     arity: usize,
-) -> Result<String<A>, AllocError>
-    ensures { IfOk result (λ text. string_bytes text ≡ relation_line tables.now (declaration relation.now arity)) }
+    page: &mut String<A>,
+) -> Result<(), AllocError>
+    ensures { OnOk result (string_bytes page.new ≡ string_bytes page.old ++ relation_line tables.now (declaration relation.now arity)) }
 {
     let count = row_count(tables, relation);
-    format!(in alloc; "relation {relation} {arity} rows {count}\n")
+    write!(page, "relation {relation} {arity} rows {count}\n")
 }
 
 fn state_word(matched: bool) -> &'static str
@@ -51,19 +50,19 @@ fn state_word(matched: bool) -> &'static str
     if matched { "matched" } else { "waiting" }
 }
 
-fn name_line<A: Allocator>(alloc: A, name: &str, matched: bool) -> Result<String<A>, AllocError>
-    ensures { IfOk result (λ text. string_bytes text ≡ name_line name.now matched) }
+fn put_name<A: Allocator>(name: &str, matched: bool, page: &mut String<A>) -> Result<(), AllocError>
+    ensures { OnOk result (string_bytes page.new ≡ string_bytes page.old ++ name_line name.now matched) }
 {
     let state = state_word(matched);
-    format!(in alloc; "query {name} {state}\n")
+    write!(page, "query {name} {state}\n")
 }
 
-fn text_line<A: Allocator + Copy>(alloc: A, query: &Query<A>) -> Result<String<A>, AllocError>
-    ensures { IfOk result (λ text. string_bytes text ≡ text_line query.now) }
+fn put_text<A: Allocator>(query: &Query<A>, page: &mut String<A>) -> Result<(), AllocError>
+    ensures { OnOk result (string_bytes page.new ≡ string_bytes page.old ++ text_line query.now) }
 {
-    let printed = print_query(alloc, query)?;
-    let printed = printed.as_str();
-    format!(in alloc; "  text {printed}\n")
+    page.push_str("  text ")?;
+    push_query(page, query)?;
+    page.push('\n')
 }
 
 /// The name of the query of that number, or nothing where there is none.
@@ -76,16 +75,16 @@ fn name_or_none<'a, A: Allocator>(listing: &Listing<'a, A>, place: usize) -> &'a
     }
 }
 
-fn provider_line<A: Allocator>(
-    alloc: A,
+fn put_provider<A: Allocator>(
     listing: &Listing<'_, A>,
     edge: &Edge,
-) -> Result<String<A>, AllocError>
-    ensures { IfOk result (λ text. string_bytes text ≡ provider_line listing.now.board.now.pending edge.now) }
+    page: &mut String<A>,
+) -> Result<(), AllocError>
+    ensures { OnOk result (string_bytes page.new ≡ string_bytes page.old ++ provider_line listing.now.board.now.pending edge.now) }
 {
     let name = name_or_none(listing, edge.provider);
     let head = edge.head;
-    format!(in alloc; "    {name} head {head}\n")
+    write!(page, "    {name} head {head}\n")
 }
 
 fn crowd_word(count: usize) -> &'static str
@@ -94,31 +93,36 @@ fn crowd_word(count: usize) -> &'static str
     if is_crowd(count) { " crowded" } else { "" }
 }
 
-fn count_line<A: Allocator>(alloc: A, post: usize, count: usize) -> Result<String<A>, AllocError>
-    ensures { IfOk result (λ text. string_bytes text ≡ count_line post count) }
+fn put_count<A: Allocator>(
+    post: usize,
+    count: usize,
+    page: &mut String<A>,
+) -> Result<(), AllocError>
+    ensures { OnOk result (string_bytes page.new ≡ string_bytes page.old ++ count_line post count) }
 {
     let crowd = crowd_word(count);
-    format!(in alloc; "  post {post} providers {count}{crowd}\n")
+    write!(page, "  post {post} providers {count}{crowd}\n")
 }
 
-fn groundings_line<A: Allocator + Copy>(
+fn put_variables<A: Allocator + Copy>(
     alloc: A,
     query: &Query<A>,
     count: usize,
-) -> Result<String<A>, AllocError>
-    ensures { IfOk result (λ text. string_bytes text ≡ groundings_line (variables_of query.now.body) count) }
+    page: &mut String<A>,
+) -> Result<(), AllocError>
+    ensures { OnOk result (string_bytes page.new ≡ string_bytes page.old ++ groundings_line (variables_of query.now.body) count) }
 {
     let names = query.variables().join(alloc, ", ")?;
     let names = names.as_str();
-    format!(in alloc; "  groundings {count} ({names})\n")
+    write!(page, "  groundings {count} ({names})\n")
 }
 
-fn values_line<A: Allocator + Copy>(alloc: A, values: &[Value<A>]) -> Result<String<A>, AllocError>
-    ensures { IfOk result (λ text. string_bytes text ≡ values_line values.now) }
+fn put_grounding<A: Allocator>(values: &[Value<A>], page: &mut String<A>) -> Result<(), AllocError>
+    ensures { OnOk result (string_bytes page.new ≡ string_bytes page.old ++ values_line values.now) }
 {
-    let printed = print_values(alloc, values)?;
-    let printed = printed.as_str();
-    format!(in alloc; "    {printed}\n")
+    page.push_str("    ")?;
+    push_values(page, values)?;
+    page.push('\n')
 }
 
 /// How many edges in front lead to the query at that place.
@@ -142,11 +146,7 @@ fn count_to_post(edges: &[Edge], post: usize) -> usize
 }
 
 /// Puts a line for each declared relation.
-fn put_relations<A: Allocator + Copy>(
-    alloc: A,
-    tables: &Tables<A>,
-    page: &mut String<A>,
-) -> Result<(), AllocError>
+fn put_relations<A: Allocator>(tables: &Tables<A>, page: &mut String<A>) -> Result<(), AllocError>
     ensures { OnOk result (string_bytes page.new ≡ string_bytes page.old ++ flat_map (relation_line tables.now) tables.now.catalog) }
 {
     let catalog = tables.catalog();
@@ -155,14 +155,13 @@ fn put_relations<A: Allocator + Copy>(
             Some(entry) => entry,
             None => unreachable!(),
         };
-        put(page, relation_line(alloc, tables, relation, arity))?;
+        put_relation(tables, relation, arity, page)?;
     }
     Ok(())
 }
 
 /// Puts the providers of a postcondition.
-fn put_providers<A: Allocator + Copy>(
-    alloc: A,
+fn put_providers<A: Allocator>(
     listing: &Listing<'_, A>,
     providers: &[Edge],
     page: &mut String<A>,
@@ -170,14 +169,13 @@ fn put_providers<A: Allocator + Copy>(
     ensures { OnOk result (string_bytes page.new ≡ string_bytes page.old ++ flat_map (provider_line listing.now.board.now.pending) providers.now) }
 {
     for edge in providers {
-        put(page, provider_line(alloc, listing, edge))?;
+        put_provider(listing, edge, page)?;
     }
     Ok(())
 }
 
 /// Puts how many providers a postcondition has, and each of them.
-fn put_post<A: Allocator + Copy>(
-    alloc: A,
+fn put_post<A: Allocator>(
     listing: &Listing<'_, A>,
     post: usize,
     providers: &[Edge],
@@ -185,13 +183,12 @@ fn put_post<A: Allocator + Copy>(
 ) -> Result<(), AllocError>
     ensures { OnOk result (string_bytes page.new ≡ string_bytes page.old ++ (count_line post (length providers.now) ++ flat_map (provider_line listing.now.board.now.pending) providers.now)) }
 {
-    put(page, count_line(alloc, post, providers.len()))?;
-    put_providers(alloc, listing, providers, page)
+    put_count(post, providers.len(), page)?;
+    put_providers(listing, providers, page)
 }
 
 /// Puts what is told of each postcondition of the query of that number, to which the edges lead.
-fn put_posts<A: Allocator + Copy>(
-    alloc: A,
+fn put_posts<A: Allocator>(
     listing: &Listing<'_, A>,
     waiter: usize,
     query: &Query<A>,
@@ -205,22 +202,21 @@ fn put_posts<A: Allocator + Copy>(
     let mut left = edges;
     for post in 0..query.posts().len() {
         let (providers, others) = left.split_at(count_to_post(left, post));
-        put_post(alloc, listing, post, providers, page)?;
+        put_post(listing, post, providers, page)?;
         left = others;
     }
     Ok(())
 }
 
 /// Puts a line for each list of values.
-fn put_values<A: Allocator + Copy>(
-    alloc: A,
+fn put_values<A: Allocator>(
     lists: &[Vec<Value<A>, A>],
     page: &mut String<A>,
 ) -> Result<(), AllocError>
     ensures { OnOk result (string_bytes page.new ≡ string_bytes page.old ++ flat_map values_line (map (λ values. values.items) lists.now)) }
 {
     for values in lists {
-        put(page, values_line(alloc, values))?;
+        put_grounding(values, page)?;
     }
     Ok(())
 }
@@ -234,13 +230,12 @@ fn put_groundings<A: Allocator + Copy>(
 ) -> Result<(), AllocError>
     ensures { OnOk result (string_bytes page.new ≡ string_bytes page.old ++ (groundings_line (variables_of query.now.body) (length groundings.now) ++ flat_map values_line groundings.now)) }
 {
-    put(page, groundings_line(alloc, query, groundings.count()))?;
-    put_values(alloc, groundings.list(), page)
+    put_variables(alloc, query, groundings.count(), page)?;
+    put_values(groundings.list(), page)
 }
 
 /// Puts the name of a query, whether it is matched, and its printed form.
-fn put_heading<A: Allocator + Copy>(
-    alloc: A,
+fn put_heading<A: Allocator>(
     name: &Name<A>,
     matched: bool,
     query: &Query<A>,
@@ -248,8 +243,8 @@ fn put_heading<A: Allocator + Copy>(
 ) -> Result<(), AllocError>
     ensures { OnOk result (string_bytes page.new ≡ string_bytes page.old ++ (name_line name.now matched ++ text_line query.now)) }
 {
-    put(page, name_line(alloc, name.as_str(), matched))?;
-    put(page, text_line(alloc, query))
+    put_name(name.as_str(), matched, page)?;
+    put_text(query, page)
 }
 
 /// Puts what is told of the query of that number and name, to which the edges lead.
@@ -275,8 +270,8 @@ fn put_query<A: Allocator + Copy>(
         unreachable!()
     };
     let matched = board.is_matched(name).unwrap_or(false);
-    put_heading(alloc, name, matched, query, page)?;
-    put_posts(alloc, listing, waiter, query, edges, page)?;
+    put_heading(name, matched, query, page)?;
+    put_posts(listing, waiter, query, edges, page)?;
     put_groundings(alloc, query, groundings, page)
 }
 
@@ -324,11 +319,11 @@ pub(crate) fn put_report<A: Allocator + Copy>(
 ) -> Result<(), AllocError>
     ensures { OnOk result (string_bytes page.new ≡ string_bytes page.old ++ report board.now) }
 {
-    put_relations(alloc, board.tables(), page)?;
+    put_relations(board.tables(), page)?;
     put_queries(alloc, board, page)
 }
 
-/// The report on a board as one text. What is made beside it is the list of the names, the list of the edges, and the lines, one at a time.
+/// The report on a board as one text. What is made beside it is the list of the names, the list of the edges, and the names of the variables of one query at a time.
 ///
 /// # Errors
 /// `AllocError` where a growth was refused.

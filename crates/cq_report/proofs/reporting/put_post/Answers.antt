@@ -8,5 +8,5 @@ use Rattle.cq_report.proofs.reporting.put_post.Goals as goal
 pub returns : goal.returns
 returns g c =
     let line = count_line c.args.post (length c.args.providers.now) in
-    put_then (string_bytes c.args.page.now) (string_bytes c.put.new.page) (string_bytes c.put_providers.new.page) line (flat_map (provider_line c.args.listing.now.board.now.pending) c.args.providers.now) c.put_providers.result
-    (c.in_ok-put.ensures line c.count_line.ensures) c.put_providers.ensures
+    put_then (string_bytes c.args.page.now) (string_bytes c.put_count.new.page) (string_bytes c.put_providers.new.page) line (flat_map (provider_line c.args.listing.now.board.now.pending) c.args.providers.now) c.put_providers.result
+    c.in_ok-put_count.ensures c.put_providers.ensures

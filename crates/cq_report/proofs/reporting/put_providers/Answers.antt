@@ -16,8 +16,8 @@ loop-edge-preserved g c =
     let edges = c.args.providers.now in
     let f = provider_line c.args.listing.now.board.now.pending in
     let x = f (get_or edges i no_edge) in
-    put_on (string_bytes c.loop-edge.page) (string_bytes c.put.new.page) x _ (flat_map f (drop (i + 1) edges)) _
-    (pieces_at f edges i _ (got_at edges i no_edge (omega arith))) c.loop-edge.invariant (c.in_ok-put.ensures x c.provider_line.ensures)
+    put_on (string_bytes c.loop-edge.page) (string_bytes c.put_provider.new.page) x _ (flat_map f (drop (i + 1) edges)) _
+    (pieces_at f edges i _ (got_at edges i no_edge (omega arith))) c.loop-edge.invariant c.in_ok-put_provider.ensures
 
 pub returns : goal.returns
 returns g c =

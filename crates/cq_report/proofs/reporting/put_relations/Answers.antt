@@ -14,5 +14,5 @@ loop-place-preserved g c =
     let declared = declaration c.in-Some.entry.0.now c.in-Some.entry.1 in
     let f = relation_line c.args.tables.now in
     let there = subst (λ (ds : List Declaration). slice_get ds i ≡ Some declared) c.catalog-catalog.ensures.value c.in-Some.ensures in
-    put_on (string_bytes c.loop-place.page) (string_bytes c.put.new.page) (f declared) _ (flat_map f (drop (i + 1) catalog)) _
-    (pieces_at f catalog i declared there) c.loop-place.invariant (c.in_ok-put.ensures (f declared) c.relation_line.ensures)
+    put_on (string_bytes c.loop-place.page) (string_bytes c.put_relation.new.page) (f declared) _ (flat_map f (drop (i + 1) catalog)) _
+    (pieces_at f catalog i declared there) c.loop-place.invariant c.in_ok-put_relation.ensures

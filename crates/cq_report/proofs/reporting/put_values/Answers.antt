@@ -1,5 +1,5 @@
-use Rattle.std.proofs.Common.{◌≡◌, ◌+◌, List, map, drop, subst, arith}
-use Rattle.std.specs.Prelude.{string_bytes, IfOk}
+use Rattle.std.proofs.Common.{◌≡◌, ◌+◌, ◌++◌, List, map, drop, subst, arith}
+use Rattle.std.specs.Prelude.{string_bytes}
 use Rattle.std.specs.List.{flat_map}
 use Rattle.cq_atom.specs.Value.{ValueContent}
 use Rattle.cq_report.specs.Report.{values_line}
@@ -12,6 +12,6 @@ loop-values-preserved g c =
     let i = c.loop-values.values-index in
     let lists = c.args.lists.now in
     let item = c.values-item.result in
-    let made = subst (λ (values : List ValueContent). IfOk c.values_line.result (λ text. string_bytes text ≡ values_line values)) c.deref.ensures.value c.values_line.ensures in
-    put_on (string_bytes c.loop-values.page) (string_bytes c.put.new.page) (values_line item.items) _ (flat_map values_line (map (λ values. values.items) (drop (i + 1) lists))) _
-    (mapped_at values_line (λ values. values.items) lists i item (read_at lists i item (omega arith) c.values-item.is)) c.loop-values.invariant (c.in_ok-put.ensures (values_line item.items) made)
+    let put = subst (λ (values : List ValueContent). string_bytes c.put_grounding.new.page ≡ string_bytes c.loop-values.page ++ values_line values) c.deref.ensures.value c.in_ok-put_grounding.ensures in
+    put_on (string_bytes c.loop-values.page) (string_bytes c.put_grounding.new.page) (values_line item.items) _ (flat_map values_line (map (λ values. values.items) (drop (i + 1) lists))) _
+    (mapped_at values_line (λ values. values.items) lists i item (read_at lists i item (omega arith) c.values-item.is)) c.loop-values.invariant put
