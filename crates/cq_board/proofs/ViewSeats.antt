@@ -105,6 +105,14 @@ module _ (seats : List SeatRecord) (m : FindingMap) (links : LinkMap) (graph : M
       groundings-there rows (get m k) (lookup (nat_eq k) (residents_of seats m)) (leaver-found seats m links graph rows stores name k e) (stores.stand k)
       ∙ sym (made-at (λ q. groundings_of q.body rows) name seats m k e)
 
+  -- something stands at the place of a name
+  pub finding-there : (name : List ℕ) (k : ℕ) → place_named name seats ≡ Some k → {X : Type 0} (f : FindingRecord → X) → None ≡ option_map f (get m k) → ⊥
+  finding-there name k e f n = none (get m k) (leaver-found seats m links graph rows stores name k e) n
+    where
+      none : (o : Option FindingRecord) → IsSome o → None ≡ option_map f o → ⊥
+      none None some n = let never : false ≡ true = some in cc
+      none (Some finding) some n = cc
+
   own-places : IsDistinct nat_eq (places_of (residents_of seats m))
   own-places = subst (λ (places : List ℕ). IsDistinct nat_eq places) (sym (places-seated seats m)) stores.roster.places
 

@@ -42,7 +42,7 @@ pub use laws::{pools_stay_good, unifies_is_unify};
 pub use limits::Limits;
 pub use link::{Crowd, Link};
 pub use near::NearMiss;
-pub use pending::Pending;
+pub use pending::{Pending, PendingView};
 pub use scratch::ScratchFault;
 pub use waiting::Wait;
 pub use work::Work;

@@ -1,7 +1,7 @@
 //! What a board shows by names.
 
 ghost use Rattle.std.specs.Prelude.{◌≡◌, ◌<◌, ◌++◌, List, length, map, filter, IfOk, OnOk};
-ghost use Rattle.std.specs.Option.{option_copied};
+ghost use Rattle.std.specs.Option.{option_copied, option_map};
 ghost use Rattle.cq_match.specs.Graph.{leads_to};
 ghost use Rattle.cq_match.specs.Matched.{is_matched};
 ghost use Rattle.cq_board.specs.Pool.{PendingQuery, name_of};
@@ -12,6 +12,7 @@ ghost use Rattle.cq_board.specs.Steps.Runs.{run_length, crowd_at};
 
 use crate::board::Board;
 use crate::link::{Crowd, Link};
+use crate::pending::PendingView;
 use crate::showing::edges_by_place;
 use cq_atom::{Name, Query};
 use cq_ground::Groundings;
@@ -168,6 +169,30 @@ impl<A: Allocator + Copy> Board<A> {
     {
         let stores = self.stores();
         stores.findings.groundings(stores.roster.place_of(name)?)
+    }
+
+    /// What the board has of the pending query of that name: what [`query`](Board::query), [`is_matched`](Board::is_matched)
+    /// and [`groundings`](Board::groundings) tell, by one look at the name.
+    pub fn view(&self, name: &Name<A>) -> Option<PendingView<'_, A>>
+        ensures query { option_map (λ view. view.query.now) result ≡ query_named name.now self.now.pending }
+        ensures matched { option_map (λ view. view.matched) result ≡ matched_named name.now self.now }
+        ensures groundings { option_map (λ view. view.groundings.now) result ≡ groundings_named name.now self.now }
+    {
+        let stores = self.stores();
+        let place = stores.roster.place_of(name)?;
+        let matched = stores.matcher.is_matched(place);
+        // A query stands at the place of each name.
+        let (Some(query), Some(groundings)) = (
+            stores.findings.query(place),
+            stores.findings.groundings(place),
+        ) else {
+            unreachable!()
+        };
+        Some(PendingView {
+            query,
+            matched,
+            groundings,
+        })
     }
 
     /// The names of the pending queries, in posting order. A name that was withdrawn and posted again

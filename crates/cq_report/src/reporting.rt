@@ -263,16 +263,12 @@ fn put_query<A: Allocator + Copy>(
     let board = listing.board;
     let _good = board.len();
     // A query is pending under each name that is listed.
-    let Some(query) = board.query(name) else {
+    let Some(view) = board.view(name) else {
         unreachable!()
     };
-    let Some(groundings) = board.groundings(name) else {
-        unreachable!()
-    };
-    let matched = board.is_matched(name).unwrap_or(false);
-    put_heading(name, matched, query, page)?;
-    put_posts(listing, waiter, query, edges, page)?;
-    put_groundings(alloc, query, groundings, page)
+    put_heading(name, view.matched, view.query, page)?;
+    put_posts(listing, waiter, view.query, edges, page)?;
+    put_groundings(alloc, view.query, view.groundings, page)
 }
 
 /// Puts what is told of each pending query. The edges are all edges.

@@ -177,12 +177,15 @@ fn put_name_at<A: Allocator + Copy>(board: &Board<A>, place: usize, page: &mut P
     }
 }
 
+fn put_state(matched: bool, page: &mut Page) {
+    page.put(if matched { "matched" } else { "unmatched" });
+}
+
 fn put_is_matched<A: Allocator + Copy>(board: &Board<A>, name: &Name<A>, page: &mut Page) {
-    page.put(match board.is_matched(name) {
-        Some(true) => "matched",
-        Some(false) => "unmatched",
-        None => "none",
-    });
+    match board.is_matched(name) {
+        Some(matched) => put_state(matched, page),
+        None => page.put("none"),
+    }
 }
 
 fn put_query<A: Allocator + Copy>(board: &Board<A>, name: &Name<A>, page: &mut Page) {
@@ -418,16 +421,16 @@ fn put_pending<A: Allocator + Copy>(
     name: &Name<A>,
     page: &mut Page,
 ) -> Result<(), AllocError> {
-    let (Some(query), Some(found)) = (board.query(name), board.groundings(name)) else {
+    let Some(view) = board.view(name) else {
         return Err(AllocError);
     };
     page.space();
     page.put(name.as_str());
     page.space();
-    put_is_matched(board, name, page);
-    put_each(found.list(), page);
+    put_state(view.matched, page);
+    put_each(view.groundings.list(), page);
     page.space();
-    put_printed(print_query(alloc, query), page)
+    put_printed(print_query(alloc, view.query), page)
 }
 
 fn put_each_pending<A: Allocator + Copy>(
