@@ -1,5 +1,5 @@
 -- The token at the front of bytes, as the code finds it.
-use Rattle.std.specs.Prelude.{ℕ, ℤ, List, [], ◌∷◌, Option, Some, None, if◌then◌else◌}
+use Rattle.std.specs.Prelude.{ℕ, ℤ, List, [], ◌∷◌, Bool, false, not, ◌&&◌, ◌==◌, Option, Some, None, if◌then◌else◌}
 use Rattle.cq_atom.specs.declared.value.Content.TheVariants.{Number, Text}
 use Rattle.cq_atom.specs.Text.{is_text}
 use Rattle.cq_atom.specs.Value.{ValueContent}
@@ -27,3 +27,18 @@ number_or_bad (Some n) = Literal (Number n)
 -- The text that bytes are, if they are one.
 abbrev pub text_of : List ℕ → Option ValueContent
 text_of s = if is_text s then Some (Text s) else None
+
+-- Whether a byte between quotes stands for itself.
+abbrev pub is_verbatim : ℕ → Bool
+is_verbatim b = not (b == 34) && not (b == 92)
+
+-- Whether the closing quote comes.
+abbrev pub closes : List ℕ → Bool
+closes [] = false
+closes (b ∷ bs) = b == 34
+
+-- The byte that the escape at the front stands for, if one comes.
+abbrev pub escaped_byte : List ℕ → Option ℕ
+escaped_byte [] = None
+escaped_byte (b ∷ []) = None
+escaped_byte (b ∷ c ∷ bs) = if (b == 92) && not (is_verbatim c) then Some c else None
