@@ -4,6 +4,8 @@ use Rattle.cq_atom.specs.declared.value.Content.TheVariants.{Number, Text}
 use Rattle.cq_atom.specs.Text.{is_text}
 use Rattle.cq_atom.specs.Value.{ValueContent}
 use Rattle.cq_text.specs.declared.fault.Kind.TheVariants as kinds
+use Rattle.cq_text.specs.declared.token.Sign.{Sign}
+use Rattle.cq_text.specs.declared.token.Sign.TheVariants.{OpenBrace, CloseBrace, OpenParen, CloseParen, Comma}
 use Rattle.cq_text.specs.declared.token.Token.TheVariants.{Literal, Bad}
 use Rattle.cq_text.specs.Token.{TokenContent}
 use Rattle.cq_text.specs.Lexing.{word_token, positive_token, front}
@@ -42,3 +44,8 @@ abbrev pub escaped_byte : List ℕ → Option ℕ
 escaped_byte [] = None
 escaped_byte (b ∷ []) = None
 escaped_byte (b ∷ c ∷ bs) = if (b == 92) && not (is_verbatim c) then Some c else None
+
+-- The sign that a byte is.
+abbrev pub sign_of : ℕ → Option Sign
+sign_of b =
+    if b == 123 then Some OpenBrace else (if b == 125 then Some CloseBrace else (if b == 40 then Some OpenParen else (if b == 41 then Some CloseParen else (if b == 44 then Some Comma else None))))

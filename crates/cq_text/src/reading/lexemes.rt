@@ -201,6 +201,16 @@ pub(crate) fn is_finish<A: Allocator>(token: &TextToken<A>) -> bool
     matches!(token, Token::Finish)
 }
 
+/// Whether a sign closes what that closes.
+pub(crate) fn closes(sign: Sign, close: Close) -> bool
+    ensures { result ≡ is_close close (Token.Mark sign) }
+{
+    match close {
+        Close::By(other) => sign == other,
+        Close::End => false,
+    }
+}
+
 pub(crate) fn is_close<A: Allocator>(token: &TextToken<A>, close: Close) -> bool
     ensures { result ≡ is_close close token.now }
 {

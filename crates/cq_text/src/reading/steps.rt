@@ -1,13 +1,13 @@
 //! The reader's own steps, from lexeme to lexeme.
 
-ghost use Rattle.std.specs.Prelude.{◌≡◌, Ok, IfOk, IsTrue};
+ghost use Rattle.std.specs.Prelude.{◌≡◌, Ok, IfOk, IsTrue, MatchOption};
 ghost use Rattle.cq_atom.specs.Text.{is_relation_name};
-ghost use Rattle.cq_text.specs.Steps.Lexemes.{next_is_at, passes_at, next_in_list_at, name_at, relation_name_at, Gives, ahead_of_text, next_at, sign_at, end_at, goes_on_at};
+ghost use Rattle.cq_text.specs.Steps.Lexemes.{next_is_at, passes_at, next_in_list_at, name_at, relation_name_at, Gives, Met, ahead_of_text, next_at, sign_at, end_at, goes_on_at};
 
 use crate::fault::TextFault;
-use crate::lexing::{front, spaces_len};
+use crate::lexing::{front, sign_of, spaces_len};
 use crate::reading::Reader;
-use crate::reading::lexemes::{flaw, is_close, is_sign, name_in, relation_in, shape};
+use crate::reading::lexemes::{closes, flaw, is_close, is_sign, name_in, relation_in, shape};
 use crate::token::{Close, Lexeme, Sign, TextLexeme, Token};
 use cq_atom::Name;
 use std::alloc::Allocator;
@@ -28,6 +28,24 @@ impl<'a, A: Allocator + Copy> Reader<'a, A> {
             text: self.text,
             at: self.at,
         }
+    }
+
+    /// Passes the spaces that come, behind which the same tokens are ahead.
+    fn pass_spaces(&mut self)
+        ensures { self.new ≡ self.old }
+    {
+        self.at += spaces_len(&self.text[self.at..]);
+    }
+
+    /// The sign of one byte that comes, which is passed then, and where it stands.
+    fn next_sign(&mut self) -> Option<(Sign, usize)>
+        ensures { MatchOption result (self.new ≡ self.old) (λ x. Met (Token.Mark x.0) x.1 self.old self.new) }
+    {
+        self.pass_spaces();
+        let at = self.at;
+        let sign = sign_of(*self.text.get(at)?)?;
+        self.at = at + 1;
+        Some((sign, at))
     }
 
     /// The next token, passing spaces.
@@ -58,6 +76,9 @@ impl<'a, A: Allocator + Copy> Reader<'a, A> {
     fn next_is(&mut self, close: Close) -> Result<(bool, usize), TextFault>
         ensures { Gives (λ x. (x.0, x.1, self.new)) result (next_is_at close self.old) }
     {
+        if let Some((sign, at)) = self.next_sign() {
+            return Ok((closes(sign, close), at));
+        }
         let lexeme = self.next()?;
         Ok((is_close(&lexeme.token, close), lexeme.at))
     }
@@ -99,6 +120,9 @@ impl<'a, A: Allocator + Copy> Reader<'a, A> {
     fn next_in_list(&mut self, close: Close) -> Result<(bool, bool, usize), TextFault>
         ensures { Gives (λ x. (x.0, x.1, x.2, self.new)) result (next_in_list_at close self.old) }
     {
+        if let Some((sign, at)) = self.next_sign() {
+            return Ok((sign == Sign::Comma, closes(sign, close), at));
+        }
         let lexeme = self.next()?;
         Ok((
             is_sign(&lexeme.token, Sign::Comma),
