@@ -1,16 +1,20 @@
 -- The lexemes of a text, a step at a time.
 use Rattle.std.proofs.Common.{◌≡◌, ℕ, zero, suc, ◌+◌, ◌-◌, ◌<◌, ◌≤◌, Bool, true, false, cond, List, [], ◌∷◌, length, drop, get_or, Ok, refl, sym, ap, subst, ◌∙◌, arith, None, Some}
 use Rattle.std.specs.List.{prefix_len}
+use Rattle.std.specs.Char.{is_ascii_alphabetic}
+use Rattle.std.proofs.lemmas.Bool.Decides.{nat_tests}
+use Rattle.cq_atom.specs.Text.{begins_with_letter}
 use Rattle.std.proofs.lemmas.List.{drop-drop, drop_more, length-drop}
 use Rattle.std.proofs.lemmas.Bool.{eqb-true, ne_eqb}
 use Rattle.cq_text.specs.declared.token.Sign.{Sign}
 use Rattle.cq_text.specs.declared.token.Sign.TheVariants.{OpenBrace, CloseBrace, OpenParen, CloseParen, Comma}
-use Rattle.cq_text.specs.declared.token.Token.TheVariants.{Mark, Finish}
+use Rattle.cq_text.specs.declared.token.Token.TheVariants.{Mark, Word, Finish}
 use Rattle.cq_text.specs.Token.{TokenContent, LexemeContent, flaw}
 use Rattle.cq_text.specs.Steps.Lexemes.{Ahead, next_of, next_at, fault, Met}
-use Rattle.cq_text.specs.Steps.Lexing.{front_of, sign_of}
+use Rattle.cq_text.specs.Steps.Lexing.{front_of, sign_of, word_of}
+use Rattle.cq_text.proofs.Fronts.{front_word}
 use Rattle.cq_text.specs.declared.fault.Kind.{Kind}
-use Rattle.std.specs.Prelude.{◌==◌}
+use Rattle.std.specs.Prelude.{◌==◌, slice_get}
 use Rattle.cq_text.specs.Lexing.{is_space, front, lexemes}
 
 pub lexemes-skip : (n at : ℕ) (bs : List ℕ) → n ≤ length bs → lexemes n at bs ≡ lexemes 0 (at + n) (drop n bs)
@@ -162,3 +166,18 @@ pub sign_met : (text : List ℕ) (at : ℕ) (s : Sign) → at < length text → 
 sign_met text at s lt e =
     let m = sign_made (get_or text at 0) s e in
     met_at text at (get_or text at 0) 1 (drop (at + 1) text) (Mark s) (drop_more text at 0 lt) m.0 (m.1 (drop (at + 1) text)) (omega arith) (omega arith) refl
+
+pub word_met : (text : List ℕ) (at : ℕ) (w : List ℕ) (k : ℕ) → begins_with_letter (drop at text) ≡ true → word_of (drop at text) ≡ (Word w, k) → 0 < k → k ≤ length (drop at text) → Met (Word w) at (ahead_at text at) (ahead_at text (at + k))
+word_met text at w k h f lt le = by_case (drop at text) refl
+  where
+    by_case : (bs : List ℕ) → drop at text ≡ bs → Met (Word w) at (ahead_at text at) (ahead_at text (at + k))
+    by_case [] d = let never : ⊥ = omega (arith, ap length d) in absurd never
+    by_case (b ∷ rest) d =
+        let letter : is_ascii_alphabetic b ≡ true = ap begins_with_letter (sym d) ∙ h in
+        let space : is_space b ≡ false = grind (arith, nat_tests) in
+        let is : front b rest ≡ (Word w, k) = front_word (b ∷ rest) (omega arith) letter ∙ ap word_of (sym d) ∙ f in
+        met_at text at b k rest (Word w) d space is lt (omega (arith, ap length d)) refl
+
+pub letter_first : (bs : List ℕ) (b : ℕ) → Some b ≡ slice_get bs 0 → is_ascii_alphabetic b ≡ true → begins_with_letter bs ≡ true
+letter_first [] b e h = absurd cc
+letter_first (c ∷ bs) b e h = let same : b ≡ c = cc in ap is_ascii_alphabetic (sym same) ∙ h

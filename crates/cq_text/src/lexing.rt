@@ -102,13 +102,14 @@ fn number_token<'a, A: Allocator>(number: Option<i64>) -> TextToken<'a, A>
     }
 }
 
-fn word_token<'a, A: Allocator>(bytes: &'a [u8]) -> (TextToken<'a, A>, usize)
+/// The identifier at the front, and how many bytes it takes.
+pub(crate) fn front_word(bytes: &[u8]) -> (Identifier<'_>, usize)
     requires { IsTrue (begins_with_letter bytes.now) }
-    ensures token { word_of bytes.now ≡ (result.0, result.1) }
+    ensures token { word_of bytes.now ≡ (Token.Word result.0, result.1) }
     ensures within { (0 < result.1) × (result.1 ≤ length bytes.now) }
 {
     let len = word_len(&bytes[1..]) + 1;
-    (Token::Word(Identifier::new(&bytes[..len])), len)
+    (Identifier::new(&bytes[..len]), len)
 }
 
 fn positive_token<'a, A: Allocator>(bytes: &[u8]) -> (TextToken<'a, A>, usize)
@@ -178,7 +179,8 @@ pub(crate) fn front<'a, A: Allocator + Copy>(
 {
     let first = bytes[0];
     if first.is_ascii_alphabetic() {
-        Ok(word_token(bytes))
+        let (word, len) = front_word(bytes);
+        Ok((Token::Word(word), len))
     } else if first.is_ascii_digit() {
         Ok(positive_token(bytes))
     } else if first == b'-' {

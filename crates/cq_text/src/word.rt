@@ -28,7 +28,10 @@ impl<'a> Model for Identifier<'a> {
 fn is_word_byte(byte: u8) -> bool
     ensures { result ≡ is_word_byte byte }
 {
-    byte.is_ascii_alphanumeric() || byte == b'_'
+    byte.is_ascii_lowercase()
+        || byte.is_ascii_uppercase()
+        || byte.is_ascii_digit()
+        || byte == b'_'
 }
 
 /// How many bytes at the front may stand behind an identifier's letter.

@@ -5,10 +5,13 @@ ghost use Rattle.cq_atom.specs.Text.{is_relation_name};
 ghost use Rattle.cq_text.specs.Steps.Lexemes.{next_is_at, passes_at, next_in_list_at, name_at, relation_name_at, Gives, Met, ahead_of_text, next_at, sign_at, end_at, goes_on_at};
 
 use crate::fault::TextFault;
-use crate::lexing::{front, sign_of, spaces_len};
+use crate::lexing::{front, front_word, sign_of, spaces_len};
 use crate::reading::Reader;
-use crate::reading::lexemes::{closes, flaw, is_close, is_sign, name_in, relation_in, shape};
+use crate::reading::lexemes::{
+    closes, flaw, is_close, is_sign, name_in, relation_in, relation_word, shape,
+};
 use crate::token::{Close, Lexeme, Sign, TextLexeme, Token};
+use crate::word::Identifier;
 use cq_atom::Name;
 use std::alloc::Allocator;
 
@@ -46,6 +49,21 @@ impl<'a, A: Allocator + Copy> Reader<'a, A> {
         let sign = sign_of(*self.text.get(at)?)?;
         self.at = at + 1;
         Some((sign, at))
+    }
+
+    /// The identifier that comes, which is passed then, and where it stands.
+    pub(crate) fn next_word(&mut self) -> Option<(Identifier<'a>, usize)>
+        ensures { MatchOption result (self.new ≡ self.old) (λ x. Met (Token.Word x.0) x.1 self.old self.new) }
+    {
+        self.pass_spaces();
+        let at = self.at;
+        let rest = &self.text[at..];
+        if !rest.first()?.is_ascii_alphabetic() {
+            return None;
+        }
+        let (word, len) = front_word(rest);
+        self.at = at + len;
+        Some((word, at))
     }
 
     /// The next token, passing spaces.
@@ -161,9 +179,11 @@ impl<'a, A: Allocator + Copy> Reader<'a, A> {
         ensures name { Gives (λ x. (x.0.now, x.1, self.new)) result (relation_name_at self.old) }
         ensures valid { IfOk result (λ x. IsTrue (is_relation_name x.0.now)) }
     {
+        if let Some((word, at)) = self.next_word() {
+            return Ok((relation_word(&word, at)?, at));
+        }
         let lexeme = self.next()?;
         let at = lexeme.at;
-        let name = relation_in(lexeme)?;
-        Ok((name, at))
+        Ok((relation_in(lexeme)?, at))
     }
 }
