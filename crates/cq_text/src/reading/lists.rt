@@ -1,6 +1,6 @@
 //! Reads terms, atoms, rows and queries.
 
-ghost use Rattle.std.specs.Prelude.{◌≡◌, ◌≤◌, Ok, IfOk, IsTrue, length};
+ghost use Rattle.std.specs.Prelude.{◌≡◌, ◌≤◌, [], Ok, IfOk, IsTrue, length};
 ghost use Rattle.cq_atom.specs.Text.{is_relation_name};
 ghost use Rattle.cq_atom.specs.Atom.{is_arity};
 ghost use Rattle.cq_atom.specs.Query.{variables_of};
@@ -20,7 +20,7 @@ use crate::token::{Close, Sign};
 use cq_atom::{Atom, Bad, Query, Row, Term, Value, Variables};
 use std::alloc::Allocator;
 
-/// For how many terms, values or atoms a list has room at first: most have no more, and no room is left empty for others.
+/// For how many values or atoms a list has room at first: most have no more, and no room is left empty for others.
 const ROOM: usize = 2;
 
 fn new_row<A: Allocator + Clone>(
@@ -100,17 +100,33 @@ impl<'a, A: Allocator + Copy> Reader<'a, A> {
         Ok((term, has_more))
     }
 
+    /// Room for terms, which is taken until it comes back.
+    fn take_room(&mut self) -> Vec<Term<A>, A>
+        ensures empty { result.items ≡ [] }
+        ensures same { self.new ≡ self.old }
+    {
+        self.room.take(self.alloc)
+    }
+
+    /// The gathered terms in a block that is no larger than they are. Their room comes back.
+    fn gathered(&mut self, room: Vec<Term<A>, A>) -> Result<Vec<Term<A>, A>, TextFault>
+        ensures terms { Gives (λ terms. terms.items) result (Ok room.items) }
+        ensures same { self.new ≡ self.old }
+    {
+        self.room.gathered(self.alloc, room)
+    }
+
     /// Terms, and the bracket behind them.
     fn terms(&mut self, form: Form) -> Result<Vec<Term<A>, A>, TextFault>
         ensures terms { Gives (λ v. (v.items, self.new)) result (terms_at form self.old) }
         ensures arity { IfOk result (λ v. IsTrue (is_arity (length v.items))) }
     {
-        let mut terms = Vec::with_capacity(self.alloc, ROOM)?;
+        let mut terms = self.take_room();
         'terms: loop {
             let (term, has_more) = self.term(terms.len() < form.max_terms())?;
             terms.push(term)?;
             if !has_more {
-                return Ok(terms);
+                return self.gathered(terms);
             }
         }
     }

@@ -10,6 +10,7 @@ use crate::reading::Reader;
 use crate::reading::lexemes::{
     closes, flaw, is_close, is_sign, name_in, relation_in, relation_word, shape,
 };
+use crate::room::Room;
 use crate::token::{Close, Lexeme, Sign, TextLexeme, Token};
 use crate::word::Identifier;
 use cq_atom::Name;
@@ -19,7 +20,12 @@ impl<'a, A: Allocator + Copy> Reader<'a, A> {
     pub(crate) fn new(alloc: A, text: &'a [u8]) -> Reader<'a, A>
         ensures { result ≡ ahead_of_text text.now }
     {
-        Reader { alloc, text, at: 0 }
+        Reader {
+            alloc,
+            text,
+            at: 0,
+            room: Room::new(alloc),
+        }
     }
 
     /// A reader of the same place.
@@ -30,6 +36,7 @@ impl<'a, A: Allocator + Copy> Reader<'a, A> {
             alloc: self.alloc,
             text: self.text,
             at: self.at,
+            room: Room::new(self.alloc),
         }
     }
 
