@@ -8,12 +8,12 @@ ghost use Rattle.cq_text.specs.Steps.Lexing.{text_of, is_verbatim, closes, escap
 
 use crate::fault::{Kind, TextFault};
 use crate::token::{TextToken, Token};
-use cq_atom::{Bad, Value};
+use cq_atom::{Bad, MAX_TEXT, Value};
 use std::alloc::{AllocError, Allocator};
 use std::str;
 
-/// For how many bytes a text has room at first, so that it seldom grows.
-const ROOM: usize = 64;
+/// For how many bytes a text has room at first: none that is good grows beyond it.
+const ROOM: usize = MAX_TEXT;
 
 /// Whether a byte between quotes stands for itself.
 fn is_verbatim(byte: u8) -> bool
