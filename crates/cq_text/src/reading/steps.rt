@@ -48,6 +48,7 @@ impl<'a, A: Allocator + Copy> Reader<'a, A> {
     }
 
     /// The sign of one byte that comes, which is passed then, and where it stands.
+    #[inline(always)]
     fn next_sign(&mut self) -> Option<(Sign, usize)>
         ensures { MatchOption result (self.new ≡ self.old) (λ x. Met (Token.Mark x.0) x.1 self.old self.new) }
     {
@@ -59,6 +60,7 @@ impl<'a, A: Allocator + Copy> Reader<'a, A> {
     }
 
     /// The identifier that comes, which is passed then, and where it stands.
+    #[inline(always)]
     pub(crate) fn next_word(&mut self) -> Option<(Identifier<'a>, usize)>
         ensures { MatchOption result (self.new ≡ self.old) (λ x. Met (Token.Word x.0) x.1 self.old self.new) }
     {
