@@ -1,13 +1,20 @@
 -- The lexemes of a text, a step at a time.
-use Rattle.std.proofs.Common.{◌≡◌, ℕ, zero, suc, ◌+◌, ◌-◌, ◌<◌, ◌≤◌, Bool, true, false, cond, List, [], ◌∷◌, length, drop, Ok, refl, sym, ap, ◌∙◌, arith, None, Some}
+use Rattle.std.proofs.Common.{◌≡◌, ℕ, zero, suc, ◌+◌, ◌-◌, ◌<◌, ◌≤◌, Bool, true, false, cond, List, [], ◌∷◌, length, drop, get_or, Ok, refl, sym, ap, subst, ◌∙◌, arith, None, Some}
 use Rattle.std.specs.List.{prefix_len}
-use Rattle.std.proofs.lemmas.List.{drop-drop, length-drop}
-use Rattle.cq_text.specs.declared.token.Token.TheVariants.{Finish}
+use Rattle.std.specs.Char.{is_ascii_alphabetic}
+use Rattle.std.proofs.lemmas.Bool.Decides.{nat_tests}
+use Rattle.cq_atom.specs.Text.{begins_with_letter}
+use Rattle.std.proofs.lemmas.List.{drop-drop, drop_more, length-drop}
+use Rattle.std.proofs.lemmas.Bool.{eqb-true, ne_eqb}
+use Rattle.cq_text.specs.declared.token.Sign.{Sign}
+use Rattle.cq_text.specs.declared.token.Sign.TheVariants.{OpenBrace, CloseBrace, OpenParen, CloseParen, Comma}
+use Rattle.cq_text.specs.declared.token.Token.TheVariants.{Mark, Word, Finish}
 use Rattle.cq_text.specs.Token.{TokenContent, LexemeContent, flaw}
-use Rattle.cq_text.specs.Steps.Lexemes.{Ahead, next_of, next_at, fault}
-use Rattle.cq_text.specs.Steps.Lexing.{front_of}
+use Rattle.cq_text.specs.Steps.Lexemes.{Ahead, next_of, next_at, fault, Met}
+use Rattle.cq_text.specs.Steps.Lexing.{front_of, sign_of, word_of}
+use Rattle.cq_text.proofs.Fronts.{front_word}
 use Rattle.cq_text.specs.declared.fault.Kind.{Kind}
-use Rattle.std.specs.Prelude.{◌==◌}
+use Rattle.std.specs.Prelude.{◌==◌, slice_get}
 use Rattle.cq_text.specs.Lexing.{is_space, front, lexemes}
 
 pub lexemes-skip : (n at : ℕ) (bs : List ℕ) → n ≤ length bs → lexemes n at bs ≡ lexemes 0 (at + n) (drop n bs)
@@ -115,3 +122,62 @@ next_token text at n t k h w e f lt le g = ap (λ (l : List LexemeContent). next
 pub next_fault : (text : List ℕ) (at n : ℕ) (t : TokenContent) (k : ℕ) (kind : Kind) → n ≡ spaces text at → n ≤ length (drop at text) → (length (drop n (drop at text)) == 0) ≡ false → front_of (drop n (drop at text)) ≡ (t, k) → 0 < k → k ≤ length (drop n (drop at text)) → flaw t ≡ Some kind → next_at (ahead_at text at) ≡ fault kind (at + n)
 unfolding next_at
 next_fault text at n t k kind h w e f lt le g = ap (λ (l : List LexemeContent). next_of l (length text)) (at_front text at n t k (some_left text at n h w e) f lt le) ∙ rw g refl
+
+-- ---- what a reader meets without a lexeme
+
+pub spaces_passed : (text : List ℕ) (at n : ℕ) → n ≡ spaces text at → ahead_at text (at + n) ≡ ahead_at text at
+spaces_passed text at n e = ap (λ (k : ℕ). ahead_at text (at + k)) e ∙ ap (λ (l : List LexemeContent). record { lexemes = l; end = length text }) (sym (behind_spaces text at))
+
+-- the byte b before others makes the sign s, and is no space
+abbrev Makes : ℕ → Sign → Type 0
+Makes b s = (is_space b ≡ false) × ((rest : List ℕ) → front b rest ≡ (Mark s, 1))
+
+makes : (b n : ℕ) (r s : Sign) → (b == n) ≡ true → Some r ≡ Some s → Makes n r → Makes b s
+makes b n r s e f m =
+    let is : n ≡ b = sym (eqb-true b n e) in
+    let same : r ≡ s = cc in
+    subst (λ (k : ℕ). Makes k s) is (subst (λ (q : Sign). Makes n q) same m)
+
+sign_made : (b : ℕ) (s : Sign) → sign_of b ≡ Some s → Makes b s
+unfolding front
+sign_made b s e = by_case (b == 123) (b == 125) (b == 40) (b == 41) (b == 44) refl refl refl refl refl e
+  where
+    by_case : (p q r t u : Bool) → (b == 123) ≡ p → (b == 125) ≡ q → (b == 40) ≡ r → (b == 41) ≡ t → (b == 44) ≡ u
+        → cond p (Some OpenBrace) (cond q (Some CloseBrace) (cond r (Some OpenParen) (cond t (Some CloseParen) (cond u (Some Comma) None)))) ≡ Some s → Makes b s
+    by_case true q r t u h _ _ _ _ f = makes b 123 OpenBrace s h f (refl, λ rest. refl)
+    by_case false true r t u _ h _ _ _ f = makes b 125 CloseBrace s h f (refl, λ rest. refl)
+    by_case false false true t u _ _ h _ _ f = makes b 40 OpenParen s h f (refl, λ rest. refl)
+    by_case false false false true u _ _ _ h _ f = makes b 41 CloseParen s h f (refl, λ rest. refl)
+    by_case false false false false true _ _ _ _ h f = makes b 44 Comma s h f (refl, λ rest. refl)
+    by_case false false false false false _ _ _ _ _ f = absurd cc
+
+-- where a byte that is no space begins, its token stands
+met_at : (text : List ℕ) (at b k : ℕ) (rest : List ℕ) (t : TokenContent) → drop at text ≡ b ∷ rest → is_space b ≡ false → front b rest ≡ (t, k) → 0 < k → k ≤ length (b ∷ rest) → flaw t ≡ None → Met t at (ahead_at text at) (ahead_at text (at + k))
+met_at text at b k rest t d s f lt le g =
+    let none : 0 ≡ spaces text at = sym (ap (λ (l : List ℕ). prefix_len is_space l) d ∙ ap (λ (c : Bool). cond c (1 + prefix_len is_space rest) 0) s) in
+    let some : (length (drop at text) == 0) ≡ false = ne_eqb (length (drop at text)) 0 (λ (z : length (drop at text) ≡ 0). omega (arith, ap length d, z)) in
+    let is : front_of (drop at text) ≡ (t, k) = ap front_of d ∙ f in
+    let fits : k ≤ length (drop at text) = omega (arith, ap length d) in
+    let zero_more : at + 0 ≡ at = omega arith in
+    next_token text at 0 t k none (omega arith) some is lt fits g
+    ∙ ap (λ (n : ℕ). Ok (record { at = n; token = t }, ahead_at text (n + k))) zero_more
+
+pub sign_met : (text : List ℕ) (at : ℕ) (s : Sign) → at < length text → sign_of (get_or text at 0) ≡ Some s → Met (Mark s) at (ahead_at text at) (ahead_at text (at + 1))
+sign_met text at s lt e =
+    let m = sign_made (get_or text at 0) s e in
+    met_at text at (get_or text at 0) 1 (drop (at + 1) text) (Mark s) (drop_more text at 0 lt) m.0 (m.1 (drop (at + 1) text)) (omega arith) (omega arith) refl
+
+pub word_met : (text : List ℕ) (at : ℕ) (w : List ℕ) (k : ℕ) → begins_with_letter (drop at text) ≡ true → word_of (drop at text) ≡ (Word w, k) → 0 < k → k ≤ length (drop at text) → Met (Word w) at (ahead_at text at) (ahead_at text (at + k))
+word_met text at w k h f lt le = by_case (drop at text) refl
+  where
+    by_case : (bs : List ℕ) → drop at text ≡ bs → Met (Word w) at (ahead_at text at) (ahead_at text (at + k))
+    by_case [] d = let never : ⊥ = omega (arith, ap length d) in absurd never
+    by_case (b ∷ rest) d =
+        let letter : is_ascii_alphabetic b ≡ true = ap begins_with_letter (sym d) ∙ h in
+        let space : is_space b ≡ false = grind (arith, nat_tests) in
+        let is : front b rest ≡ (Word w, k) = front_word (b ∷ rest) (omega arith) letter ∙ ap word_of (sym d) ∙ f in
+        met_at text at b k rest (Word w) d space is lt (omega (arith, ap length d)) refl
+
+pub letter_first : (bs : List ℕ) (b : ℕ) → Some b ≡ slice_get bs 0 → is_ascii_alphabetic b ≡ true → begins_with_letter bs ≡ true
+letter_first [] b e h = absurd cc
+letter_first (c ∷ bs) b e h = let same : b ≡ c = cc in ap is_ascii_alphabetic (sym same) ∙ h

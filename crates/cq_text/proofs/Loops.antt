@@ -1,12 +1,12 @@
 -- Reading a list, as a loop does.
-use Rattle.std.proofs.Common.{◌≡◌, ℕ, suc, ◌-◌, ◌+◌, ◌≤◌, ◌<◌, Bool, true, false, cond, nat_lt, List, [], ◌∷◌, ◌++◌, Result, Ok, Err, refl, sym, ap, ◌∙◌, append_assoc, arith, inl, inr, zero, Option, Some, None}
+use Rattle.std.proofs.Common.{◌≡◌, ℕ, suc, ◌-◌, ◌+◌, ◌≤◌, ◌<◌, Bool, true, false, cond, nat_lt, List, [], ◌∷◌, ◌++◌, Result, Ok, Err, refl, sym, ap, ◌∙◌, append_assoc, arith, inl, inr, zero, Option, Some, None, IfOk, subst}
 use Rattle.std.proofs.lemmas.Bool.{cases_lt, lt-ltb, le-ltb, le-leb}
 use Rattle.cq_atom.specs.Atom.{is_arity, AtomRecord}
 use Rattle.cq_text.specs.declared.fault.Kind.TheVariants.{Limit, Shape}
 use Rattle.cq_text.specs.declared.fault.Kind.{Kind}
 use Rattle.cq_text.specs.declared.fault.TextFault.{TextFault}
 use Rattle.cq_text.specs.declared.fault.TextFault.TheVariants.{At, NoMemory}
-use Rattle.cq_text.specs.Steps.Lexemes.{Ahead, Fails, ◌>>=◌, next_at, term_in, value_in, relation_in, unless_flawed, next_of, is_sign, is_finish, goes_on_at}
+use Rattle.cq_text.specs.Steps.Lexemes.{Ahead, Fails, Gives, ◌>>=◌, next_at, term_in, value_in, relation_in, unless_flawed, next_of, is_sign, is_finish, goes_on_at}
 use Rattle.cq_text.specs.Steps.Lists.{Item, listed_at, term_at, value_at, atom_at, applied_at, atoms_at, atoms_if_any_at}
 use Rattle.cq_text.proofs.Binds.{bind_never, bind_ok, never_ok, ok_is, guard_ok, chosen}
 use Rattle.cq_text.specs.declared.token.Close.{Close}
@@ -188,3 +188,13 @@ atoms_to_end form a r e =
       | inl (h, m) ↦ ap (λ (z : List AtomRecord × Ahead). z.1.lexemes) (sym (ok_is ([], p.0.1) r m)) ∙ finish_last a p.0.0 p.0.1 p.1 h
       | inr (h, m) ↦ listed_ends (atom_at form End) (most_atoms form) a r (atom_needs form End) (atom_ends form) m
     ]
+
+-- a list that is handed on, beside what is ahead
+pub with_ahead : {X Y : Type 0} (view : X → Y) (r : Result X TextFault) (y : Y) (a : Ahead) (read : Result (Y × Ahead) TextFault) → Gives view r (Ok y) → read ≡ Ok (y, a) → Gives (λ (x : X). (view x, a)) r read
+with_ahead view (Ok x) y a read g e = let same : y ≡ view x = cc in e ∙ ap (λ z. Ok (z, a)) same
+with_ahead view (Err NoMemory) y a read g e = tt
+with_ahead view (Err (At kind offset)) y a read g e = absurd cc
+
+pub of_given : {X Y : Type 0} (P : Y → Type 0) (view : X → Y) (r : Result X TextFault) (y : Y) → Gives view r (Ok y) → P y → IfOk r (λ (x : X). P (view x))
+of_given P view (Ok x) y g p = let same : y ≡ view x = cc in subst P same p
+of_given P view (Err e) y g p = tt

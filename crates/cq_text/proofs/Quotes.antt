@@ -1,23 +1,15 @@
 -- Reading a quoted text, as a loop does.
-use Rattle.std.proofs.Common.{◌≡◌, ℕ, ◌+◌, ◌<◌, Bool, true, false, cond, List, [], ◌∷◌, ◌++◌, length, drop, get_or, Option, Some, None, refl, sym, ap, ◌∙◌, append_assoc, arith}
-use Rattle.std.specs.Prelude.{◌==◌, ◌||◌}
-use Rattle.std.proofs.lemmas.List.{append-nil, drop_more}
-use Rattle.std.proofs.lemmas.Bool.{eq-eqb, ne_eqb}
+use Rattle.std.proofs.Common.{◌≡◌, ℕ, suc, ◌+◌, ◌-◌, ◌≤◌, Bool, true, false, cond, List, [], ◌∷◌, ◌++◌, length, take, drop, Option, Some, None, refl, sym, ap, ◌∙◌, append_assoc, arith}
+use Rattle.std.specs.Prelude.{◌==◌, ◌||◌, ◌&&◌, not}
+use Rattle.std.specs.List.{prefix_len}
+use Rattle.std.proofs.lemmas.List.{append-nil, drop-drop}
+use Rattle.cq_text.specs.Steps.Lexing.{is_verbatim, closes, escaped_byte}
 use Rattle.cq_text.specs.Lexing.{content, behind}
 
 -- what was read before, and what is still read
 abbrev pub with_text : List ℕ → ℕ → Option (List ℕ × ℕ) → Option (List ℕ × ℕ)
 with_text t n None = None
 with_text t n (Some c) = Some (t ++ c.0, n + c.1)
-
--- what is read where a backslash stands before the bytes
-abbrev pub after_backslash : List ℕ → Option (List ℕ × ℕ)
-after_backslash [] = None
-after_backslash (c ∷ bs) = cond ((c == 34) || (c == 92)) (behind c 1 (content bs)) None
-
-abbrev pub behind_escape : Bool → List ℕ → Option (List ℕ × ℕ)
-behind_escape true bs = after_backslash bs
-behind_escape false bs = content bs
 
 pub with_nothing : (o : Option (List ℕ × ℕ)) → with_text [] 0 o ≡ o
 with_nothing None = refl
@@ -27,53 +19,103 @@ one_byte : (t : List ℕ) (n b : ℕ) (o : Option (List ℕ × ℕ)) → with_te
 one_byte t n b None = refl
 one_byte t n b (Some c) = let e : n + (1 + c.1) ≡ n + 1 + c.1 = omega arith in ap (λ (k : ℕ). Some (t ++ (b ∷ c.0), k)) e ∙ ap (λ (l : List ℕ). Some (l, n + 1 + c.1)) (sym (append_assoc t (b ∷ []) c.0))
 
-abbrev pub Reads : List ℕ → ℕ → Bool → List ℕ → Option (List ℕ × ℕ) → Type 0
-Reads t i is_escaped bs total = with_text t i (behind_escape is_escaped (drop i bs)) ≡ total
-
-at : (i : ℕ) (bs : List ℕ) → i < length bs → drop i bs ≡ get_or bs i 0 ∷ drop (i + 1) bs
-at i bs lt = drop_more bs i 0 lt
-
-pub escape_fails : (t : List ℕ) (i : ℕ) (bs : List ℕ) (total : Option (List ℕ × ℕ)) → i < length bs → Reads t i true bs total → (get_or bs i 0 ≡ 34 → ⊥) → (get_or bs i 0 ≡ 92 → ⊥) → total ≡ None
-escape_fails t i bs total lt r m n = let e : ((get_or bs i 0 == 34) || (get_or bs i 0 == 92)) ≡ false = rw (ne_eqb (get_or bs i 0) 34 m, ne_eqb (get_or bs i 0) 92 n) refl in sym r ∙ ap (λ (l : List ℕ). with_text t i (after_backslash l)) (at i bs lt) ∙ rw e refl
-
-pub escape_takes : (t : List ℕ) (i : ℕ) (bs : List ℕ) (total : Option (List ℕ × ℕ)) → i < length bs → Reads t i true bs total → ((get_or bs i 0 == 34) || (get_or bs i 0 == 92)) ≡ true → Reads (t ++ (get_or bs i 0 ∷ [])) (i + 1) false bs total
-escape_takes t i bs total lt r e =
-    let first : with_text t i (after_backslash (drop i bs)) ≡ with_text t i (behind (get_or bs i 0) 1 (content (drop (i + 1) bs))) = ap (λ (l : List ℕ). with_text t i (after_backslash l)) (at i bs lt) ∙ rw e refl in
-    sym (one_byte t i (get_or bs i 0) (content (drop (i + 1) bs))) ∙ sym first ∙ r
-
-closed : (b : ℕ) (rest : List ℕ) → (b == 34) ≡ true → content (b ∷ rest) ≡ Some ([], 1)
-unfolding content
-closed b [] e = rw e refl
-closed b (c ∷ rest) e = rw e refl
-
-pub quote_closes : (t : List ℕ) (i : ℕ) (bs : List ℕ) (total : Option (List ℕ × ℕ)) → i < length bs → Reads t i false bs total → get_or bs i 0 ≡ 34 → total ≡ Some (t, i + 1)
-quote_closes t i bs total lt r h = let e = eq-eqb (get_or bs i 0) 34 h in sym r ∙ ap (λ (l : List ℕ). with_text t i (content l)) (at i bs lt) ∙ ap (with_text t i) (closed (get_or bs i 0) (drop (i + 1) bs) e) ∙ ap (λ (l : List ℕ). Some (l, i + 1)) (append-nil t)
-
-escaped : (t : List ℕ) (i b : ℕ) (rest : List ℕ) → (b == 34) ≡ false → (b == 92) ≡ true → with_text t i (content (b ∷ rest)) ≡ with_text t (i + 1) (after_backslash rest)
-unfolding content
-escaped t i b [] e f = rw e refl
-escaped t i b (c ∷ rest) e f = rw (e, f) (by_case ((c == 34) || (c == 92)))
-  where
-    regroup : (o : Option (List ℕ × ℕ)) → with_text t i (behind c 2 o) ≡ with_text t (i + 1) (behind c 1 o)
-    regroup None = refl
-    regroup (Some x) = let n : i + (2 + x.1) ≡ i + 1 + (1 + x.1) = omega arith in ap (λ (k : ℕ). Some (t ++ (c ∷ x.0), k)) n
-
-    by_case : (b : Bool) → with_text t i (cond b (behind c 2 (content rest)) None) ≡ with_text t (i + 1) (cond b (behind c 1 (content rest)) None)
-    by_case true = regroup (content rest)
-    by_case false = refl
-
-pub backslash_waits : (t : List ℕ) (i : ℕ) (bs : List ℕ) (total : Option (List ℕ × ℕ)) → i < length bs → Reads t i false bs total → (get_or bs i 0 ≡ 34 → ⊥) → get_or bs i 0 ≡ 92 → Reads t (i + 1) true bs total
-backslash_waits t i bs total lt r m n = let e = ne_eqb (get_or bs i 0) 34 m in let f = eq-eqb (get_or bs i 0) 92 n in sym (escaped t i (get_or bs i 0) (drop (i + 1) bs) e f) ∙ ap (λ (l : List ℕ). with_text t i (content l)) (sym (at i bs lt)) ∙ r
-
 plain : (t : List ℕ) (i b : ℕ) (rest : List ℕ) → (b == 34) ≡ false → (b == 92) ≡ false → with_text t i (content (b ∷ rest)) ≡ with_text (t ++ (b ∷ [])) (i + 1) (content rest)
 unfolding content
 plain t i b [] e f = rw e refl
 plain t i b (c ∷ rest) e f = rw (e, f) (one_byte t i b (content (c ∷ rest)))
 
-pub byte_taken : (t : List ℕ) (i : ℕ) (bs : List ℕ) (total : Option (List ℕ × ℕ)) → i < length bs → Reads t i false bs total → (get_or bs i 0 ≡ 34 → ⊥) → (get_or bs i 0 ≡ 92 → ⊥) → Reads (t ++ (get_or bs i 0 ∷ [])) (i + 1) false bs total
-byte_taken t i bs total lt r m n = let e = ne_eqb (get_or bs i 0) 34 m in let f = ne_eqb (get_or bs i 0) 92 n in sym (plain t i (get_or bs i 0) (drop (i + 1) bs) e f) ∙ ap (λ (l : List ℕ). with_text t i (content l)) (sym (at i bs lt)) ∙ r
+neither : (p q : Bool) → (not p && not q) ≡ true → (p ≡ false) × (q ≡ false)
+neither true q e = absurd cc
+neither false true e = absurd cc
+neither false false e = (refl, refl)
 
-pub never_closed : (t : List ℕ) (i : ℕ) (is_escaped : Bool) (bs : List ℕ) (total : Option (List ℕ × ℕ)) → drop i bs ≡ [] → Reads t i is_escaped bs total → total ≡ None
+-- a run of bytes that stand for themselves is taken at once
+abbrev run : List ℕ → ℕ
+run bs = prefix_len is_verbatim bs
+
+pub run_taken : (t : List ℕ) (i : ℕ) (bs : List ℕ) → with_text t i (content bs) ≡ with_text (t ++ take (run bs) bs) (i + run bs) (content (drop (run bs) bs))
+run_taken t i [] = let e : i ≡ i + 0 = omega arith in ap (λ (k : ℕ). with_text t k (content [])) e ∙ ap (λ (l : List ℕ). with_text l (i + 0) (content [])) (sym (append-nil t))
+run_taken t i (b ∷ bs) = by_case (is_verbatim b) refl (run_taken (t ++ (b ∷ [])) (i + 1) bs)
+  where
+    by_case : (v : Bool) → is_verbatim b ≡ v → with_text (t ++ (b ∷ [])) (i + 1) (content bs) ≡ with_text ((t ++ (b ∷ [])) ++ take (run bs) bs) (i + 1 + run bs) (content (drop (run bs) bs)) → with_text t i (content (b ∷ bs)) ≡ with_text (t ++ take (run (b ∷ bs)) (b ∷ bs)) (i + run (b ∷ bs)) (content (drop (run (b ∷ bs)) (b ∷ bs)))
+    by_case true e ih =
+        let one : 1 + run bs ≡ suc (run bs) = omega arith in
+        let len : run (b ∷ bs) ≡ suc (run bs) = ap (λ (c : Bool). cond c (1 + run bs) 0) e ∙ one in
+        let n = neither (b == 34) (b == 92) e in
+        let sum : i + 1 + run bs ≡ i + suc (run bs) = omega arith in
+        plain t i b bs n.0 n.1 ∙ ih
+        ∙ ap (λ (l : List ℕ). with_text l (i + 1 + run bs) (content (drop (run bs) bs))) (append_assoc t (b ∷ []) (take (run bs) bs))
+        ∙ ap (λ (k : ℕ). with_text (t ++ (b ∷ take (run bs) bs)) k (content (drop (run bs) bs))) sum
+        ∙ ap (λ (k : ℕ). with_text (t ++ take k (b ∷ bs)) (i + k) (content (drop k (b ∷ bs)))) (sym len)
+    by_case false e ih =
+        let len : run (b ∷ bs) ≡ 0 = ap (λ (c : Bool). cond c (1 + run bs) 0) e in
+        let sum : i ≡ i + 0 = omega arith in
+        ap (λ (k : ℕ). with_text t k (content (b ∷ bs))) sum ∙ ap (λ (l : List ℕ). with_text l (i + 0) (content (b ∷ bs))) (sym (append-nil t))
+        ∙ ap (λ (k : ℕ). with_text (t ++ take k (b ∷ bs)) (i + k) (content (drop k (b ∷ bs)))) (sym len)
+
+-- behind a run none begins
+pub run_ends : (bs : List ℕ) → run (drop (run bs) bs) ≡ 0
+run_ends [] = refl
+run_ends (b ∷ bs) = by_case (is_verbatim b) refl (run_ends bs)
+  where
+    by_case : (v : Bool) → is_verbatim b ≡ v → run (drop (run bs) bs) ≡ 0 → run (drop (run (b ∷ bs)) (b ∷ bs)) ≡ 0
+    by_case true e ih =
+        let one : 1 + run bs ≡ suc (run bs) = omega arith in
+        let len : run (b ∷ bs) ≡ suc (run bs) = ap (λ (c : Bool). cond c (1 + run bs) 0) e ∙ one in
+        ap (λ (k : ℕ). run (drop k (b ∷ bs))) len ∙ ih
+    by_case false e ih =
+        let len : run (b ∷ bs) ≡ 0 = ap (λ (c : Bool). cond c (1 + run bs) 0) e in
+        ap (λ (k : ℕ). run (drop k (b ∷ bs))) len ∙ len
+
+-- in a text: the n bytes from i on are the run that stands there
+pub behind_run : (t s : List ℕ) (i n : ℕ) (bs : List ℕ) (total : Option (List ℕ × ℕ)) → n ≡ run (drop i bs) → s ≡ t ++ take (i + n - i) (drop i bs) → with_text t i (content (drop i bs)) ≡ total → with_text s (i + n) (content (drop (i + n) bs)) ≡ total
+behind_run t s i n bs total e f r =
+    let size : i + n - i ≡ n = omega arith in
+    let text : s ≡ t ++ take n (drop i bs) = f ∙ ap (λ (k : ℕ). t ++ take k (drop i bs)) size in
+    let taken = run_taken t i (drop i bs) ∙ ap (λ (k : ℕ). with_text (t ++ take k (drop i bs)) (i + k) (content (drop k (drop i bs)))) (sym e) ∙ ap (λ (l : List ℕ). with_text (t ++ take n (drop i bs)) (i + n) (content l)) (drop-drop n i bs) in
+    ap (λ (l : List ℕ). with_text l (i + n) (content (drop (i + n) bs))) text ∙ sym taken ∙ r
+
+pub none_left : (i n : ℕ) (bs : List ℕ) → n ≡ run (drop i bs) → run (drop (i + n) bs) ≡ 0
+none_left i n bs e = ap run (sym (drop-drop n i bs)) ∙ ap (λ (k : ℕ). run (drop k (drop i bs))) e ∙ run_ends (drop i bs)
+
+pub quote_closes : (t : List ℕ) (i : ℕ) (bs : List ℕ) → closes bs ≡ true → with_text t i (content bs) ≡ Some (t, i + 1)
 unfolding content
-never_closed t i true bs total e r = sym r ∙ ap (λ (l : List ℕ). with_text t i (after_backslash l)) e
-never_closed t i false bs total e r = sym r ∙ ap (λ (l : List ℕ). with_text t i (content l)) e
+quote_closes t i [] e = absurd cc
+quote_closes t i (b ∷ []) e = rw e (ap (λ (l : List ℕ). Some (l, i + 1)) (append-nil t))
+quote_closes t i (b ∷ c ∷ bs) e = rw e (ap (λ (l : List ℕ). Some (l, i + 1)) (append-nil t))
+
+pub escape_fits : (bs : List ℕ) (c : ℕ) → escaped_byte bs ≡ Some c → 2 ≤ length bs
+escape_fits [] c e = absurd cc
+escape_fits (b ∷ []) c e = absurd cc
+escape_fits (b ∷ d ∷ bs) c e = omega arith
+
+two_bytes : (t : List ℕ) (n b : ℕ) (o : Option (List ℕ × ℕ)) → with_text t n (behind b 2 o) ≡ with_text (t ++ (b ∷ [])) (n + 2) o
+two_bytes t n b None = refl
+two_bytes t n b (Some c) = let e : n + (2 + c.1) ≡ n + 2 + c.1 = omega arith in ap (λ (k : ℕ). Some (t ++ (b ∷ c.0), k)) e ∙ ap (λ (l : List ℕ). Some (l, n + 2 + c.1)) (sym (append_assoc t (b ∷ []) c.0))
+
+pub escape_taken : (t : List ℕ) (i : ℕ) (bs : List ℕ) (c : ℕ) → closes bs ≡ false → escaped_byte bs ≡ Some c → with_text t i (content bs) ≡ with_text (t ++ (c ∷ [])) (i + 2) (content (drop 2 bs))
+unfolding content
+escape_taken t i [] c n e = absurd cc
+escape_taken t i (b ∷ []) c n e = absurd cc
+escape_taken t i (b ∷ d ∷ bs) c n e = rw n (by_case (b == 92) (d == 34) (d == 92) e)
+  where
+    by_case : (k p q : Bool) → cond (k && not (not p && not q)) (Some d) None ≡ Some c → with_text t i (cond k (cond (p || q) (behind d 2 (content bs)) None) (behind b 1 (content (d ∷ bs)))) ≡ with_text (t ++ (c ∷ [])) (i + 2) (content bs)
+    by_case false p q h = absurd cc
+    by_case true false false h = absurd cc
+    by_case true false true h = let same : d ≡ c = cc in two_bytes t i d (content bs) ∙ ap (λ (x : ℕ). with_text (t ++ (x ∷ [])) (i + 2) (content bs)) same
+    by_case true true q h = let same : d ≡ c = cc in two_bytes t i d (content bs) ∙ ap (λ (x : ℕ). with_text (t ++ (x ∷ [])) (i + 2) (content bs)) same
+
+pub never_closed : (bs : List ℕ) → run bs ≡ 0 → closes bs ≡ false → escaped_byte bs ≡ None → content bs ≡ None
+unfolding content
+never_closed [] z n e = refl
+never_closed (b ∷ []) z n e = rw n refl
+never_closed (b ∷ d ∷ bs) z n e = rw n (by_case (b == 92) (d == 34) (d == 92) z e)
+  where
+    by_case : (k p q : Bool) → cond (not (b == 34) && not k) (1 + run (d ∷ bs)) 0 ≡ 0 → cond (k && not (not p && not q)) (Some d) None ≡ None → cond k (cond (p || q) (behind d 2 (content bs)) None) (behind b 1 (content (d ∷ bs))) ≡ None
+    by_case false p q y h =
+        let first : (not (b == 34) && true) ≡ true = ap (λ (x : Bool). not x && true) n in
+        let more : 1 + run (d ∷ bs) ≡ 0 = sym (ap (λ (x : Bool). cond x (1 + run (d ∷ bs)) 0) first) ∙ y in
+        let never : ⊥ = omega arith in absurd never
+    by_case true false false y h = refl
+    by_case true false true y h = absurd cc
+    by_case true true q y h = absurd cc

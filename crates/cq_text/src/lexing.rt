@@ -5,7 +5,7 @@ ghost use Rattle.std.specs.List.{prefix_len};
 ghost use Rattle.std.specs.Char.{is_ascii_digit};
 ghost use Rattle.cq_atom.specs.Text.{begins_with_letter};
 ghost use Rattle.cq_text.specs.Lexing.{is_space, is_blank, magnitude, is_plain, positive, negative, negative_token, arrow_token, sign_token};
-ghost use Rattle.cq_text.specs.Steps.Lexing.{word_of, positive_of, front_of, number_or_bad};
+ghost use Rattle.cq_text.specs.Steps.Lexing.{word_of, positive_of, front_of, number_or_bad, sign_of};
 
 use crate::fault::{Kind, TextFault};
 use crate::quoting::quoted_token;
@@ -102,13 +102,14 @@ fn number_token<'a, A: Allocator>(number: Option<i64>) -> TextToken<'a, A>
     }
 }
 
-fn word_token<'a, A: Allocator>(bytes: &'a [u8]) -> (TextToken<'a, A>, usize)
+/// The identifier at the front, and how many bytes it takes.
+pub(crate) fn front_word(bytes: &[u8]) -> (Identifier<'_>, usize)
     requires { IsTrue (begins_with_letter bytes.now) }
-    ensures token { word_of bytes.now ≡ (result.0, result.1) }
+    ensures token { word_of bytes.now ≡ (Token.Word result.0, result.1) }
     ensures within { (0 < result.1) × (result.1 ≤ length bytes.now) }
 {
     let len = word_len(&bytes[1..]) + 1;
-    (Token::Word(Identifier::new(&bytes[..len])), len)
+    (Identifier::new(&bytes[..len]), len)
 }
 
 fn positive_token<'a, A: Allocator>(bytes: &[u8]) -> (TextToken<'a, A>, usize)
@@ -143,16 +144,26 @@ fn arrow_token<'a, A: Allocator>(bytes: &[u8]) -> (TextToken<'a, A>, usize)
     }
 }
 
+/// The sign that a byte is.
+pub(crate) fn sign_of(byte: u8) -> Option<Sign>
+    ensures { result ≡ sign_of byte }
+{
+    match byte {
+        b'{' => Some(Sign::OpenBrace),
+        b'}' => Some(Sign::CloseBrace),
+        b'(' => Some(Sign::OpenParen),
+        b')' => Some(Sign::CloseParen),
+        b',' => Some(Sign::Comma),
+        _ => None,
+    }
+}
+
 fn sign_token<'a, A: Allocator>(byte: u8) -> TextToken<'a, A>
     ensures { result ≡ sign_token byte }
 {
-    match byte {
-        b'{' => Token::Mark(Sign::OpenBrace),
-        b'}' => Token::Mark(Sign::CloseBrace),
-        b'(' => Token::Mark(Sign::OpenParen),
-        b')' => Token::Mark(Sign::CloseParen),
-        b',' => Token::Mark(Sign::Comma),
-        _ => Token::Bad(Kind::Token),
+    match sign_of(byte) {
+        Some(sign) => Token::Mark(sign),
+        None => Token::Bad(Kind::Token),
     }
 }
 
@@ -168,7 +179,8 @@ pub(crate) fn front<'a, A: Allocator + Copy>(
 {
     let first = bytes[0];
     if first.is_ascii_alphabetic() {
-        Ok(word_token(bytes))
+        let (word, len) = front_word(bytes);
+        Ok((Token::Word(word), len))
     } else if first.is_ascii_digit() {
         Ok(positive_token(bytes))
     } else if first == b'-' {

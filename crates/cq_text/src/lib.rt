@@ -22,6 +22,7 @@ mod limits;
 mod printing;
 mod quoting;
 mod reading;
+mod room;
 mod sink;
 mod source;
 mod token;

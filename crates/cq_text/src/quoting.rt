@@ -2,17 +2,53 @@
 
 ghost use Rattle.std.specs.Prelude.{◌≡◌, ◌<◌, ◌≤◌, ◌+◌, length, IfOk, IfErr, MatchOption};
 ghost use Rattle.std.specs.Option.{option_map};
+ghost use Rattle.std.specs.List.{prefix_len};
 ghost use Rattle.cq_text.specs.Lexing.{content, quoted_token};
-ghost use Rattle.cq_text.specs.Steps.Lexing.{text_of};
+ghost use Rattle.cq_text.specs.Steps.Lexing.{text_of, is_verbatim, closes, escaped_byte};
 
 use crate::fault::{Kind, TextFault};
 use crate::token::{TextToken, Token};
-use cq_atom::{Bad, Value};
+use cq_atom::{Bad, MAX_TEXT, Value};
 use std::alloc::{AllocError, Allocator};
 use std::str;
 
-/// For how many bytes a text has room at first, so that it seldom grows.
-const ROOM: usize = 64;
+/// For how many bytes a text has room at first: none that is good grows beyond it.
+const ROOM: usize = MAX_TEXT;
+
+/// Whether a byte between quotes stands for itself.
+fn is_verbatim(byte: u8) -> bool
+    ensures { result ≡ is_verbatim byte }
+{
+    byte != b'"' && byte != b'\\'
+}
+
+/// How many bytes at the front stand for themselves.
+fn verbatim_len(bytes: &[u8]) -> usize
+    ensures len { result ≡ prefix_len is_verbatim bytes.now }
+    ensures within { result ≤ length bytes.now }
+{
+    bytes.iter().take_while(|byte| is_verbatim(**byte)).count()
+}
+
+/// Whether the closing quote comes.
+fn closes(bytes: &[u8]) -> bool
+    ensures { result ≡ closes bytes.now }
+{
+    match bytes {
+        [] => false,
+        [first, ..] => *first == b'"',
+    }
+}
+
+/// The byte that the escape at the front stands for, if one comes.
+fn escaped_byte(bytes: &[u8]) -> Option<u8>
+    ensures { result ≡ escaped_byte bytes.now }
+{
+    match bytes {
+        [first, byte, ..] if *first == b'\\' && !is_verbatim(*byte) => Some(*byte),
+        _ => None,
+    }
+}
 
 /// What the bytes behind an opening quote stand for, and how many they are with the closing quote.
 fn content<A: Allocator>(alloc: A, bytes: &[u8]) -> Result<Option<(Vec<u8, A>, usize)>, AllocError>
@@ -20,24 +56,21 @@ fn content<A: Allocator>(alloc: A, bytes: &[u8]) -> Result<Option<(Vec<u8, A>, u
     ensures within { IfOk result (λ found. MatchOption found (Unit {0}) (λ x. x.1 ≤ length bytes.now)) }
 {
     let mut text = Vec::with_capacity(alloc, ROOM)?;
-    let mut is_escaped = false;
-    for i in 0..bytes.len() {
-        let byte = bytes[i];
-        if is_escaped {
-            if byte != b'"' && byte != b'\\' {
-                return Ok(None);
-            }
-            text.push(byte)?;
-            is_escaped = false;
-        } else if byte == b'"' {
-            return Ok(Some((text, i + 1)));
-        } else if byte == b'\\' {
-            is_escaped = true;
-        } else {
-            text.push(byte)?;
+    let mut at = 0;
+    'runs: loop {
+        let run = verbatim_len(&bytes[at..]);
+        text.extend_from_slice(&bytes[at..at + run])?;
+        at += run;
+        let rest = &bytes[at..];
+        if closes(rest) {
+            return Ok(Some((text, at + 1)));
         }
+        let Some(byte) = escaped_byte(rest) else {
+            return Ok(None);
+        };
+        text.push(byte)?;
+        at += 2;
     }
-    Ok(None)
 }
 
 /// The text that bytes are, if they are one.

@@ -23,6 +23,7 @@ use crate::command::{Command, CommandKind};
 use crate::fault::TextFault;
 use crate::form::Form;
 use crate::lexing::is_blank;
+use crate::room::Room;
 use cq_atom::{Query, Row};
 use std::alloc::Allocator;
 use std::marker::Model;
@@ -33,6 +34,7 @@ pub(crate) struct Reader<'a, A: Allocator> {
     alloc: A,
     text: &'a [u8],
     at: usize,
+    room: Room<A>,
 }
 
 impl<'a, A: Allocator> Model for Reader<'a, A> {

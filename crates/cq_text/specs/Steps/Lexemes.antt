@@ -55,6 +55,10 @@ next_of (l ∷ ls) end = unless_flawed (flaw l.token) l.at (l, record { lexemes 
 unfoldable pub next_at : Ahead → Result (LexemeContent × Ahead) TextFault
 next_at a = next_of a.lexemes a.end
 
+-- A reader met this token at that place, and passed it.
+abbrev pub Met : TokenContent → ℕ → Ahead → Ahead → Type 0
+Met token at a b = next_at a ≡ Ok (record { at = at; token = token }, b)
+
 abbrev pub code : Sign → ℕ
 code OpenBrace = 0
 code CloseBrace = 1

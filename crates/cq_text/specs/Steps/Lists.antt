@@ -28,6 +28,13 @@ listed_at item (suc n) a = do
   i ← item true a
   if i.1 then (listed_at item n i.2 >>= λ xs. Ok (i.0 ∷ xs.0, xs.1)) else Ok (i.0 ∷ [], i.2)
 
+-- A term, and where it stands.
+unfoldable pub next_term_at : Ahead → Result (TermContent × ℕ × Ahead) TextFault
+next_term_at a = do
+  l ← next_at a
+  x ← term_in l.0.token l.0.at
+  Ok (x, l.0.at, l.1)
+
 unfoldable pub term_at : Item TermContent
 term_at room a = do
   l ← next_at a
@@ -61,6 +68,13 @@ unfoldable pub atoms_if_any_at : (form : Form) → Close → Ahead → Result (L
 atoms_if_any_at form close a = do
   l ← next_at a
   if is_close close l.0.token then Ok ([], l.1) else atoms_at form close a
+
+-- A constant of a ground atom, and where it stands.
+unfoldable pub next_value_at : Ahead → Result (ValueContent × ℕ × Ahead) TextFault
+next_value_at a = do
+  l ← next_at a
+  v ← value_in l.0.token l.0.at
+  Ok (v, l.0.at, l.1)
 
 unfoldable pub value_at : Item ValueContent
 value_at room a = do

@@ -1,13 +1,13 @@
 //! What a lexeme is to the grammar: a sign, a name, a term or a constant.
 
-ghost use Rattle.std.specs.Prelude.{◌≡◌, ◌≤◌, Ok, IfOk, IsTrue, length};
+ghost use Rattle.std.specs.Prelude.{◌≡◌, ◌≤◌, Some, Ok, IfOk, IsTrue, length};
 ghost use Rattle.cq_atom.specs.Text.{is_name, is_relation_name, is_variable_name, is_text};
 ghost use Rattle.cq_atom.specs.declared.term.TermKind.{TermKind};
 ghost use Rattle.cq_atom.specs.declared.value.Content.{Content};
 ghost use Rattle.cq_text.specs.Token.{flaw};
 ghost use Rattle.cq_text.specs.declared.fault.Kind.{Kind};
 ghost use Rattle.cq_text.specs.Steps.Words.{is_identifier};
-ghost use Rattle.cq_text.specs.Steps.Lexemes.{word_value, value_in, Gives, is_sign, is_finish, is_close, short_word, word_in, name_in, relation_in, term_in, word_term};
+ghost use Rattle.cq_text.specs.Steps.Lexemes.{word_value, value_in, Gives, is_sign, is_finish, is_close, short_word, word_in, name_in, relation_of, relation_in, term_in, word_term};
 
 use crate::fault::{Kind, TextFault};
 use crate::token::{Close, Lexeme, Sign, TextLexeme, TextToken, Token};
@@ -80,6 +80,17 @@ pub(crate) fn name_in<A: Allocator>(alloc: A, lexeme: TextLexeme<A>) -> Result<N
     new_name(alloc, short_word(&word, at)?)
 }
 
+/// The relation's name that an identifier is.
+pub(crate) fn relation_word<'a>(word: &Identifier<'a>, at: usize) -> Result<&'a str, TextFault>
+    ensures name { Gives (λ w. w.now) result (relation_of (Some word.now) at) }
+    ensures valid { IfOk result (λ w. IsTrue (is_relation_name w.now)) }
+{
+    if !word.is_upper() {
+        return Err(shape(at));
+    }
+    short_word(word, at)
+}
+
 /// The relation's name in a lexeme.
 pub(crate) fn relation_in<'a, A: Allocator>(lexeme: TextLexeme<'a, A>) -> Result<&'a str, TextFault>
     ensures name { Gives (λ w. w.now) result (relation_in lexeme.entry.token lexeme.entry.at) }
@@ -89,10 +100,7 @@ pub(crate) fn relation_in<'a, A: Allocator>(lexeme: TextLexeme<'a, A>) -> Result
     let Some(word) = word_in(token) else {
         return Err(shape(at));
     };
-    if !word.is_upper() {
-        return Err(shape(at));
-    }
-    short_word(&word, at)
+    relation_word(&word, at)
 }
 
 /// The text of these letters.
@@ -123,7 +131,8 @@ fn variable_term<A: Allocator>(alloc: A, word: &str) -> Result<Term<A>, TextFaul
     Ok(Term::known_variable(alloc, word)?)
 }
 
-fn word_term<A: Allocator>(alloc: A, word: &Identifier, at: usize) -> Result<Term<A>, TextFault>
+/// The term that an identifier is.
+pub(crate) fn word_term<A: Allocator>(alloc: A, word: &Identifier, at: usize) -> Result<Term<A>, TextFault>
     ensures { Gives (λ term. term) result (word_term word.now at) }
 {
     if word.is_upper() {
@@ -150,7 +159,7 @@ pub(crate) fn term_in<A: Allocator>(alloc: A, lexeme: TextLexeme<A>) -> Result<T
 }
 
 /// The text of an upper-case identifier; a lower-case one is a variable, which no row has.
-fn word_value<A: Allocator>(
+pub(crate) fn word_value<A: Allocator>(
     alloc: A,
     identifier: &Identifier,
     at: usize,
@@ -199,6 +208,16 @@ pub(crate) fn is_finish<A: Allocator>(token: &TextToken<A>) -> bool
     ensures { result ≡ is_finish token.now }
 {
     matches!(token, Token::Finish)
+}
+
+/// Whether a sign closes what that closes.
+pub(crate) fn closes(sign: Sign, close: Close) -> bool
+    ensures { result ≡ is_close close (Token.Mark sign) }
+{
+    match close {
+        Close::By(other) => sign == other,
+        Close::End => false,
+    }
 }
 
 pub(crate) fn is_close<A: Allocator>(token: &TextToken<A>, close: Close) -> bool

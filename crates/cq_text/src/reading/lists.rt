@@ -1,10 +1,10 @@
 //! Reads terms, atoms, rows and queries.
 
-ghost use Rattle.std.specs.Prelude.{◌≡◌, ◌≤◌, Ok, IfOk, IsTrue, length};
+ghost use Rattle.std.specs.Prelude.{◌≡◌, ◌≤◌, [], Ok, IfOk, IsTrue, length};
 ghost use Rattle.cq_atom.specs.Text.{is_relation_name};
 ghost use Rattle.cq_atom.specs.Atom.{is_arity};
 ghost use Rattle.cq_atom.specs.Query.{variables_of};
-ghost use Rattle.cq_text.specs.Steps.Lists.{value_at, values_at, row_record, row_at, next_unbound_at, atom_record, term_at, terms_at, applied_at, atom_at, atoms_at, atoms_if_any_at, unbound_at, first_unbound_from, query_record, unbound_fault, bound_query, query_at};
+ghost use Rattle.cq_text.specs.Steps.Lists.{next_value_at, value_at, values_at, row_record, row_at, next_unbound_at, atom_record, next_term_at, term_at, terms_at, applied_at, atom_at, atoms_at, atoms_if_any_at, unbound_at, first_unbound_from, query_record, unbound_fault, bound_query, query_at};
 ghost use Rattle.cq_text.specs.Steps.Lexemes.{Gives, Fails};
 ghost use Rattle.cq_text.specs.Steps.Binding.{binds_both};
 ghost use Rattle.cq_atom.specs.Limits.{max_atoms};
@@ -13,12 +13,14 @@ use crate::binding::{binds_both, is_unbound};
 use crate::fault::{Kind, TextFault};
 use crate::form::Form;
 use crate::reading::Reader;
-use crate::reading::lexemes::{is_finish, limit, shape, term_in, value_in};
+use crate::reading::lexemes::{
+    is_finish, limit, shape, term_in, value_in, word_term, word_value,
+};
 use crate::token::{Close, Sign};
 use cq_atom::{Atom, Bad, Query, Row, Term, Value, Variables};
 use std::alloc::Allocator;
 
-/// For how many terms, values or atoms a list has room at first: most have no more, and no room is left empty for others.
+/// For how many values or atoms a list has room at first: most have no more, and no room is left empty for others.
 const ROOM: usize = 2;
 
 fn new_row<A: Allocator + Clone>(
@@ -72,14 +74,25 @@ fn new_query<A: Allocator + Copy>(
 }
 
 impl<'a, A: Allocator + Copy> Reader<'a, A> {
+    /// A term, and where it stands.
+    #[tactic(auto, unfolding(crate::specs::Steps::Lists::next_term_at))]
+    fn next_term(&mut self) -> Result<(Term<A>, usize), TextFault>
+        ensures { Gives (λ x. (x.0, x.1, self.new)) result (next_term_at self.old) }
+    {
+        if let Some((word, at)) = self.next_word() {
+            return Ok((word_term(self.alloc, &word, at)?, at));
+        }
+        let lexeme = self.next()?;
+        let at = lexeme.at;
+        Ok((term_in(self.alloc, lexeme)?, at))
+    }
+
     /// A term, and whether more come.
-    #[tactic(auto, unfolding(crate::specs::Steps::Lists::term_at))]
+    #[tactic(auto, unfolding(crate::specs::Steps::Lists::term_at, crate::specs::Steps::Lists::next_term_at))]
     fn term(&mut self, has_room: bool) -> Result<(Term<A>, bool), TextFault>
         ensures { Gives (λ x. (x.0, x.1, self.new)) result (term_at has_room self.old) }
     {
-        let lexeme = self.next()?;
-        let at = lexeme.at;
-        let term = term_in(self.alloc, lexeme)?;
+        let (term, at) = self.next_term()?;
         if !has_room {
             return Err(limit(at));
         }
@@ -87,17 +100,33 @@ impl<'a, A: Allocator + Copy> Reader<'a, A> {
         Ok((term, has_more))
     }
 
+    /// Room for terms, which is taken until it comes back.
+    fn take_room(&mut self) -> Vec<Term<A>, A>
+        ensures empty { result.items ≡ [] }
+        ensures same { self.new ≡ self.old }
+    {
+        self.room.take(self.alloc)
+    }
+
+    /// The gathered terms in a block that is no larger than they are. Their room comes back.
+    fn gathered(&mut self, room: Vec<Term<A>, A>) -> Result<Vec<Term<A>, A>, TextFault>
+        ensures terms { Gives (λ terms. terms.items) result (Ok room.items) }
+        ensures same { self.new ≡ self.old }
+    {
+        self.room.gathered(self.alloc, room)
+    }
+
     /// Terms, and the bracket behind them.
     fn terms(&mut self, form: Form) -> Result<Vec<Term<A>, A>, TextFault>
         ensures terms { Gives (λ v. (v.items, self.new)) result (terms_at form self.old) }
         ensures arity { IfOk result (λ v. IsTrue (is_arity (length v.items))) }
     {
-        let mut terms = Vec::with_capacity(self.alloc, ROOM)?;
+        let mut terms = self.take_room();
         'terms: loop {
             let (term, has_more) = self.term(terms.len() < form.max_terms())?;
             terms.push(term)?;
             if !has_more {
-                return Ok(terms);
+                return self.gathered(terms);
             }
         }
     }
@@ -160,14 +189,25 @@ impl<'a, A: Allocator + Copy> Reader<'a, A> {
         self.atoms(form, close)
     }
 
+    /// A constant of a ground atom, and where it stands.
+    #[tactic(auto, unfolding(crate::specs::Steps::Lists::next_value_at))]
+    fn next_value(&mut self) -> Result<(Value<A>, usize), TextFault>
+        ensures { Gives (λ x. (x.0, x.1, self.new)) result (next_value_at self.old) }
+    {
+        if let Some((word, at)) = self.next_word() {
+            return Ok((word_value(self.alloc, &word, at)?, at));
+        }
+        let lexeme = self.next()?;
+        let at = lexeme.at;
+        Ok((value_in(self.alloc, lexeme)?, at))
+    }
+
     /// A constant of a ground atom, and whether more come.
-    #[tactic(auto, unfolding(crate::specs::Steps::Lists::value_at))]
+    #[tactic(auto, unfolding(crate::specs::Steps::Lists::value_at, crate::specs::Steps::Lists::next_value_at))]
     fn value(&mut self, has_room: bool) -> Result<(Value<A>, bool), TextFault>
         ensures { Gives (λ x. (x.0, x.1, self.new)) result (value_at has_room self.old) }
     {
-        let lexeme = self.next()?;
-        let at = lexeme.at;
-        let value = value_in(self.alloc, lexeme)?;
+        let (value, at) = self.next_value()?;
         if !has_room {
             return Err(limit(at));
         }

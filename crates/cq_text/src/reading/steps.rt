@@ -1,14 +1,18 @@
 //! The reader's own steps, from lexeme to lexeme.
 
-ghost use Rattle.std.specs.Prelude.{◌≡◌, Ok, IfOk, IsTrue};
+ghost use Rattle.std.specs.Prelude.{◌≡◌, Ok, IfOk, IsTrue, MatchOption};
 ghost use Rattle.cq_atom.specs.Text.{is_relation_name};
-ghost use Rattle.cq_text.specs.Steps.Lexemes.{next_is_at, passes_at, next_in_list_at, name_at, relation_name_at, Gives, ahead_of_text, next_at, sign_at, end_at, goes_on_at};
+ghost use Rattle.cq_text.specs.Steps.Lexemes.{next_is_at, passes_at, next_in_list_at, name_at, relation_name_at, Gives, Met, ahead_of_text, next_at, sign_at, end_at, goes_on_at};
 
 use crate::fault::TextFault;
-use crate::lexing::{front, spaces_len};
+use crate::lexing::{front, front_word, sign_of, spaces_len};
 use crate::reading::Reader;
-use crate::reading::lexemes::{flaw, is_close, is_sign, name_in, relation_in, shape};
+use crate::reading::lexemes::{
+    closes, flaw, is_close, is_sign, name_in, relation_in, relation_word, shape,
+};
+use crate::room::Room;
 use crate::token::{Close, Lexeme, Sign, TextLexeme, Token};
+use crate::word::Identifier;
 use cq_atom::Name;
 use std::alloc::Allocator;
 
@@ -16,7 +20,12 @@ impl<'a, A: Allocator + Copy> Reader<'a, A> {
     pub(crate) fn new(alloc: A, text: &'a [u8]) -> Reader<'a, A>
         ensures { result ≡ ahead_of_text text.now }
     {
-        Reader { alloc, text, at: 0 }
+        Reader {
+            alloc,
+            text,
+            at: 0,
+            room: Room::new(alloc),
+        }
     }
 
     /// A reader of the same place.
@@ -27,7 +36,43 @@ impl<'a, A: Allocator + Copy> Reader<'a, A> {
             alloc: self.alloc,
             text: self.text,
             at: self.at,
+            room: Room::new(self.alloc),
         }
+    }
+
+    /// Passes the spaces that come, behind which the same tokens are ahead.
+    fn pass_spaces(&mut self)
+        ensures { self.new ≡ self.old }
+    {
+        self.at += spaces_len(&self.text[self.at..]);
+    }
+
+    /// The sign of one byte that comes, which is passed then, and where it stands.
+    #[inline(always)]
+    fn next_sign(&mut self) -> Option<(Sign, usize)>
+        ensures { MatchOption result (self.new ≡ self.old) (λ x. Met (Token.Mark x.0) x.1 self.old self.new) }
+    {
+        self.pass_spaces();
+        let at = self.at;
+        let sign = sign_of(*self.text.get(at)?)?;
+        self.at = at + 1;
+        Some((sign, at))
+    }
+
+    /// The identifier that comes, which is passed then, and where it stands.
+    #[inline(always)]
+    pub(crate) fn next_word(&mut self) -> Option<(Identifier<'a>, usize)>
+        ensures { MatchOption result (self.new ≡ self.old) (λ x. Met (Token.Word x.0) x.1 self.old self.new) }
+    {
+        self.pass_spaces();
+        let at = self.at;
+        let rest = &self.text[at..];
+        if !rest.first()?.is_ascii_alphabetic() {
+            return None;
+        }
+        let (word, len) = front_word(rest);
+        self.at = at + len;
+        Some((word, at))
     }
 
     /// The next token, passing spaces.
@@ -58,6 +103,9 @@ impl<'a, A: Allocator + Copy> Reader<'a, A> {
     fn next_is(&mut self, close: Close) -> Result<(bool, usize), TextFault>
         ensures { Gives (λ x. (x.0, x.1, self.new)) result (next_is_at close self.old) }
     {
+        if let Some((sign, at)) = self.next_sign() {
+            return Ok((closes(sign, close), at));
+        }
         let lexeme = self.next()?;
         Ok((is_close(&lexeme.token, close), lexeme.at))
     }
@@ -99,6 +147,9 @@ impl<'a, A: Allocator + Copy> Reader<'a, A> {
     fn next_in_list(&mut self, close: Close) -> Result<(bool, bool, usize), TextFault>
         ensures { Gives (λ x. (x.0, x.1, x.2, self.new)) result (next_in_list_at close self.old) }
     {
+        if let Some((sign, at)) = self.next_sign() {
+            return Ok((sign == Sign::Comma, closes(sign, close), at));
+        }
         let lexeme = self.next()?;
         Ok((
             is_sign(&lexeme.token, Sign::Comma),
@@ -137,9 +188,11 @@ impl<'a, A: Allocator + Copy> Reader<'a, A> {
         ensures name { Gives (λ x. (x.0.now, x.1, self.new)) result (relation_name_at self.old) }
         ensures valid { IfOk result (λ x. IsTrue (is_relation_name x.0.now)) }
     {
+        if let Some((word, at)) = self.next_word() {
+            return Ok((relation_word(&word, at)?, at));
+        }
         let lexeme = self.next()?;
         let at = lexeme.at;
-        let name = relation_in(lexeme)?;
-        Ok((name, at))
+        Ok((relation_in(lexeme)?, at))
     }
 }

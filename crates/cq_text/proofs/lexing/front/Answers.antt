@@ -4,7 +4,7 @@ use Rattle.cq_text.proofs.Fronts.{front_word, front_digit, front_minus, front_ar
 use Rattle.cq_text.proofs.lexing.front.Goals as goal
 
 pub returns-then-is_ascii_alphabetic-clause-token : goal.returns-then-is_ascii_alphabetic-clause-token
-returns-then-is_ascii_alphabetic-clause-token g c = front_word c.args.bytes.now c.requires (search rules) ∙ c.word_token.ensures.token
+returns-then-is_ascii_alphabetic-clause-token g c = front_word c.args.bytes.now c.requires (search rules) ∙ c.front_word-word.ensures.token
 
 pub returns-then-is_ascii_digit-clause-token : goal.returns-then-is_ascii_digit-clause-token
 returns-then-is_ascii_digit-clause-token g c = front_digit c.args.bytes.now c.requires (search rules) (search rules) ∙ c.positive_token.ensures.token

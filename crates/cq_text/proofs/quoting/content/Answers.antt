@@ -1,35 +1,36 @@
-use Rattle.std.proofs.Common.{sym, rules, ◌≡◌, get_or, true, refl}
-use Rattle.std.specs.Prelude.{◌==◌, ◌||◌}
-use Rattle.std.proofs.lemmas.List.{drop_all}
-use Rattle.std.proofs.lemmas.Bool.{eq-eqb, ne_eqb}
+use Rattle.std.proofs.Common.{◌∙◌, sym, ◌+◌, drop, arith, ap}
+use Rattle.std.proofs.lemmas.List.{take_rest, drop-drop, length-drop}
 use Rattle.cq_text.specs.Lexing.{content}
-use Rattle.cq_text.proofs.Quotes.{quote_closes, escape_takes, backslash_waits, byte_taken, never_closed}
+use Rattle.cq_text.proofs.Quotes.{with_text, behind_run, none_left, quote_closes, escape_fits, escape_taken, never_closed}
 use Rattle.cq_text.proofs.quoting.content.Goals as goal
-use Rattle.cq_text.proofs.quoting.content.Goals.{then-is_escaped+else-byte-ne34+in_ok-push, else-byte-ne34-via-then-byte-ne34+else-byte-ne92, else-byte-ne34-via-else-byte-ne34, else-is_escaped+else-byte-eq34+then-byte-eq92, else-is_escaped+else-byte-eq34+else-byte-eq92+in_ok-push-2}
 
-pub returns-then-byte-eq34-clause-content : goal.returns-then-byte-eq34-clause-content
-returns-then-byte-eq34-clause-content g c =
-    let r = rw c.if-is_escaped.false at c.loop-i.invariant in
-    sym (quote_closes c.loop-i.text.items c.loop-i.i c.args.bytes.now (content c.args.bytes.now) c.loop-i-test.true r c.if-byte-eq34.true)
+pub returns-then-closes-clause-content : goal.returns-then-closes-clause-content
+returns-then-closes-clause-content g c =
+    let n = simp take_rest at c.verbatim_len-run.ensures.len in
+    let e = simp take_rest at c.closes.ensures in
+    let r = behind_run c.runs.text.items c.extend_from_slice.new.self.items c.runs.at c.verbatim_len-run.result c.args.bytes.now (content c.args.bytes.now) n c.in_ok-extend_from_slice.ensures.items c.runs.invariant.reads in
+    sym (quote_closes c.extend_from_slice.new.self.items (c.runs.at + c.verbatim_len-run.result) _ (sym e ∙ c.if-closes.true)) ∙ r
 
-pub loop-i-preserved : goal.loop-i-preserved
-loop-i-preserved g c = elim c.if-is_escaped.branch [
-  | then-is_escaped+else-byte-ne34+in_ok-push w ↦
-      let r = rw w.if-is_escaped.true at c.loop-i.invariant in
-      let b = get_or c.args.bytes.now c.loop-i.i 0 in
-      let good : ((b == 34) || (b == 92)) ≡ true = elim w.else-byte-ne34.branch [
-        | else-byte-ne34-via-then-byte-ne34+else-byte-ne92 v ↦ rw (ne_eqb b 34 v.if-byte-ne34.true, eq-eqb b 92 v.if-byte-ne92.false) refl
-        | else-byte-ne34-via-else-byte-ne34 v ↦ rw (eq-eqb b 34 v.if-byte-ne34.false) refl
-      ]
-      in
-      rw (w.text-is, w.is_escaped-is) (search (rules, escape_takes c.loop-i.text.items c.loop-i.i c.args.bytes.now (content c.args.bytes.now) c.loop-i-test.true r good))
-  | else-is_escaped+else-byte-eq34+then-byte-eq92 w ↦
-      let r = rw w.if-is_escaped.false at c.loop-i.invariant in
-      rw (w.text-is, w.is_escaped-is) (backslash_waits c.loop-i.text.items c.loop-i.i c.args.bytes.now (content c.args.bytes.now) c.loop-i-test.true r w.if-byte-eq34.false w.if-byte-eq92.true)
-  | else-is_escaped+else-byte-eq34+else-byte-eq92+in_ok-push-2 w ↦
-      let r = rw w.if-is_escaped.false at c.loop-i.invariant in
-      rw (w.text-is, w.is_escaped-is) (search (rules, byte_taken c.loop-i.text.items c.loop-i.i c.args.bytes.now (content c.args.bytes.now) c.loop-i-test.true r w.if-byte-eq34.false w.if-byte-eq92.false))
-]
+pub returns-in_default-clause-content : goal.returns-in_default-clause-content
+returns-in_default-clause-content g c =
+    let n = simp take_rest at c.verbatim_len-run.ensures.len in
+    let e = simp take_rest at c.closes.ensures in
+    let f = simp take_rest at c.escaped_byte.ensures in
+    let r = behind_run c.runs.text.items c.extend_from_slice.new.self.items c.runs.at c.verbatim_len-run.result c.args.bytes.now (content c.args.bytes.now) n c.in_ok-extend_from_slice.ensures.items c.runs.invariant.reads in
+    let none = never_closed _ (none_left c.runs.at c.verbatim_len-run.result c.args.bytes.now n) (sym e ∙ c.if-closes.false) (sym f ∙ c.in_default.is) in
+    sym (ap (with_text c.extend_from_slice.new.self.items (c.runs.at + c.verbatim_len-run.result)) none) ∙ r
 
-pub returns-clause-content : goal.returns-clause-content
-returns-clause-content g c = sym (never_closed c.loop-i.text.items c.loop-i.i c.loop-i.is_escaped c.args.bytes.now (content c.args.bytes.now) (drop_all c.loop-i.i c.args.bytes.now c.loop-i-test.false) c.loop-i.invariant)
+pub runs-preserved : goal.runs-preserved
+runs-preserved g c =
+    let n = simp take_rest at c.verbatim_len-run.ensures.len in
+    let e = simp take_rest at c.closes.ensures in
+    let f = simp take_rest at c.escaped_byte.ensures in
+    let at = c.runs.at + c.verbatim_len-run.result in
+    let r = behind_run c.runs.text.items c.extend_from_slice.new.self.items c.runs.at c.verbatim_len-run.result c.args.bytes.now (content c.args.bytes.now) n c.in_ok-extend_from_slice.ensures.items c.runs.invariant.reads in
+    let fits = escape_fits (drop at c.args.bytes.now) c.in-Some.byte (sym f ∙ c.in-Some.is) in
+    let taken = escape_taken c.extend_from_slice.new.self.items at (drop at c.args.bytes.now) c.in-Some.byte (sym e ∙ c.if-closes.false) (sym f ∙ c.in-Some.is) in
+    let rest = drop-drop 2 at c.args.bytes.now in
+    record {
+      within = omega (arith, fits, length-drop at c.args.bytes.now);
+      reads = rw (c.in_ok-push.ensures.items, ← rest) (sym taken ∙ r);
+    }

@@ -1,27 +1,28 @@
-use Rattle.std.proofs.Common.{rules, ◌≡◌, length, vec_len, arith}
+use Rattle.std.proofs.Common.{rules, ◌≡◌, List, IsTrue, length, vec_len, arith}
 use Rattle.std.proofs.lemmas.Result.{err_from_is_err_and}
+use Rattle.cq_atom.specs.Atom.{TermContent, is_arity}
 use Rattle.cq_text.specs.Steps.Lists.{term_at, terms_at}
 use Rattle.cq_text.specs.Forms.{most_terms}
-use Rattle.cq_text.proofs.Loops.{term_needs, begins, step_fails, step_more, step_done, step_room, some_arity}
+use Rattle.cq_text.proofs.Loops.{with_ahead, of_given, term_needs, begins, step_fails, step_more, step_done, step_room, some_arity}
 use Rattle.cq_text.proofs.reading.Reader.terms.Goals as goal
 
 pub terms-init : goal.terms-init
 unfolding terms_at
 terms-init g c = record {
   few = search rules;
-  goes_on = begins term_at (most_terms c.args.form) c.in_ok-terms.terms.items (vec_len c.in_ok-terms.terms) c.args.self.now c.in_ok-terms.ensures.items c.in_ok-terms.ensures.len;
+  goes_on = rw c.take_room-terms.ensures.same (begins term_at (most_terms c.args.form) c.take_room-terms.result.items (vec_len c.take_room-terms.result) c.args.self.now c.take_room-terms.ensures.empty (search rules));
 }
 
 pub returns-in_err-term-clause-terms : goal.returns-in_err-term-clause-terms
 returns-in_err-term-clause-terms g c =
-    let p = err_from_is_err_and c.from_residual-in_err-term.result c.from_residual-in_err-term.ensures.1 in
+    let p = err_from_is_err_and c.from_residual.result c.from_residual.ensures.1 in
     let h = rw (c.len.ensures, c.max_terms.ensures) at c.in_err-term.ensures in
     rw (p.1, p.2) (step_fails term_at c.in_err-term.field-0.0 (most_terms c.args.form) c.terms.terms.items (vec_len c.terms.terms) c.terms.self (terms_at c.args.form c.args.self.now) term_needs c.terms.invariant.few c.terms.invariant.goes_on h)
 
 pub returns-then-not-has_more-clause-terms : goal.returns-then-not-has_more-clause-terms
 returns-then-not-has_more-clause-terms g c =
     let h = rw (c.len.ensures, c.max_terms.ensures, c.if-not-has_more.true) at c.in_ok-term.ensures in
-    rw c.in_ok-push.ensures.items (step_done term_at (most_terms c.args.form) c.terms.terms.items (vec_len c.terms.terms) c.terms.self c.term.new.self c.in_ok-term.term (terms_at c.args.form c.args.self.now) term_needs c.terms.invariant.few c.terms.invariant.goes_on h)
+    rw c.gathered.ensures.same (with_ahead _ c.gathered.result c.push.new.self.items c.term.new.self _ c.gathered.ensures.terms (rw c.in_ok-push.ensures.items (step_done term_at (most_terms c.args.form) c.terms.terms.items (vec_len c.terms.terms) c.terms.self c.term.new.self c.in_ok-term.term (terms_at c.args.form c.args.self.now) term_needs c.terms.invariant.few c.terms.invariant.goes_on h)))
 
 pub terms-smaller : goal.terms-smaller
 terms-smaller g c =
@@ -43,4 +44,5 @@ returns-then-not-has_more-clause-arity g c =
     let h = rw (c.len.ensures, c.max_terms.ensures) at c.in_ok-term.ensures in
     let lt = step_room term_at (most_terms c.args.form) (vec_len c.terms.terms) c.terms.self _ term_needs c.terms.invariant.few h in
     let count : length c.push.new.self.items ≡ vec_len c.push.new.self = search rules in
-    rw (count, c.in_ok-push.ensures.len) (some_arity c.args.form (vec_len c.terms.terms) lt)
+    let arity : IsTrue (is_arity (length c.push.new.self.items)) = rw (count, c.in_ok-push.ensures.len) (some_arity c.args.form (vec_len c.terms.terms) lt) in
+    of_given (λ (terms : List TermContent). IsTrue (is_arity (length terms))) _ c.gathered.result c.push.new.self.items c.gathered.ensures.terms arity
