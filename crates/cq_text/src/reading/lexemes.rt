@@ -132,7 +132,11 @@ fn variable_term<A: Allocator>(alloc: A, word: &str) -> Result<Term<A>, TextFaul
 }
 
 /// The term that an identifier is.
-pub(crate) fn word_term<A: Allocator>(alloc: A, word: &Identifier, at: usize) -> Result<Term<A>, TextFault>
+pub(crate) fn word_term<A: Allocator>(
+    alloc: A,
+    word: &Identifier,
+    at: usize,
+) -> Result<Term<A>, TextFault>
     ensures { Gives (λ term. term) result (word_term word.now at) }
 {
     if word.is_upper() {

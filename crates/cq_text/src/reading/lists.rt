@@ -13,9 +13,7 @@ use crate::binding::{binds_both, is_unbound};
 use crate::fault::{Kind, TextFault};
 use crate::form::Form;
 use crate::reading::Reader;
-use crate::reading::lexemes::{
-    is_finish, limit, shape, term_in, value_in, word_term, word_value,
-};
+use crate::reading::lexemes::{is_finish, limit, shape, term_in, value_in, word_term, word_value};
 use crate::token::{Close, Sign};
 use cq_atom::{Atom, Bad, Query, Row, Term, Value, Variables};
 use std::alloc::Allocator;
