@@ -23,7 +23,10 @@ pub fn gain<A: Allocator + Copy>(
     meter: &mut Meter,
 ) -> Result<(), AllocError> {
     match read_ground_atom(alloc, text.as_bytes(), Form::One) {
-        Ok(row) => found.gain(query, tables, &row, meter),
+        Ok(row) => {
+            found.gain(query, tables, &row, meter)?;
+            Ok(())
+        }
         Err(_) => Err(AllocError),
     }
 }
@@ -253,7 +256,7 @@ fn gain_again<A: Allocator + Copy>(
     before: &Groundings<A>,
 ) -> bool {
     found.list() == before.list()
-        && found.gain(query, tables, row, &mut Meter::new()) == Ok(())
+        && found.gain(query, tables, row, &mut Meter::new()) == Ok(true)
         && found.count() == 4
         && are_all(alloc, query, tables, found)
 }
@@ -269,7 +272,7 @@ fn gain_refused<A: Allocator + Copy>(
         return Outcome::Unready;
     };
     match found.gain(query, tables, row, &mut Meter::new()) {
-        Ok(()) => Outcome::done_if(found.count() == 4),
+        Ok(is_new) => Outcome::done_if(is_new && found.count() == 4),
         Err(_) => Outcome::refused_if(gain_again(alloc, query, tables, row, found, &before)),
     }
 }
