@@ -7,6 +7,7 @@ pub mod Closes
 pub mod Bindings
 pub mod Bound
 pub mod Names
+pub mod Plain
 pub mod Firsts
 pub mod Among
 pub mod Finite

@@ -3,3 +3,4 @@ pub mod Labels
 pub mod Meets
 pub mod Variables
 pub mod Bytes
+pub mod Plain

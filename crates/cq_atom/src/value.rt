@@ -84,6 +84,17 @@ impl<A: Allocator> Value<A> {
         if !is_text_content(text) {
             return Err(Bad::BadText);
         }
+        Ok(Value::known_text(alloc, text)?)
+    }
+
+    /// The text as a value, which is known to be one.
+    ///
+    /// # Errors
+    /// `AllocError` where the growth was refused.
+    pub fn known_text(alloc: A, text: &str) -> Result<Value<A>, AllocError>
+        requires { IsTrue (is_text text.now) }
+        ensures { IfOk result (λ value. value ≡ Content.Text text.now) }
+    {
         let text = Bytes::from_str(alloc, text)?;
         Ok(Value {
             content: Content::Text(Text { text }),

@@ -1,8 +1,9 @@
 //! The tests of bytes that the constructors share.
 
-ghost use Rattle.std.specs.Prelude.{◌≡◌};
+ghost use Rattle.std.specs.Prelude.{◌≡◌, fold, true};
 ghost use Rattle.std.specs.List.{list_all};
 ghost use Rattle.cq_atom.specs.Text.{is_word_byte, begins_with_letter, is_name, is_variable_name, is_relation_name, begins_with_lower, begins_with_upper, is_plain_byte, is_text};
+ghost use Rattle.cq_atom.specs.Steps.Plain.{still_plain};
 
 use crate::limits::{MAX_NAME, MAX_TEXT};
 
@@ -67,17 +68,24 @@ pub fn is_relation_text(text: &str) -> bool
 fn is_plain_byte_at(byte: u8) -> bool
     ensures { result ≡ is_plain_byte byte }
 {
-    byte >= 32 && byte != 127
+    (byte >= 32) & (byte != 127)
 }
 
-fn are_plain_bytes(text: &str) -> bool
+/// Each byte is looked at, whatever the others are, so that the machine may look at many at once.
+fn are_plain_bytes(bytes: &[u8]) -> bool
+    ensures { result ≡ fold still_plain true bytes.now }
+{
+    bytes.iter().fold(true, |are_plain, byte| are_plain & is_plain_byte_at(*byte))
+}
+
+fn is_plain(text: &str) -> bool
     ensures { result ≡ list_all is_plain_byte text.now }
 {
-    text.as_bytes().iter().all(|byte| is_plain_byte_at(*byte))
+    are_plain_bytes(text.as_bytes())
 }
 
 pub(crate) fn is_text_content(text: &str) -> bool
     ensures { result ≡ is_text text.now }
 {
-    text.len() <= MAX_TEXT && are_plain_bytes(text)
+    text.len() <= MAX_TEXT && is_plain(text)
 }

@@ -51,10 +51,9 @@ impl<'a> Identifier<'a> {
         requires { IsTrue (is_identifier bytes.now) }
         ensures { result ≡ bytes.now }
     {
-        match str::from_utf8(bytes) {
-            Ok(text) => Identifier { text },
-            Err(_) => unreachable!(),
-        }
+        // SAFETY: the bytes are ASCII, which the proof shows.
+        let text = unsafe { str::from_utf8_unchecked(bytes) };
+        Identifier { text }
     }
 
     pub(crate) fn as_str(&self) -> &'a str

@@ -108,11 +108,7 @@ fn text_value<A: Allocator>(alloc: A, word: &str) -> Result<Value<A>, TextFault>
     requires { IsTrue (is_text word.now) }
     ensures { Gives (λ value. value) result (Ok (Content.Text word.now)) }
 {
-    match Value::text(alloc, word) {
-        Ok(value) => Ok(value),
-        Err(Bad::NoMemory) => Err(TextFault::NoMemory),
-        Err(_) => unreachable!(),
-    }
+    Ok(Value::known_text(alloc, word)?)
 }
 
 /// The text of an upper-case identifier, as a term.
