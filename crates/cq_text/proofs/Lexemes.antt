@@ -1,18 +1,19 @@
 -- The lexemes of a text, a step at a time.
 use Rattle.std.proofs.Common.{◌≡◌, ℕ, zero, suc, ◌+◌, ◌-◌, ◌<◌, ◌≤◌, Bool, true, false, cond, List, [], ◌∷◌, length, drop, get_or, Ok, refl, sym, ap, subst, ◌∙◌, arith, None, Some}
 use Rattle.std.specs.List.{prefix_len}
-use Rattle.std.specs.Char.{is_ascii_alphabetic}
+use Rattle.std.specs.Char.{is_ascii_alphabetic, is_ascii_digit}
 use Rattle.std.proofs.lemmas.Bool.Decides.{nat_tests}
 use Rattle.cq_atom.specs.Text.{begins_with_letter}
+use Rattle.cq_atom.specs.Value.{ValueContent}
 use Rattle.std.proofs.lemmas.List.{drop-drop, drop_more, length-drop}
 use Rattle.std.proofs.lemmas.Bool.{eqb-true, ne_eqb}
 use Rattle.cq_text.specs.declared.token.Sign.{Sign}
 use Rattle.cq_text.specs.declared.token.Sign.TheVariants.{OpenBrace, CloseBrace, OpenParen, CloseParen, Comma}
-use Rattle.cq_text.specs.declared.token.Token.TheVariants.{Mark, Word, Finish}
+use Rattle.cq_text.specs.declared.token.Token.TheVariants.{Mark, Word, Literal, Finish}
 use Rattle.cq_text.specs.Token.{TokenContent, LexemeContent, flaw}
 use Rattle.cq_text.specs.Steps.Lexemes.{Ahead, next_of, next_at, fault, Met}
-use Rattle.cq_text.specs.Steps.Lexing.{front_of, sign_of, word_of}
-use Rattle.cq_text.proofs.Fronts.{front_word}
+use Rattle.cq_text.specs.Steps.Lexing.{front_of, sign_of, word_of, positive_of}
+use Rattle.cq_text.proofs.Fronts.{first_of, front_word, front_digit}
 use Rattle.cq_text.specs.declared.fault.Kind.{Kind}
 use Rattle.std.specs.Prelude.{◌==◌, slice_get}
 use Rattle.cq_text.specs.Lexing.{is_space, front, lexemes}
@@ -181,3 +182,19 @@ word_met text at w k h f lt le = by_case (drop at text) refl
 pub letter_first : (bs : List ℕ) (b : ℕ) → Some b ≡ slice_get bs 0 → is_ascii_alphabetic b ≡ true → begins_with_letter bs ≡ true
 letter_first [] b e h = absurd cc
 letter_first (c ∷ bs) b e h = let same : b ≡ c = cc in ap is_ascii_alphabetic (sym same) ∙ h
+
+pub number_met : (text : List ℕ) (at : ℕ) (v : ValueContent) (k : ℕ) → is_ascii_digit (first_of (drop at text)) ≡ true → positive_of (drop at text) ≡ (Literal v, k) → 0 < k → k ≤ length (drop at text) → Met (Literal v) at (ahead_at text at) (ahead_at text (at + k))
+number_met text at v k h f lt le = by_case (drop at text) refl
+  where
+    by_case : (bs : List ℕ) → drop at text ≡ bs → Met (Literal v) at (ahead_at text at) (ahead_at text (at + k))
+    by_case [] d = let never : ⊥ = omega (arith, ap length d) in absurd never
+    by_case (b ∷ rest) d =
+        let digit : is_ascii_digit b ≡ true = ap (λ (l : List ℕ). is_ascii_digit (first_of l)) (sym d) ∙ h in
+        let letter : is_ascii_alphabetic b ≡ false = grind (arith, nat_tests) in
+        let space : is_space b ≡ false = grind (arith, nat_tests) in
+        let is : front b rest ≡ (Literal v, k) = front_digit (b ∷ rest) (omega arith) letter digit ∙ ap positive_of (sym d) ∙ f in
+        met_at text at b k rest (Literal v) d space is lt (omega (arith, ap length d)) refl
+
+pub digit_first : (bs : List ℕ) (b : ℕ) → Some b ≡ slice_get bs 0 → is_ascii_digit b ≡ true → is_ascii_digit (first_of bs) ≡ true
+digit_first [] b e h = absurd cc
+digit_first (c ∷ bs) b e h = let same : b ≡ c = cc in ap is_ascii_digit (sym same) ∙ h

@@ -4,6 +4,7 @@ ghost use Rattle.std.specs.Prelude.{◌≡◌, ◌<◌, ◌≤◌, ◌+◌, ◌^
 ghost use Rattle.std.specs.List.{prefix_len};
 ghost use Rattle.std.specs.Char.{is_ascii_digit};
 ghost use Rattle.cq_atom.specs.Text.{begins_with_letter};
+ghost use Rattle.cq_atom.specs.declared.value.Content.{Content};
 ghost use Rattle.cq_text.specs.Lexing.{is_space, is_blank, magnitude, is_plain, positive, negative, negative_token, arrow_token, sign_token};
 ghost use Rattle.cq_text.specs.Steps.Lexing.{word_of, positive_of, front_of, number_or_bad, sign_of};
 
@@ -119,6 +120,17 @@ fn positive_token<'a, A: Allocator>(bytes: &[u8]) -> (TextToken<'a, A>, usize)
 {
     let len = digits_len(&bytes[1..]) + 1;
     (number_token(positive(&bytes[..len])), len)
+}
+
+/// The number at the front that begins with a digit, where it is a good one, and how many bytes it takes.
+pub(crate) fn front_number(bytes: &[u8]) -> Option<(i64, usize)>
+    requires { 0 < length bytes.now }
+    ensures token { MatchOption result (Unit {0}) (λ x. positive_of bytes.now ≡ (Token.Literal (Content.Number x.0), x.1)) }
+    ensures within { MatchOption result (Unit {0}) (λ x. (0 < x.1) × (x.1 ≤ length bytes.now)) }
+{
+    let len = digits_len(&bytes[1..]) + 1;
+    let number = positive(&bytes[..len])?;
+    Some((number, len))
 }
 
 /// The number whose digits stand behind a minus.

@@ -80,6 +80,9 @@ impl<'a, A: Allocator + Copy> Reader<'a, A> {
         if let Some((word, at)) = self.next_word() {
             return Ok((word_term(self.alloc, &word, at)?, at));
         }
+        if let Some((number, at)) = self.next_number() {
+            return Ok((Term::constant(Value::num(number)), at));
+        }
         let lexeme = self.next()?;
         let at = lexeme.at;
         Ok((term_in(self.alloc, lexeme)?, at))
@@ -194,6 +197,9 @@ impl<'a, A: Allocator + Copy> Reader<'a, A> {
     {
         if let Some((word, at)) = self.next_word() {
             return Ok((word_value(self.alloc, &word, at)?, at));
+        }
+        if let Some((number, at)) = self.next_number() {
+            return Ok((Value::num(number), at));
         }
         let lexeme = self.next()?;
         let at = lexeme.at;

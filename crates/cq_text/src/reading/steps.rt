@@ -2,10 +2,11 @@
 
 ghost use Rattle.std.specs.Prelude.{◌≡◌, Ok, IfOk, IsTrue, MatchOption};
 ghost use Rattle.cq_atom.specs.Text.{is_relation_name};
+ghost use Rattle.cq_atom.specs.declared.value.Content.{Content};
 ghost use Rattle.cq_text.specs.Steps.Lexemes.{next_is_at, passes_at, next_in_list_at, name_at, relation_name_at, Gives, Met, ahead_of_text, next_at, sign_at, end_at, goes_on_at};
 
 use crate::fault::TextFault;
-use crate::lexing::{front, front_word, sign_of, spaces_len};
+use crate::lexing::{front, front_number, front_word, sign_of, spaces_len};
 use crate::reading::Reader;
 use crate::reading::lexemes::{
     closes, flaw, is_close, is_sign, name_in, relation_in, relation_word, shape,
@@ -59,6 +60,20 @@ impl<'a, A: Allocator + Copy> Reader<'a, A> {
         Some((sign, at))
     }
 
+    /// Where a comma stands, if one comes, which is passed then.
+    #[inline(always)]
+    fn next_comma(&mut self) -> Option<usize>
+        ensures { MatchOption result (self.new ≡ self.old) (λ at. Met (Token.Mark Sign.Comma) at self.old self.new) }
+    {
+        self.pass_spaces();
+        let at = self.at;
+        if *self.text.get(at)? != b',' {
+            return None;
+        }
+        self.at = at + 1;
+        Some(at)
+    }
+
     /// The identifier that comes, which is passed then, and where it stands.
     #[inline(always)]
     pub(crate) fn next_word(&mut self) -> Option<(Identifier<'a>, usize)>
@@ -73,6 +88,21 @@ impl<'a, A: Allocator + Copy> Reader<'a, A> {
         let (word, len) = front_word(rest);
         self.at = at + len;
         Some((word, at))
+    }
+
+    /// The number without a minus that comes, which is passed then, and where it stands. A bad one does not come.
+    pub(crate) fn next_number(&mut self) -> Option<(i64, usize)>
+        ensures { MatchOption result (self.new ≡ self.old) (λ x. Met (Token.Literal (Content.Number x.0)) x.1 self.old self.new) }
+    {
+        self.pass_spaces();
+        let at = self.at;
+        let rest = &self.text[at..];
+        if !rest.first()?.is_ascii_digit() {
+            return None;
+        }
+        let (number, len) = front_number(rest)?;
+        self.at = at + len;
+        Some((number, at))
     }
 
     /// The next token, passing spaces.
@@ -158,11 +188,14 @@ impl<'a, A: Allocator + Copy> Reader<'a, A> {
         ))
     }
 
-    /// Whether a comma comes, or what closes a list.
+    /// Whether a comma comes, or what closes a list. Most often it is a comma, so that is tested first.
     #[tactic(auto, unfolding(crate::specs::Steps::Lexemes::goes_on_at, crate::specs::Steps::Lexemes::next_in_list_at))]
     pub(crate) fn goes_on(&mut self, close: Close) -> Result<bool, TextFault>
         ensures { Gives (λ more. (more, self.new)) result (goes_on_at close self.old) }
     {
+        if let Some(_at) = self.next_comma() {
+            return Ok(true);
+        }
         let (is_comma, is_close, at) = self.next_in_list(close)?;
         if is_comma {
             Ok(true)
