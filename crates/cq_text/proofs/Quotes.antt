@@ -1,5 +1,5 @@
 -- Reading a quoted text, as a loop does.
-use Rattle.std.proofs.Common.{◌≡◌, ℕ, suc, ◌+◌, ◌-◌, ◌≤◌, Bool, true, false, cond, List, [], ◌∷◌, ◌++◌, length, take, drop, Option, Some, None, refl, sym, ap, ◌∙◌, append_assoc, arith}
+use Rattle.std.proofs.Common.{◌≡◌, ℕ, zero, suc, ◌+◌, ◌-◌, ◌≤◌, Bool, true, false, cond, List, [], ◌∷◌, ◌++◌, length, take, drop, Option, Some, None, refl, sym, ap, ◌∙◌, append_assoc, arith}
 use Rattle.std.specs.Prelude.{◌==◌, ◌||◌, ◌&&◌, not}
 use Rattle.std.specs.List.{prefix_len}
 use Rattle.std.proofs.lemmas.List.{append-nil, drop-drop}
@@ -119,3 +119,46 @@ never_closed (b ∷ d ∷ bs) z n e = rw n (by_case (b == 92) (d == 34) (d == 92
     by_case true false false y h = refl
     by_case true false true y h = absurd cc
     by_case true true q y h = absurd cc
+
+-- what an escape stands for is its second byte
+pub escaped_alone : (bs : List ℕ) (c : ℕ) → escaped_byte bs ≡ Some c → take 1 (drop 1 bs) ≡ c ∷ []
+escaped_alone [] c e = absurd cc
+escaped_alone (b ∷ []) c e = absurd cc
+escaped_alone (b ∷ d ∷ bs) c e = by_case ((b == 92) && not (is_verbatim d)) e
+  where
+    by_case : (k : Bool) → cond k (Some d) None ≡ Some c → d ∷ [] ≡ c ∷ []
+    by_case false h = absurd cc
+    by_case true h = let same : d ≡ c = cc in ap (λ (x : ℕ). x ∷ []) same
+
+-- the text that was put, and the bytes from at to seen, which are put next
+abbrev pub with_pending : List ℕ → ℕ → ℕ → List ℕ → List ℕ
+with_pending t at seen bs = t ++ take (seen - at) (drop at bs)
+
+take-none : (k : ℕ) → take {A = ℕ} k [] ≡ []
+take-none zero = refl
+take-none (suc k) = refl
+
+take-two : (m n : ℕ) (xs : List ℕ) → take (m + n) xs ≡ take m xs ++ take n (drop m xs)
+take-two zero n xs = let e : 0 + n ≡ n = omega arith in ap (λ (k : ℕ). take k xs) e
+take-two (suc m) n [] = take-none (suc m + n) ∙ sym (take-none n)
+take-two (suc m) n (x ∷ xs) = let e : suc m + n ≡ suc (m + n) = omega arith in ap (λ (k : ℕ). take k (x ∷ xs)) e ∙ ap (λ (l : List ℕ). x ∷ l) (take-two m n xs)
+
+-- putting all bytes up to the end of a run puts those that were pending, and then the run
+pub pending_put : (t s : List ℕ) (at seen n : ℕ) (bs : List ℕ) → at ≤ seen → s ≡ t ++ take (seen + n - at) (drop at bs) → s ≡ with_pending t at seen bs ++ take (seen + n - seen) (drop seen bs)
+pending_put t s at seen n bs le e =
+    let sum : seen + n - at ≡ seen - at + n = omega arith in
+    let size : n ≡ seen + n - seen = omega arith in
+    let place : at + (seen - at) ≡ seen = omega arith in
+    e ∙ ap (λ (k : ℕ). t ++ take k (drop at bs)) sum
+    ∙ ap (λ (l : List ℕ). t ++ l) (take-two (seen - at) n (drop at bs))
+    ∙ sym (append_assoc t (take (seen - at) (drop at bs)) (take n (drop (seen - at) (drop at bs))))
+    ∙ ap (λ (l : List ℕ). with_pending t at seen bs ++ take n l) (drop-drop (seen - at) at bs ∙ ap (λ (k : ℕ). drop k bs) place)
+    ∙ ap (λ (k : ℕ). with_pending t at seen bs ++ take k (drop seen bs)) size
+
+-- behind an escape its second byte is pending
+pub escape_pending : (t : List ℕ) (end : ℕ) (bs : List ℕ) (c : ℕ) → escaped_byte (drop end bs) ≡ Some c → with_pending t (end + 1) (end + 2) bs ≡ t ++ (c ∷ [])
+escape_pending t end bs c e =
+    let one : end + 2 - (end + 1) ≡ 1 = omega arith in
+    ap (λ (k : ℕ). t ++ take k (drop (end + 1) bs)) one
+    ∙ ap (λ (l : List ℕ). t ++ take 1 l) (sym (drop-drop 1 end bs))
+    ∙ ap (λ (l : List ℕ). t ++ l) (escaped_alone (drop end bs) c e)

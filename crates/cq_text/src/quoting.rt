@@ -50,26 +50,27 @@ fn escaped_byte(bytes: &[u8]) -> Option<u8>
     }
 }
 
-/// What the bytes behind an opening quote stand for, and how many they are with the closing quote.
+/// What the bytes behind an opening quote stand for, and how many they are with the closing quote. A byte behind
+/// a backslash is put with the run behind it.
 fn content<A: Allocator>(alloc: A, bytes: &[u8]) -> Result<Option<(Vec<u8, A>, usize)>, AllocError>
     ensures content { IfOk result (λ found. option_map (λ x. (x.0.items, x.1)) found ≡ content bytes.now) }
     ensures within { IfOk result (λ found. MatchOption found (Unit {0}) (λ x. x.1 ≤ length bytes.now)) }
 {
     let mut text = Vec::with_capacity(alloc, ROOM)?;
     let mut at = 0;
+    let mut seen = 0;
     'runs: loop {
-        let run = verbatim_len(&bytes[at..]);
-        text.extend_from_slice(&bytes[at..at + run])?;
-        at += run;
-        let rest = &bytes[at..];
+        let end = seen + verbatim_len(&bytes[seen..]);
+        text.extend_from_slice(&bytes[at..end])?;
+        let rest = &bytes[end..];
         if closes(rest) {
-            return Ok(Some((text, at + 1)));
+            return Ok(Some((text, end + 1)));
         }
-        let Some(byte) = escaped_byte(rest) else {
+        let Some(_byte) = escaped_byte(rest) else {
             return Ok(None);
         };
-        text.push(byte)?;
-        at += 2;
+        at = end + 1;
+        seen = end + 2;
     }
 }
 

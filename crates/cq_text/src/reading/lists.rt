@@ -72,7 +72,17 @@ fn new_query<A: Allocator + Copy>(
 }
 
 impl<'a, A: Allocator + Copy> Reader<'a, A> {
-    /// A term, and where it stands.
+    /// The term that the next lexeme is, and where it stands.
+    #[tactic(auto, unfolding(crate::specs::Steps::Lists::next_term_at))]
+    fn lexeme_term(&mut self) -> Result<(Term<A>, usize), TextFault>
+        ensures { Gives (λ x. (x.0, x.1, self.new)) result (next_term_at self.old) }
+    {
+        let lexeme = self.next()?;
+        let at = lexeme.at;
+        Ok((term_in(self.alloc, lexeme)?, at))
+    }
+
+    /// A term, and where it stands. Most are words and numbers, for which no lexeme is made.
     #[tactic(auto, unfolding(crate::specs::Steps::Lists::next_term_at))]
     fn next_term(&mut self) -> Result<(Term<A>, usize), TextFault>
         ensures { Gives (λ x. (x.0, x.1, self.new)) result (next_term_at self.old) }
@@ -83,9 +93,7 @@ impl<'a, A: Allocator + Copy> Reader<'a, A> {
         if let Some((number, at)) = self.next_number() {
             return Ok((Term::constant(Value::num(number)), at));
         }
-        let lexeme = self.next()?;
-        let at = lexeme.at;
-        Ok((term_in(self.alloc, lexeme)?, at))
+        self.lexeme_term()
     }
 
     /// A term, and whether more come.

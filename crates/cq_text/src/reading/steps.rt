@@ -188,14 +188,11 @@ impl<'a, A: Allocator + Copy> Reader<'a, A> {
         ))
     }
 
-    /// Whether a comma comes, or what closes a list. Most often it is a comma, so that is tested first.
+    /// Whether the next lexeme is a comma, or what closes a list.
     #[tactic(auto, unfolding(crate::specs::Steps::Lexemes::goes_on_at, crate::specs::Steps::Lexemes::next_in_list_at))]
-    pub(crate) fn goes_on(&mut self, close: Close) -> Result<bool, TextFault>
+    fn lexeme_goes_on(&mut self, close: Close) -> Result<bool, TextFault>
         ensures { Gives (λ more. (more, self.new)) result (goes_on_at close self.old) }
     {
-        if let Some(_at) = self.next_comma() {
-            return Ok(true);
-        }
         let (is_comma, is_close, at) = self.next_in_list(close)?;
         if is_comma {
             Ok(true)
@@ -204,6 +201,17 @@ impl<'a, A: Allocator + Copy> Reader<'a, A> {
         } else {
             Err(shape(at))
         }
+    }
+
+    /// Whether a comma comes, or what closes a list. Most often it is a comma, so that is tested first.
+    #[tactic(auto, unfolding(crate::specs::Steps::Lexemes::goes_on_at))]
+    pub(crate) fn goes_on(&mut self, close: Close) -> Result<bool, TextFault>
+        ensures { Gives (λ more. (more, self.new)) result (goes_on_at close self.old) }
+    {
+        if let Some(_at) = self.next_comma() {
+            return Ok(true);
+        }
+        self.lexeme_goes_on(close)
     }
 
     /// A name of any case.
