@@ -1,6 +1,6 @@
 //! Tokens at the front of bytes.
 
-ghost use Rattle.std.specs.Prelude.{◌≡◌, ◌<◌, ◌≤◌, ◌+◌, ◌^◌, length, IfOk, IfErr, IsTrue, MatchOption};
+ghost use Rattle.std.specs.Prelude.{◌≡◌, ◌<◌, ◌≤◌, ◌+◌, ◌*◌, ◌^◌, length, IfOk, IfErr, IsTrue, MatchOption};
 ghost use Rattle.std.specs.List.{prefix_len};
 ghost use Rattle.std.specs.Char.{is_ascii_digit};
 ghost use Rattle.cq_atom.specs.Text.{begins_with_letter};
@@ -14,6 +14,9 @@ use crate::token::{Sign, TextToken, Token};
 use crate::word::{Identifier, word_len};
 use cq_atom::Value;
 use std::alloc::Allocator;
+
+/// A number that is no greater takes one more digit.
+const SHORT: u64 = 1_000_000_000_000_000_000;
 
 fn is_space(byte: u8) -> bool
     ensures { result ≡ is_space byte }
@@ -49,14 +52,25 @@ fn digits_len(bytes: &[u8]) -> usize
         .count()
 }
 
+/// A number with one more digit, where it fits. Up to `SHORT` each does.
+fn with_digit(number: u64, digit: u64) -> Option<u64>
+    requires { digit < 256 }
+    ensures { MatchOption result (2 ^ 64 ≤ 10 * number + digit) (λ v. v ≡ 10 * number + digit) }
+{
+    if number <= SHORT {
+        Some(number * 10 + digit)
+    } else {
+        number.checked_mul(10)?.checked_add(digit)
+    }
+}
+
 /// The number that digits stand for, where it fits.
 fn magnitude(digits: &[u8]) -> Option<u64>
     ensures { MatchOption result (2 ^ 64 ≤ magnitude digits.now) (λ v. v ≡ magnitude digits.now) }
 {
     let mut value = 0u64;
     for digit in digits {
-        let digit = u64::from(digit.saturating_sub(b'0'));
-        value = value.checked_mul(10)?.checked_add(digit)?;
+        value = with_digit(value, u64::from(digit.saturating_sub(b'0')))?;
     }
     Some(value)
 }
