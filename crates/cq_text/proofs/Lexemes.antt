@@ -1,17 +1,20 @@
 -- The lexemes of a text, a step at a time.
-use Rattle.std.proofs.Common.{◌≡◌, ℕ, zero, suc, ◌+◌, ◌-◌, ◌<◌, ◌≤◌, Bool, true, false, cond, List, [], ◌∷◌, length, drop, get_or, Ok, refl, sym, ap, subst, ◌∙◌, arith, None, Some}
+use Rattle.std.proofs.Common.{◌≡◌, ℕ, zero, suc, ◌+◌, ◌-◌, ◌<◌, ◌≤◌, Bool, true, false, cond, List, [], ◌∷◌, length, take, drop, get_or, Ok, refl, sym, ap, subst, ◌∙◌, arith, None, Some}
 use Rattle.std.specs.List.{prefix_len}
 use Rattle.std.specs.Char.{is_ascii_alphabetic, is_ascii_digit}
 use Rattle.std.proofs.lemmas.Bool.Decides.{nat_tests}
-use Rattle.cq_atom.specs.Text.{begins_with_letter}
+use Rattle.cq_atom.specs.Text.{begins_with_letter, is_word_byte}
 use Rattle.cq_atom.specs.Value.{ValueContent}
 use Rattle.std.proofs.lemmas.List.{drop-drop, drop_more, length-drop}
+use Rattle.std.proofs.lemmas.List.Sums.{prefix_len-le-length}
 use Rattle.std.proofs.lemmas.Bool.{eqb-true, ne_eqb}
 use Rattle.cq_text.specs.declared.token.Sign.{Sign}
 use Rattle.cq_text.specs.declared.token.Sign.TheVariants.{OpenBrace, CloseBrace, OpenParen, CloseParen, Comma}
 use Rattle.cq_text.specs.declared.token.Token.TheVariants.{Mark, Word, Literal, Finish}
 use Rattle.cq_text.specs.Token.{TokenContent, LexemeContent, flaw}
-use Rattle.cq_text.specs.Steps.Lexemes.{Ahead, next_of, next_at, fault, Met}
+use Rattle.cq_text.specs.Steps.Lexemes.{Ahead, next_of, next_at, fault, Met, WordComes, passes_at}
+use Rattle.cq_text.specs.declared.token.Close.{Close}
+use Rattle.cq_text.specs.declared.token.Close.TheVariants.{By, End}
 use Rattle.cq_text.specs.Steps.Lexing.{front_of, sign_of, word_of, positive_of}
 use Rattle.cq_text.proofs.Fronts.{first_of, front_word, front_digit}
 use Rattle.cq_text.specs.declared.fault.Kind.{Kind}
@@ -198,3 +201,18 @@ number_met text at v k h f lt le = by_case (drop at text) refl
 pub digit_first : (bs : List ℕ) (b : ℕ) → Some b ≡ slice_get bs 0 → is_ascii_digit b ≡ true → is_ascii_digit (first_of bs) ≡ true
 digit_first [] b e h = absurd cc
 digit_first (c ∷ bs) b e h = let same : b ≡ c = cc in ap is_ascii_digit (sym same) ∙ h
+
+pub word_comes : (text : List ℕ) (at b : ℕ) → at < length text → b ≡ get_or text at 0 → is_ascii_alphabetic b ≡ true → WordComes (ahead_at text at)
+word_comes text at b lt e h =
+    let rest = drop (at + 1) text in
+    let n = prefix_len is_word_byte rest in
+    let is : drop at text ≡ b ∷ rest = drop_more text at 0 lt ∙ ap (λ (k : ℕ). k ∷ rest) (sym e) in
+    let letter : begins_with_letter (drop at text) ≡ true = ap begins_with_letter is ∙ h in
+    let within : n ≤ length rest = prefix_len-le-length is_word_byte rest in
+    (b ∷ take n rest, at, ahead_at text (at + (n + 1)), word_met text at (b ∷ take n rest) (n + 1) letter (ap word_of is) (omega arith) (omega (arith, ap length is)))
+
+-- a list that an identifier begins is not closed
+pub passes_none : (close : Close) (a : Ahead) → WordComes a → passes_at close a ≡ Ok (false, a)
+unfolding passes_at
+passes_none (By s) a w = rw w.3 refl
+passes_none End a w = rw w.3 refl

@@ -59,6 +59,10 @@ next_at a = next_of a.lexemes a.end
 abbrev pub Met : TokenContent → ℕ → Ahead → Ahead → Type 0
 Met token at a b = next_at a ≡ Ok (record { at = at; token = token }, b)
 
+-- An identifier comes.
+abbrev pub WordComes : Ahead → Type 0
+WordComes a = (word : List ℕ) × (at : ℕ) × (b : Ahead) × Met (Word word) at a b
+
 abbrev pub code : Sign → ℕ
 code OpenBrace = 0
 code CloseBrace = 1

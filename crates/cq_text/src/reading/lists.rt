@@ -74,6 +74,7 @@ fn new_query<A: Allocator + Copy>(
 impl<'a, A: Allocator + Copy> Reader<'a, A> {
     /// The term that the next lexeme is, and where it stands.
     #[tactic(auto, unfolding(crate::specs::Steps::Lists::next_term_at))]
+    #[inline(never)]
     fn lexeme_term(&mut self) -> Result<(Term<A>, usize), TextFault>
         ensures { Gives (λ x. (x.0, x.1, self.new)) result (next_term_at self.old) }
     {

@@ -3,7 +3,7 @@
 ghost use Rattle.std.specs.Prelude.{◌≡◌, Ok, IfOk, IsTrue, MatchOption};
 ghost use Rattle.cq_atom.specs.Text.{is_relation_name};
 ghost use Rattle.cq_atom.specs.declared.value.Content.{Content};
-ghost use Rattle.cq_text.specs.Steps.Lexemes.{next_is_at, passes_at, next_in_list_at, name_at, relation_name_at, Gives, Met, ahead_of_text, next_at, sign_at, end_at, goes_on_at};
+ghost use Rattle.cq_text.specs.Steps.Lexemes.{next_is_at, passes_at, next_in_list_at, name_at, relation_name_at, Gives, Met, WordComes, ahead_of_text, next_at, sign_at, end_at, goes_on_at};
 
 use crate::fault::TextFault;
 use crate::lexing::{front, front_number, front_word, sign_of, spaces_len};
@@ -72,6 +72,18 @@ impl<'a, A: Allocator + Copy> Reader<'a, A> {
         }
         self.at = at + 1;
         Some(at)
+    }
+
+    /// Whether an identifier comes. None is passed.
+    fn meets_word(&mut self) -> bool
+        ensures same { self.new ≡ self.old }
+        ensures word { IsTrue result → WordComes self.old }
+    {
+        self.pass_spaces();
+        let Some(first) = self.text.get(self.at) else {
+            return false;
+        };
+        first.is_ascii_alphabetic()
     }
 
     /// The identifier that comes, which is passed then, and where it stands.
@@ -157,11 +169,14 @@ impl<'a, A: Allocator + Copy> Reader<'a, A> {
         if is_finish { Ok(()) } else { Err(shape(at)) }
     }
 
-    /// Whether what closes a list comes, which is passed then.
+    /// Whether what closes a list comes, which is passed then. An identifier closes none, so it is not read here.
     #[tactic(auto, unfolding(crate::specs::Steps::Lexemes::passes_at, crate::specs::Steps::Lexemes::next_is_at))]
     pub(crate) fn passes(&mut self, close: Close) -> Result<bool, TextFault>
         ensures { Gives (λ passed. (passed, self.new)) result (passes_at close self.old) }
     {
+        if self.meets_word() {
+            return Ok(false);
+        }
         let mut behind = self.again();
         let (is_close, _at) = behind.next_is(close)?;
         if is_close {
@@ -190,6 +205,7 @@ impl<'a, A: Allocator + Copy> Reader<'a, A> {
 
     /// Whether the next lexeme is a comma, or what closes a list.
     #[tactic(auto, unfolding(crate::specs::Steps::Lexemes::goes_on_at, crate::specs::Steps::Lexemes::next_in_list_at))]
+    #[inline(never)]
     fn lexeme_goes_on(&mut self, close: Close) -> Result<bool, TextFault>
         ensures { Gives (λ more. (more, self.new)) result (goes_on_at close self.old) }
     {
@@ -205,6 +221,7 @@ impl<'a, A: Allocator + Copy> Reader<'a, A> {
 
     /// Whether a comma comes, or what closes a list. Most often it is a comma, so that is tested first.
     #[tactic(auto, unfolding(crate::specs::Steps::Lexemes::goes_on_at))]
+    #[inline(always)]
     pub(crate) fn goes_on(&mut self, close: Close) -> Result<bool, TextFault>
         ensures { Gives (λ more. (more, self.new)) result (goes_on_at close self.old) }
     {
