@@ -15,7 +15,7 @@ use crate::word::{Identifier, word_len};
 use cq_atom::Value;
 use std::alloc::Allocator;
 
-/// A number that is no greater takes one more digit.
+/// A number up to this one has room for one more digit.
 const SHORT: u64 = 1_000_000_000_000_000_000;
 
 fn is_space(byte: u8) -> bool

@@ -15,11 +15,11 @@ use std::str;
 /// For how many bytes a text has room at first: none that is good grows beyond it.
 const ROOM: usize = MAX_TEXT;
 
-/// Whether a byte between quotes stands for itself. Lower-case letters take one test.
+/// Whether a byte between quotes stands for itself.
 fn is_verbatim(byte: u8) -> bool
     ensures { result ≡ is_verbatim byte }
 {
-    byte > b'\\' || (byte != b'"' && byte != b'\\')
+    byte != b'"' && byte != b'\\'
 }
 
 /// How many bytes at the front stand for themselves.
