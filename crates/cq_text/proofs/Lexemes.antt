@@ -198,10 +198,6 @@ number_met text at v k h f lt le = by_case (drop at text) refl
         let is : front b rest ≡ (Literal v, k) = front_digit (b ∷ rest) (omega arith) letter digit ∙ ap positive_of (sym d) ∙ f in
         met_at text at b k rest (Literal v) d space is lt (omega (arith, ap length d)) refl
 
-pub digit_first : (bs : List ℕ) (b : ℕ) → Some b ≡ slice_get bs 0 → is_ascii_digit b ≡ true → is_ascii_digit (first_of bs) ≡ true
-digit_first [] b e h = absurd cc
-digit_first (c ∷ bs) b e h = let same : b ≡ c = cc in ap is_ascii_digit (sym same) ∙ h
-
 pub word_comes : (text : List ℕ) (at b : ℕ) → at < length text → b ≡ get_or text at 0 → is_ascii_alphabetic b ≡ true → WordComes (ahead_at text at)
 word_comes text at b lt e h =
     let rest = drop (at + 1) text in

@@ -1,6 +1,6 @@
 //! Tokens at the front of bytes.
 
-ghost use Rattle.std.specs.Prelude.{◌≡◌, ◌<◌, ◌≤◌, ◌+◌, ◌*◌, ◌^◌, length, IfOk, IfErr, IsTrue, MatchOption};
+ghost use Rattle.std.specs.Prelude.{◌≡◌, ◌<◌, ◌≤◌, ◌+◌, ◌*◌, ◌^◌, length, take, slice_index, IfOk, IfErr, IsTrue, MatchOption};
 ghost use Rattle.std.specs.List.{prefix_len};
 ghost use Rattle.std.specs.Char.{is_ascii_digit};
 ghost use Rattle.cq_atom.specs.Text.{begins_with_letter};
@@ -86,15 +86,23 @@ fn is_plain(digits: &[u8]) -> bool
     }
 }
 
+/// The number that digits alone are, which stand for this value, where it is a good one.
+fn number_of(digits: &[u8], value: u64) -> Option<i64>
+    requires { value ≡ magnitude digits.now }
+    ensures { number_or_bad result ≡ positive digits.now }
+{
+    if !is_plain(digits) {
+        return None;
+    }
+    i64::try_from(value).ok()
+}
+
 /// The number that digits alone are, where it is a good one.
 pub(crate) fn positive(digits: &[u8]) -> Option<i64>
     ensures { number_or_bad result ≡ positive digits.now }
 {
     let magnitude = magnitude(digits)?;
-    if !is_plain(digits) {
-        return None;
-    }
-    i64::try_from(magnitude).ok()
+    number_of(digits, magnitude)
 }
 
 /// The number that digits are behind a minus, where it is a good one.
@@ -136,14 +144,28 @@ fn positive_token<'a, A: Allocator>(bytes: &[u8]) -> (TextToken<'a, A>, usize)
     (number_token(positive(&bytes[..len])), len)
 }
 
-/// The number at the front that begins with a digit, where it is a good one, and how many bytes it takes.
+/// What the digits at the front stand for, where it fits, and how many they are.
+fn front_digits(bytes: &[u8]) -> Option<(u64, usize)>
+    ensures { MatchOption result (Unit {0}) (λ x. (x.1 ≡ prefix_len is_ascii_digit bytes.now) × (x.0 ≡ magnitude (take x.1 bytes.now))) }
+{
+    let mut value = 0u64;
+    for (len, byte) in bytes.iter().enumerate() {
+        if !byte.is_ascii_digit() {
+            return Some((value, len));
+        }
+        value = with_digit(value, u64::from(*byte - b'0'))?;
+    }
+    Some((value, bytes.len()))
+}
+
+/// The number without a minus at the front, where it is a good one, and how many bytes it takes.
 pub(crate) fn front_number(bytes: &[u8]) -> Option<(i64, usize)>
-    requires { 0 < length bytes.now }
+    ensures digit { MatchOption result (Unit {0}) (λ x. IsTrue (is_ascii_digit (slice_index bytes.now 0))) }
     ensures token { MatchOption result (Unit {0}) (λ x. positive_of bytes.now ≡ (Token.Literal (Content.Number x.0), x.1)) }
     ensures within { MatchOption result (Unit {0}) (λ x. (0 < x.1) × (x.1 ≤ length bytes.now)) }
 {
-    let len = digits_len(&bytes[1..]) + 1;
-    let number = positive(&bytes[..len])?;
+    let (value, len) = front_digits(bytes)?;
+    let number = number_of(&bytes[..len], value)?;
     Some((number, len))
 }
 

@@ -108,11 +108,7 @@ impl<'a, A: Allocator + Copy> Reader<'a, A> {
     {
         self.pass_spaces();
         let at = self.at;
-        let rest = &self.text[at..];
-        if !rest.first()?.is_ascii_digit() {
-            return None;
-        }
-        let (number, len) = front_number(rest)?;
+        let (number, len) = front_number(&self.text[at..])?;
         self.at = at + len;
         Some((number, at))
     }
