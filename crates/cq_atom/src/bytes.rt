@@ -11,8 +11,8 @@ use std::marker::Model;
 /// Where the bytes of a text lie.
 #[derive(Drop)]
 enum Kept<A: Allocator> {
-    /// In the value itself, where they are at most 22.
-    Short(ArrayString<22>),
+    /// In the value itself, where they are at most 16.
+    Short(ArrayString<16>),
     /// In a block of memory.
     Long(String<A>),
 }

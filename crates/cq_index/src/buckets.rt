@@ -14,24 +14,38 @@ use std::hash::{BuildHasherDefault, FoldHasher};
 /// A set of places.
 type Places<A> = IndexSet<usize, BuildHasherDefault<FoldHasher>, A>;
 
-/// Places, in no order that anyone asks for. One that is alone takes no memory.
+/// Places, in no order that anyone asks for. One that is alone takes no memory; more stand apart, so that most buckets are
+/// small.
 #[derive(Drop)]
 pub enum Bucket<A: Allocator> {
     One(usize),
-    Many(Places<A>),
+    Many(Box<Places<A>, A>),
 }
 
 /// Under each key the places of the atoms that belong there. A key without places has no bucket.
 pub type Buckets<A> = IndexMap<Key<A>, Bucket<A>, BuildHasherDefault<FoldHasher>, A>;
 
 /// The set of both places.
-fn both_of<A: Allocator + Copy>(alloc: A, one: usize, other: usize) -> Result<Places<A>, AllocError>
-    ensures { IfOk result (λ places. (p : ℕ) → contains nat_eq places p ≡ (nat_eq other p || nat_eq p one)) }
+fn both_of<A: Allocator + Copy>(
+    alloc: A,
+    one: usize,
+    other: usize,
+) -> Result<Box<Places<A>, A>, AllocError>
+    ensures { IfOk result (λ places. (p : ℕ) → contains nat_eq places.value p ≡ (nat_eq other p || nat_eq p one)) }
 {
     let mut places = IndexSet::new(alloc);
     places.insert(one)?;
     places.insert(other)?;
-    Ok(places)
+    Ok(Box::new(alloc, places)?)
+}
+
+/// Takes the place out of the set. Answers whether none is left.
+fn take_from<A: Allocator + Copy>(places: &mut Places<A>, place: usize) -> bool
+    ensures left { (p : ℕ) → contains nat_eq places.new p ≡ (not (nat_eq place p) && contains nat_eq places.old p) }
+    ensures none { IsTrue result → (p : ℕ) → contains nat_eq places.new p ≡ false }
+{
+    places.swap_remove(&place);
+    places.is_empty()
 }
 
 impl<A: Allocator + Copy> Bucket<A> {
@@ -59,10 +73,7 @@ impl<A: Allocator + Copy> Bucket<A> {
     {
         match self {
             Bucket::One(only) => *only == place,
-            Bucket::Many(places) => {
-                places.swap_remove(&place);
-                places.is_empty()
-            }
+            Bucket::Many(places) => take_from(places, place),
         }
     }
 }

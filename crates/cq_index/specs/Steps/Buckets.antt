@@ -9,7 +9,7 @@ use Rattle.cq_index.specs.Steps.Keys.{KeyContent, same_key}
 
 abbrev pub is_in : {A : Type 0} → Bucket A → ℕ → Bool
 is_in (One q) p = nat_eq p q
-is_in (Many places) p = contains nat_eq places p
+is_in (Many places) p = contains nat_eq places.value p
 
 abbrev pub has_place : {A : Type 0} → Option (Bucket A) → ℕ → Bool
 has_place None p = false
