@@ -5,6 +5,7 @@ pub mod Refused
 pub mod Answering
 pub mod Numbers
 pub mod Cutting
+pub mod Ends
 pub mod Kept
 pub mod Served
 pub mod Starving

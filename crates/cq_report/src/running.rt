@@ -19,6 +19,7 @@ use crate::machine::Machine;
 use crate::numbering::Numbering;
 use crate::output::{Output, ROOM};
 use cq_text::{MAX_PIECE, MAX_READS, Sink, Source};
+use memchr::memchr;
 use std::alloc::Allocator;
 use std::mem;
 
@@ -26,7 +27,7 @@ use std::mem;
 fn first_end(bytes: &[u8]) -> Option<usize>
     ensures { result ≡ position (λ byte. byte == 10) bytes.now }
 {
-    bytes.iter().position(|byte| *byte == b'\n')
+    memchr(b'\n', bytes)
 }
 
 /// The first line of the bytes without its LF, and what stands behind that, where there is an LF.
