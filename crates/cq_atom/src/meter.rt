@@ -37,4 +37,11 @@ impl Meter {
     {
         self.count = self.count.saturating_add(1);
     }
+
+    /// Counts so many at once.
+    pub fn add(&mut self, count: usize)
+        ensures { self.new ≡ min (self.old + count) u64.MAX }
+    {
+        self.count = self.count.saturating_add(count as u64);
+    }
 }

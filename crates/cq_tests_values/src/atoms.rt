@@ -175,5 +175,6 @@ fn unify_each_once(rt: HostRuntime) {
     let other = other_unified(rt.alloc(), pairs.as_slice(), &mut meter);
     assert!(rt; other.is_none() && meter.count() == 6, "{other:?}");
     meter.tick();
-    assert!(rt; meter.count() == 7);
+    meter.add(3);
+    assert!(rt; meter.count() == 10);
 }
