@@ -9,6 +9,8 @@ mod changes;
 #[cfg(test)]
 mod csv_rows;
 #[cfg(test)]
+mod gates;
+#[cfg(test)]
 mod groundings;
 #[cfg(test)]
 mod growths;
