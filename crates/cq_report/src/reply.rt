@@ -36,11 +36,18 @@ pub fn fault_line<A: Allocator>(
     format!(in alloc; "refused {word} at {offset}\n")
 }
 
+/// Room for a refusal of one word.
+const ROOM: usize = 24;
+
 /// A refusal of one word.
 fn word_line<A: Allocator>(alloc: A, word: &str) -> Result<String<A>, AllocError>
     ensures { IfOk result (λ text. string_bytes text ≡ refused_line word.now) }
 {
-    format!(in alloc; "refused {word}\n")
+    let mut line = String::with_capacity(alloc, ROOM)?;
+    line.push_str("refused ")?;
+    line.push_str(word)?;
+    line.push_str("\n")?;
+    Ok(line)
 }
 
 /// A refusal that tells a place.
