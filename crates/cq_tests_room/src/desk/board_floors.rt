@@ -1,7 +1,6 @@
 //! Floors over a board.
 
-use crate::lines::{ANSWER, ASKED, BoardLike, FLIGHTS, NO_PARIS, PARIS, ROME, board, edit};
-use cq_atom::Name;
+use crate::lines::{BoardLike, FLIGHTS, Line, board, edit};
 use cq_board::{Board, Edit, Why};
 use cq_desk::{Answer, Event, Floor, FloorFault, StepFault, looks_never_fall};
 use std::alloc::{AllocError, Global};
@@ -10,7 +9,7 @@ use std::alloc::{AllocError, Global};
 #[derive(Clone, Copy)]
 enum Turn {
     /// The one session enters the edit of the line.
-    Enter(&'static str),
+    Enter(Line),
     Publish,
     Look(usize),
     /// The one session hears of so many entries.
@@ -21,16 +20,6 @@ type Told = Result<Answer, StepFault<Why>>;
 
 /// What is done, and what is answered to it.
 type Step = (Turn, Told);
-
-/// A floor with one session over a board with these relations and that limit.
-fn floor(
-    alloc: Global,
-    relations: &[(&str, usize)],
-    pool: usize,
-    journal: usize,
-) -> Result<Floor<Board>, FloorFault> {
-    Floor::begin(alloc, board(alloc, relations, pool)?, journal, 1)
-}
 
 fn event(alloc: Global, turn: Turn) -> Result<Event<Edit>, AllocError> {
     match turn {
@@ -61,20 +50,31 @@ fn other_step<L: BoardLike>(alloc: Global, floor: &mut Floor<L>, steps: &[Step])
     None
 }
 
-/// The same on a floor over a board without relations.
+/// The same on a floor with one session over the state.
+fn other_over<L: BoardLike>(
+    alloc: Global,
+    state: L,
+    journal: usize,
+    steps: &[Step],
+) -> Result<Option<usize>, FloorFault> {
+    let mut floor = Floor::begin(alloc, state, journal, 1)?;
+    Ok(other_step(alloc, &mut floor, steps))
+}
+
+/// The same over a board without relations.
 fn other_of(
     alloc: Global,
     pool: usize,
     journal: usize,
     steps: &[Step],
 ) -> Result<Option<usize>, FloorFault> {
-    let mut floor = floor(alloc, &[], pool, journal)?;
-    Ok(other_step(alloc, &mut floor, steps))
+    let board = board(alloc, &[], pool)?;
+    other_over(alloc, board, journal, steps)
 }
 
 const STEPS: [Step; 8] = [
     (Turn::Look(0), Ok(Answer::Looked(0))),
-    (Turn::Enter(ANSWER), Ok(Answer::Entered(1))),
+    (Turn::Enter(Line::Answer), Ok(Answer::Entered(1))),
     (Turn::Look(0), Ok(Answer::Looked(0))),
     (Turn::Publish, Ok(Answer::Published(1))),
     (Turn::Look(0), Ok(Answer::Looked(1))),
@@ -85,16 +85,19 @@ const STEPS: [Step; 8] = [
 
 /// The journal's limit is met before the name that is taken.
 const JOURNAL_FULL: [Step; 4] = [
-    (Turn::Enter(ANSWER), Ok(Answer::Entered(1))),
-    (Turn::Enter("post b {} R(1) <-"), Ok(Answer::Entered(2))),
-    (Turn::Enter(ANSWER), Err(StepFault::JournalFull)),
+    (Turn::Enter(Line::Answer), Ok(Answer::Entered(1))),
+    (Turn::Enter(Line::Other), Ok(Answer::Entered(2))),
+    (Turn::Enter(Line::Answer), Err(StepFault::JournalFull)),
     (Turn::Publish, Ok(Answer::Published(2))),
 ];
 
 /// The pool's limit is met before the name that is taken.
 const POOL_FULL: [Step; 2] = [
-    (Turn::Enter(ANSWER), Ok(Answer::Entered(1))),
-    (Turn::Enter(ANSWER), Err(StepFault::Not(Why::PoolFull))),
+    (Turn::Enter(Line::Answer), Ok(Answer::Entered(1))),
+    (
+        Turn::Enter(Line::Answer),
+        Err(StepFault::Not(Why::PoolFull)),
+    ),
 ];
 
 #[test]
@@ -114,34 +117,48 @@ fn limits(rt: HostRuntime) {
     }
 }
 
+/// How many queries the working board and the published one have, and what a look answers.
+fn shown(floor: &mut Floor<Board>, session: usize) -> (usize, usize, Option<u64>) {
+    let working = floor.working_board().len();
+    let published = floor.published_board().len();
+    (working, published, floor.look(session))
+}
+
 /// The working board and the published one, and looks by their own call.
 fn shows_boards(alloc: Global, floor: &mut Floor<Board>) -> bool {
-    other_step(alloc, floor, &STEPS[1..2]).is_none()
-        && floor.working_board().len() == 1
-        && floor.published_board().len() == 0
-        && floor.look(0) == Some(0)
-        && other_step(alloc, floor, &STEPS[3..4]).is_none()
-        && floor.published_board().len() == 1
-        && floor.look(0) == Some(1)
-        && floor.look(1).is_none()
+    let entered = other_step(alloc, floor, &STEPS[1..2]);
+    let before = shown(floor, 0);
+    let published = other_step(alloc, floor, &STEPS[3..4]);
+    let behind = shown(floor, 0);
+    let of_nobody = floor.look(1);
+    entered.is_none()
+        && before == (1, 0, Some(0))
+        && published.is_none()
+        && behind == (1, 1, Some(1))
+        && of_nobody.is_none()
+}
+
+fn show_boards(alloc: Global, board: Board) -> Result<bool, FloorFault> {
+    let mut floor = Floor::begin(alloc, board, 9, 1)?;
+    Ok(shows_boards(alloc, &mut floor))
 }
 
 #[test]
 fn boards_and_looks(rt: HostRuntime) {
     looks_never_fall::<Board>();
-    match floor(rt.alloc(), &[], 9, 9) {
-        Ok(mut floor) => assert!(rt; shows_boards(rt.alloc(), &mut floor)),
+    match board(rt.alloc(), &[], 9) {
+        Ok(board) => assert!(rt; show_boards(rt.alloc(), board) == Ok(true)),
         Err(fault) => assert!(rt; false, "{fault}"),
     }
 }
 
 /// A flight to Paris and a query for one are published. Then the flight goes to Rome.
 const FLIGHT_GOES: [Step; 6] = [
-    (Turn::Enter(PARIS), Ok(Answer::Entered(1))),
-    (Turn::Enter(ASKED), Ok(Answer::Entered(2))),
+    (Turn::Enter(Line::Paris), Ok(Answer::Entered(1))),
+    (Turn::Enter(Line::Asked), Ok(Answer::Entered(2))),
     (Turn::Publish, Ok(Answer::Published(2))),
-    (Turn::Enter(NO_PARIS), Ok(Answer::Entered(3))),
-    (Turn::Enter(ROME), Ok(Answer::Entered(4))),
+    (Turn::Enter(Line::NoParis), Ok(Answer::Entered(3))),
+    (Turn::Enter(Line::Rome), Ok(Answer::Entered(4))),
     (Turn::Look(0), Ok(Answer::Looked(2))),
 ];
 
@@ -151,22 +168,22 @@ const FLIGHT_GONE: [Step; 2] = [
     (Turn::Look(0), Ok(Answer::Looked(4))),
 ];
 
-fn publishes_groundings<L: BoardLike>(alloc: Global, floor: &mut Floor<L>, name: &Name) -> bool {
+fn publishes_groundings<L: BoardLike>(alloc: Global, floor: &mut Floor<L>) -> bool {
     other_step(alloc, floor, FLIGHT_GOES.as_slice()).is_none()
-        && floor.board().is_grounded(name, true)
+        && floor.board().is_grounded(true)
         && other_step(alloc, floor, FLIGHT_GONE.as_slice()).is_none()
-        && floor.board().is_grounded(name, false)
+        && floor.board().is_grounded(false)
+}
+
+fn publish_groundings<L: BoardLike>(alloc: Global, state: L) -> Result<bool, FloorFault> {
+    let mut floor = Floor::begin(alloc, state, 9, 1)?;
+    Ok(publishes_groundings(alloc, &mut floor))
 }
 
 #[test]
 fn published_groundings(rt: HostRuntime) {
-    match (
-        floor(rt.alloc(), &FLIGHTS, 9, 9),
-        Name::new(rt.alloc(), "k"),
-    ) {
-        (Ok(mut floor), Ok(name)) => {
-            assert!(rt; publishes_groundings(rt.alloc(), &mut floor, &name));
-        }
-        _ => assert!(rt; false),
+    match board(rt.alloc(), &FLIGHTS, 9) {
+        Ok(board) => assert!(rt; publish_groundings(rt.alloc(), board) == Ok(true)),
+        Err(fault) => assert!(rt; false, "{fault}"),
     }
 }

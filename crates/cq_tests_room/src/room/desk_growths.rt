@@ -2,52 +2,34 @@
 
 ghost use Rattle.std.specs.Prelude.{◌≡◌, ◌∷◌, []};
 
-use crate::room::grown::{Grown, both_edits};
-use crate::room::growths::{are_stopped_behind, is_of_nothing, parts_of, sees};
-use crate::room::met::{Attempt, Counts, Met, counted, met_by};
-use crate::tally::Tally;
-use cq_board::Board;
-use cq_desk::{Desk, Refused};
-use cq_room::{Pair, Parts, RoomFault, RoomName, Session, Watched};
+use crate::room::calls::{Calls, EnteredBytes, EnteredQueries, SubmittedBytes, SubmittedQueries};
+use crate::room::growths::{are_stopped_behind, begins_again, sees};
+use crate::room::met::{Counts, Met, counted, met_by};
+use crate::room::seats::Seated;
+use crate::room::states::{Shared, Sight, both_edits};
+use cq_desk::{Desk, End, Refused};
+use cq_room::{Pair, Parts, Room, RoomFault, RoomName, Session, Watched};
 use std::alloc::Allocator;
 use std::marker::Brand;
 use std::sync::Wait;
 
-type GrowingDesk<L, N, R, A> = Desk<L, Pair<L, N, R, A>, A>;
+/// A desk that tells what comes of its calls. What drives it is generic in it, since what is known of a desk over two
+/// copies would be too much.
+trait Desking<R, A> {
+    /// Whether so many edits are entered, and so many of them shown.
+    fn stands(&self, entries: u64, shown: u64) -> bool;
 
-/// The calls that are tried.
-#[derive(Clone, Copy)]
-enum Calls {
-    /// Two edits are entered one by one, and published.
-    EnterAndPublish,
-    /// They are submitted.
-    Submit,
-}
+    /// What comes of entering the edit of that number.
+    fn enters(&mut self, alloc: A, number: u64) -> Met;
 
-/// Whether so many edits are entered, and so many of them shown.
-fn stands<L: Grown<A>, N: RoomName<L::Content>, R: Wait + Drop, A: Allocator + Copy>(
-    desk: &GrowingDesk<L, N, R, A>,
-    entries: u64,
-    shown: u64,
-) -> bool {
-    desk.journal().len() as u64 == entries
-        && desk.working().is_left_by(entries)
-        && desk.published_count() == shown
-        && desk.publisher().front().count() == shown
-}
+    /// What comes of publishing so many entries.
+    fn publishes(&mut self, rt: &R, entries: u64) -> Met;
 
-/// The session after a look at a desk that stands so.
-fn shows<L: Grown<A>, N: RoomName<L::Content>, R: Wait + Drop, A: Allocator + Copy>(
-    desk: &GrowingDesk<L, N, R, A>,
-    session: Session<L, N, A>,
-    entries: u64,
-    shown: u64,
-) -> Option<Session<L, N, A>> {
-    if stands(desk, entries, shown) {
-        sees(session, shown)
-    } else {
-        None
-    }
+    /// What comes of a submit of the two edits.
+    fn submits(&mut self, rt: &R, alloc: A) -> Met;
+
+    /// Whether an empty submit is published, with so many entries.
+    fn submits_nothing(&mut self, rt: &R, alloc: A, entries: u64) -> bool;
 }
 
 /// What an answer to the edit of that number means.
@@ -59,79 +41,81 @@ fn entered<W: Drop>(answer: Result<u64, Refused<W>>, number: u64) -> Met {
     }
 }
 
-/// What comes of entering the edit of that number.
-fn enters<L: Grown<A>, N: RoomName<L::Content>, R: Wait + Drop, A: Allocator + Copy>(
-    alloc: A,
-    desk: &mut GrowingDesk<L, N, R, A>,
-    number: u64,
-) -> Met {
-    match L::edit(alloc, number) {
-        Some(edit) => entered(desk.enter(0, edit), number),
-        None => Met::Setup,
+impl<L: Shared<A>, N: RoomName<L::Content>, R: Wait + Drop, A: Allocator + Copy> Desking<R, A>
+    for Desk<L, Pair<L, N, R, A>, A> {
+    fn stands(&self, entries: u64, shown: u64) -> bool {
+        self.journal().len() as u64 == entries
+            && self.working().shows(Sight::LeftBy(entries))
+            && self.published_count() == shown
+            && self.publisher().front().count() == shown
+    }
+
+    fn enters(&mut self, alloc: A, number: u64) -> Met {
+        match L::edit(alloc, number) {
+            Some(edit) => entered(self.enter(0, edit), number),
+            None => Met::Setup,
+        }
+    }
+
+    fn publishes(&mut self, rt: &R, entries: u64) -> Met {
+        match self.publish(rt) {
+            Ok(count) => Met::Nothing.if_right(count == entries),
+            Err(_) => Met::Publish,
+        }
+    }
+
+    fn submits(&mut self, rt: &R, alloc: A) -> Met {
+        let Some(asked) = both_edits::<L, A>(alloc) else {
+            return Met::Setup;
+        };
+        match self.submit(0, asked, rt) {
+            Ok(submitted) => met_by(&submitted),
+            Err(_) => Met::Replies,
+        }
+    }
+
+    fn submits_nothing(&mut self, rt: &R, alloc: A, entries: u64) -> bool {
+        match self.submit(0, Vec::new(alloc), rt) {
+            Ok(submitted) => {
+                submitted.replies.is_empty() && submitted.end == End::Published(entries)
+            }
+            Err(_) => false,
+        }
     }
 }
 
-/// The same. Where a growth was refused, nothing has changed, and the same call then succeeds.
-fn enters_at_last<L: Grown<A>, N: RoomName<L::Content>, R: Wait + Drop, A: Allocator + Copy>(
-    alloc: A,
-    desk: &mut GrowingDesk<L, N, R, A>,
-    number: u64,
-) -> Met {
-    let met = enters(alloc, desk, number);
+/// The session after a look at a desk that stands so.
+fn shows<D: Desking<R, A>, S: Seated, R, A>(
+    desk: &D,
+    session: S,
+    entries: u64,
+    shown: u64,
+) -> Option<S> {
+    if desk.stands(entries, shown) {
+        sees(session, shown)
+    } else {
+        None
+    }
+}
+
+/// What comes of entering the edit of that number. Where a growth was refused, nothing has changed, and the same call then
+/// succeeds.
+fn enters_at_last<D: Desking<R, A>, R, A: Copy>(alloc: A, desk: &mut D, number: u64) -> Met {
+    let met = desk.enters(alloc, number);
     if met == Met::Nothing {
         return met;
     }
-    let kept = stands(desk, number.saturating_sub(1), 0);
-    met.if_right(kept && enters(alloc, desk, number) == Met::Nothing)
-}
-
-/// What comes of publishing so many entries.
-fn publishes<L: Grown<A>, N: RoomName<L::Content>, R: Wait + Drop, A: Allocator + Copy>(
-    rt: &R,
-    desk: &mut GrowingDesk<L, N, R, A>,
-    entries: u64,
-) -> Met {
-    match desk.publish(rt) {
-        Ok(count) => Met::Nothing.if_right(count == entries),
-        Err(_) => Met::Publish,
-    }
-}
-
-/// What comes of a submit of the two edits.
-fn submits<L: Grown<A>, N: RoomName<L::Content>, R: Wait + Drop, A: Allocator + Copy>(
-    rt: &R,
-    alloc: A,
-    desk: &mut GrowingDesk<L, N, R, A>,
-) -> Met {
-    let Some(asked) = both_edits::<L, A>(alloc) else {
-        return Met::Setup;
-    };
-    match desk.submit(0, asked, rt) {
-        Ok(submitted) => met_by(&submitted),
-        Err(_) => Met::Replies,
-    }
-}
-
-/// Whether an empty submit is published, with so many entries.
-fn submits_nothing<L: Grown<A>, N: RoomName<L::Content>, R: Wait + Drop, A: Allocator + Copy>(
-    rt: &R,
-    alloc: A,
-    desk: &mut GrowingDesk<L, N, R, A>,
-    entries: u64,
-) -> bool {
-    match desk.submit(0, Vec::new(alloc), rt) {
-        Ok(submitted) => is_of_nothing(&submitted, entries),
-        Err(_) => false,
-    }
+    let kept = desk.stands(number.saturating_sub(1), 0);
+    met.if_right(kept && desk.enters(alloc, number) == Met::Nothing)
 }
 
 /// Nothing is shown behind a refused growth, and so many edits are entered. Another publish, or an empty submit, shows
 /// them all.
-fn goes_on<L: Grown<A>, N: RoomName<L::Content>, R: Wait + Drop, A: Allocator + Copy>(
+fn goes_on<D: Desking<R, A>, S: Seated, R, A: Copy>(
     rt: &R,
     alloc: A,
-    desk: &mut GrowingDesk<L, N, R, A>,
-    session: Session<L, N, A>,
+    desk: &mut D,
+    session: S,
     entries: u64,
     calls: Calls,
 ) -> bool {
@@ -139,38 +123,44 @@ fn goes_on<L: Grown<A>, N: RoomName<L::Content>, R: Wait + Drop, A: Allocator + 
         return false;
     };
     let published = match calls {
-        Calls::EnterAndPublish => publishes(rt, desk, entries) == Met::Nothing,
-        Calls::Submit => submits_nothing(rt, alloc, desk, entries),
+        Calls::EnterAndPublish => desk.publishes(rt, entries) == Met::Nothing,
+        _ => desk.submits_nothing(rt, alloc, entries),
     };
     published && shows(desk, session, entries, entries).is_some()
 }
 
-/// Both edits are entered, and then published.
-fn enters_and_publishes<L: Grown<A>, N: RoomName<L::Content>, R: Wait + Drop, A: Allocator + Copy>(
-    rt: &R,
-    alloc: A,
-    desk: &mut GrowingDesk<L, N, R, A>,
-    session: Session<L, N, A>,
-) -> Met {
+/// Both edits are entered, or the refusal that is met in entering them; none is met then.
+fn enters_both<D: Desking<R, A>, R, A: Copy>(alloc: A, desk: &mut D) -> Met {
     let first = enters_at_last(alloc, desk, 1);
     let second = enters_at_last(alloc, desk, 2);
-    let published = publishes(rt, desk, 2);
+    first.then(second)
+}
+
+/// Both edits are entered, and then published.
+fn enters_and_publishes<D: Desking<R, A>, S: Seated, R, A: Copy>(
+    rt: &R,
+    alloc: A,
+    desk: &mut D,
+    session: S,
+) -> Met {
+    let entered = enters_both(alloc, desk);
+    let published = desk.publishes(rt, 2);
     let right = if published == Met::Nothing {
         shows(desk, session, 2, 2).is_some()
     } else {
         goes_on(rt, alloc, desk, session, 2, Calls::EnterAndPublish)
     };
-    first.then(second).then(published).if_right(right)
+    entered.then(published).if_right(right)
 }
 
 /// Both edits are submitted.
-fn submits_and_shows<L: Grown<A>, N: RoomName<L::Content>, R: Wait + Drop, A: Allocator + Copy>(
+fn submits_and_shows<D: Desking<R, A>, S: Seated, R, A: Copy>(
     rt: &R,
     alloc: A,
-    desk: &mut GrowingDesk<L, N, R, A>,
-    session: Session<L, N, A>,
+    desk: &mut D,
+    session: S,
 ) -> Met {
-    let met = submits(rt, alloc, desk);
+    let met = desk.submits(rt, alloc);
     let right = if met == Met::Nothing {
         shows(desk, session, 2, 2).is_some()
     } else {
@@ -180,21 +170,21 @@ fn submits_and_shows<L: Grown<A>, N: RoomName<L::Content>, R: Wait + Drop, A: Al
 }
 
 /// What comes of the calls.
-fn calls_on<L: Grown<A>, N: RoomName<L::Content>, R: Wait + Drop, A: Allocator + Copy>(
+fn calls_on<D: Desking<R, A>, S: Seated, R, A: Copy>(
     rt: &R,
     alloc: A,
-    desk: &mut GrowingDesk<L, N, R, A>,
-    session: Session<L, N, A>,
+    desk: &mut D,
+    session: S,
     calls: Calls,
 ) -> Met {
     match calls {
         Calls::EnterAndPublish => enters_and_publishes(rt, alloc, desk, session),
-        Calls::Submit => submits_and_shows(rt, alloc, desk, session),
+        _ => submits_and_shows(rt, alloc, desk, session),
     }
 }
 
 /// The calls on the desk of a closed room, at which a session still looks.
-fn tried<L: Grown<A>, N: RoomName<L::Content>, R: Wait + Drop, A: Allocator + Copy>(
+fn tried<L: Shared<A>, N: RoomName<L::Content>, R: Wait + Drop, A: Allocator + Copy>(
     rt: &R,
     alloc: A,
     parts: Parts<L, R, A>,
@@ -217,60 +207,29 @@ fn tried<L: Grown<A>, N: RoomName<L::Content>, R: Wait + Drop, A: Allocator + Co
     }
 }
 
-fn attempted<L: Grown<A>, R: Wait + Drop + Copy, A: Allocator + Copy>(
+fn tried_over<L: Shared<A>, R: Wait + Drop + Copy, A: Allocator + Copy>(
     rt: R,
     alloc: A,
+    state: L,
     calls: Calls,
 ) -> Met {
-    match parts_of::<L, R, A>(rt, alloc) {
+    match Room::begin(rt, alloc, state, 9, 2) {
         Ok(parts) => tried::<L, Brand, R, A>(&rt, alloc, parts, calls),
-        Err(met) => met,
+        Err(fault) => Met::Begin.if_right(fault == RoomFault::NoMemory),
     }
 }
 
-/// The calls on a desk over a board, whose edits post queries.
-fn attempted_on_board<R: Wait + Drop + Copy, A: Allocator + Copy>(
+/// What comes of the calls on a desk over such a state.
+pub fn attempted_on_desk<L: Shared<A>, R: Wait + Drop + Copy, A: Allocator + Copy>(
     rt: R,
     alloc: A,
     calls: Calls,
 ) -> Met {
-    attempted::<Board<A>, R, A>(rt, alloc, calls)
-}
-
-/// Two bytes are entered and published.
-struct EnteredBytes;
-
-impl Attempt for EnteredBytes {
-    fn attempt<R: Wait + Drop + Copy, A: Allocator + Copy>(rt: R, alloc: A) -> Met {
-        attempted::<Tally<A>, R, A>(rt, alloc, Calls::EnterAndPublish)
-    }
-}
-
-/// Two bytes are submitted.
-struct SubmittedBytes;
-
-impl Attempt for SubmittedBytes {
-    fn attempt<R: Wait + Drop + Copy, A: Allocator + Copy>(rt: R, alloc: A) -> Met {
-        attempted::<Tally<A>, R, A>(rt, alloc, Calls::Submit)
-    }
-}
-
-/// Two queries are entered and published.
-struct EnteredQueries;
-
-impl Attempt for EnteredQueries {
-    fn attempt<R: Wait + Drop + Copy, A: Allocator + Copy>(rt: R, alloc: A) -> Met {
-        attempted_on_board(rt, alloc, Calls::EnterAndPublish)
-    }
-}
-
-/// Two queries are submitted.
-struct SubmittedQueries;
-
-impl Attempt for SubmittedQueries {
-    fn attempt<R: Wait + Drop + Copy, A: Allocator + Copy>(rt: R, alloc: A) -> Met {
-        attempted_on_board(rt, alloc, Calls::Submit)
-    }
+    let met = match L::begun(alloc) {
+        Some(state) => tried_over(rt, alloc, state, calls),
+        None => Met::Setup,
+    };
+    met.if_right(begins_again::<L, R, A>(rt, alloc, met))
 }
 
 /// Whether growths of both calls were refused, and nothing but what is right came of it.

@@ -2,12 +2,14 @@
 
 ghost use Rattle.std.specs.Prelude.{◌≡◌, ◌∷◌, []};
 
-use crate::lines::{ANSWER, BoardLike, edits};
-use crate::room::boards::{BoardRoom, looks, opened, published};
+use crate::lines::Line;
 use crate::room::jobs::{Job, both};
-use cq_board::Board;
-use cq_desk::{Desk, Live, Publisher, Reply};
-use cq_room::{Checkpoint, Front, Parts, RoomName, Session};
+use crate::room::scenes::{Scene, is_right_on_board};
+use crate::room::seats::{Hall, PairRoom, Place, Seated, two_of};
+use crate::room::states::{Shared, Sight};
+use cq_board::{Edit, Why};
+use cq_desk::{Checkpoint, Desk, Live, Publisher, Reply};
+use cq_room::{Front, Parts, Room, RoomName, Session};
 use std::alloc::{Allocator, Global};
 use std::hint::spin_loop;
 use std::marker::Brand;
@@ -71,41 +73,44 @@ impl<'a> Checkpoint for AtGate<'a> {
     }
 }
 
-/// The first session posts past the gate.
-#[derive(Drop)]
-struct Posting<'a, L: BoardLike, N: RoomName<L::Content>, R: Wait + Drop> {
-    rt: &'a R,
-    alloc: Global,
-    room: &'a BoardRoom<L, N, R>,
-    first: Session<L, N>,
-    gate: &'a Held,
-}
-
-/// The front of the posting of `a` past the gate, which it passed once, when one entry was there and none was published.
-fn posts_past<L: BoardLike, N: RoomName<L::Content>, R: Wait + Drop>(
-    rt: &R,
-    alloc: Global,
-    room: &BoardRoom<L, N, R>,
-    session: &mut Session<L, N>,
+/// What the posting of `a` past the gate tells of. It passed once, when one entry was there and none was published.
+fn posts_past<S: Seated, H: Hall<S, Asked = Line, Why = Why>>(
+    hall: &H,
+    mut session: S,
     gate: &Held,
-) -> Option<Front<L, N>> {
-    let asked = edits(alloc, &[ANSWER]).ok()?;
+) -> Option<S::Told> {
     let mut at = AtGate {
         gate,
         times: 0,
         entered: 0,
         published: 0,
     };
-    let receipt = session.submit_past(rt, room, asked, &mut at).ok()?;
+    let told = hall.submits_past(
+        &mut session,
+        &[Line::Answer],
+        &[Reply::Entered(1)],
+        1,
+        &mut at,
+    );
     if at.times != 1 || at.entered != 1 || at.published != 0 {
         return None;
     }
-    published(receipt, &[Reply::Entered(1)], 1)
+    told
+}
+
+/// The first session posts past the gate.
+#[derive(Drop)]
+struct Posting<'a, L: Shared<Global>, N: RoomName<L::Content>, R: Wait + Drop> {
+    rt: &'a R,
+    alloc: Global,
+    room: &'a PairRoom<L, N, R>,
+    first: Session<L, N>,
+    gate: &'a Held,
 }
 
 impl<
     'a,
-    L: BoardLike + Send + Sync,
+    L: Shared<Global, Edit = Edit, Asked = Line, Why = Why> + Send + Sync,
     N: RoomName<L::Content> + Send + Sync,
     R: Wait + Drop + Send + Sync,
 > Job for Posting<'a, L, N, R> {
@@ -116,35 +121,41 @@ impl<
             rt,
             alloc,
             room,
-            mut first,
+            first,
             gate,
         } = self;
-        posts_past(rt, alloc, room, &mut first, gate)
+        posts_past(&Place { rt, alloc, room }, first, gate)
     }
 }
 
 /// The second session looks while the gate holds, and opens it. It is taken from its seat for the look.
 #[derive(Drop)]
-struct Looking<'a, L: BoardLike, N: RoomName<L::Content>, R: Wait + Drop> {
+struct Looking<'a, L: Shared<Global>, N: RoomName<L::Content>, R: Wait + Drop> {
     rt: &'a R,
     seat: &'a Mutex<Option<Session<L, N>>>,
     gate: &'a Held,
 }
 
 /// The session after a look while the gate holds. The gate opens then.
-fn looks_meanwhile<L: BoardLike, N: RoomName<L::Content>>(
-    session: Session<L, N>,
-    gate: &Held,
-) -> Option<Session<L, N>> {
+fn looks_meanwhile<S: Seated>(session: S, gate: &Held) -> Option<S> {
     let reached = is_told(&gate.reached);
-    let session = looks(session, 0, 0);
+    let session = session.looks(0, Sight::Queries(0));
     gate.open.store(reached, Ordering::SeqCst);
     session
 }
 
+/// The session in the seat looks so.
+fn looks_from<S: Seated, R: Wait>(rt: &R, seat: &Mutex<Option<S>>, gate: &Held) {
+    let taken = seat.lock(rt).take();
+    if let Some(session) = taken {
+        let session = looks_meanwhile(session, gate);
+        *seat.lock(rt) = session;
+    }
+}
+
 impl<
     'a,
-    L: BoardLike + Send + Sync,
+    L: Shared<Global, Edit = Edit, Asked = Line, Why = Why> + Send + Sync,
     N: RoomName<L::Content> + Send + Sync,
     R: Wait + Drop + Send + Sync,
 > Job for Looking<'a, L, N, R> {
@@ -152,86 +163,103 @@ impl<
 
     fn run(self) {
         let Looking { rt, seat, gate } = self;
-        let taken = seat.lock(rt).take();
-        if let Some(session) = taken {
-            let session = looks_meanwhile(session, gate);
-            *seat.lock(rt) = session;
-        }
+        looks_from(rt, seat, gate);
     }
 }
 
-/// The front of the posting, beside another job. That one stands as a parameter, since two types that hold a session are
+/// What the posting tells of, beside another job. That one stands as a parameter, since two types that hold a session are
 /// more than the check of one call takes.
 fn posts_beside<
-    L: BoardLike + Send + Sync,
+    L: Shared<Global, Edit = Edit, Asked = Line, Why = Why> + Send + Sync,
     N: RoomName<L::Content> + Send + Sync,
     R: Wait + Drop + Send + Sync,
     J: Job,
     T: Threads,
 >(threads: &T, posting: Posting<'_, L, N, R>, other: J) -> Option<Front<L, N>> {
-    let (front, _) = both(threads, posting, other);
-    front
+    let (told, _) = both(threads, posting, other);
+    told
 }
 
-/// Whether the second session sees what the first one posted, once it has heard of it.
-fn sees<L: BoardLike, N: RoomName<L::Content>>(
-    mut session: Session<L, N>,
-    front: &Front<L, N>,
-) -> bool {
-    session.hear(front);
-    looks(session, 1, 1).is_some()
-}
-
-/// The front of the first session's posting, where the second one looks from its seat.
+/// What the first session's posting tells of, where the second one looks from its seat.
 fn run_both<
-    L: BoardLike + Send + Sync,
+    L: Shared<Global, Edit = Edit, Asked = Line, Why = Why> + Send + Sync,
     N: RoomName<L::Content> + Send + Sync,
     R: Wait + Drop + Send + Sync,
     T: Threads,
 >(
     threads: &T,
-    rt: &R,
-    alloc: Global,
-    room: &BoardRoom<L, N, R>,
+    place: &Place<'_, L, N, R, Global>,
     first: Session<L, N>,
     seat: &Mutex<Option<Session<L, N>>>,
     gate: &Held,
 ) -> Option<Front<L, N>> {
-    let looking = Looking { rt, seat, gate };
+    let looking = Looking {
+        rt: place.rt,
+        seat,
+        gate,
+    };
     let posting = Posting {
-        rt,
-        alloc,
-        room,
+        rt: place.rt,
+        alloc: place.alloc,
+        room: place.room,
         first,
         gate,
     };
     posts_beside(threads, posting, looking)
 }
 
+/// Whether the second session sees what the first one posted, once it has heard of it.
+fn sees<S: Seated>(mut session: S, told: &S::Told) -> bool {
+    session.hears(told);
+    session.looks(1, Sight::Queries(1)).is_some()
+}
+
+/// The same, where both are there.
+fn sees_at_last<S: Seated>(session: Option<S>, told: Option<S::Told>) -> bool {
+    match (session, told) {
+        (Some(session), Some(told)) => sees(session, &told),
+        _ => false,
+    }
+}
+
 /// Whether the second session opened the gate, and saw nothing before it opened.
-fn watches_in<
-    L: BoardLike + Send + Sync,
+fn watches<
+    L: Shared<Global, Edit = Edit, Asked = Line, Why = Why> + Send + Sync,
     N: RoomName<L::Content> + Send + Sync,
     R: Wait + Drop + Send + Sync,
     T: Threads,
 >(
     threads: &T,
-    rt: &R,
-    alloc: Global,
-    room: &BoardRoom<L, N, R>,
-    sessions: &mut Vec<Session<L, N>>,
-) -> Option<bool> {
-    let second = sessions.pop()?;
-    let first = sessions.pop()?;
+    place: &Place<'_, L, N, R, Global>,
+    first: Session<L, N>,
+    second: Session<L, N>,
+) -> bool {
     let gate = Held::closed();
     let seat = Mutex::new(Some(second));
-    let front = run_both(threads, rt, alloc, room, first, &seat, &gate)?;
-    let second = seat.into_inner()?;
-    Some(sees(second, &front) && gate.passed.load(Ordering::SeqCst))
+    let told = run_both(threads, place, first, &seat, &gate);
+    let seen = sees_at_last(seat.into_inner(), told);
+    seen && gate.passed.load(Ordering::SeqCst)
 }
 
-fn watches<
-    L: BoardLike + Send + Sync,
+/// The same of the two sessions of the list.
+fn watches_in<
+    L: Shared<Global, Edit = Edit, Asked = Line, Why = Why> + Send + Sync,
+    N: RoomName<L::Content> + Send + Sync,
+    R: Wait + Drop + Send + Sync,
+    T: Threads,
+>(
+    threads: &T,
+    place: &Place<'_, L, N, R, Global>,
+    sessions: &mut Vec<Session<L, N>>,
+) -> Option<bool> {
+    match two_of(sessions) {
+        Some((first, second)) => Some(watches(threads, place, first, second)),
+        None => None,
+    }
+}
+
+fn watched<
+    L: Shared<Global, Edit = Edit, Asked = Line, Why = Why> + Send + Sync,
     N: RoomName<L::Content> + Send + Sync,
     R: Wait + Drop + Send + Sync,
     T: Threads,
@@ -241,17 +269,28 @@ fn watches<
     requires limit { N.limit ≡ parts.limit }
 {
     let (room, mut sessions) = parts.open::<N>().ok()?;
-    watches_in(threads, rt, alloc, &room, &mut sessions)
+    let place = Place {
+        rt,
+        alloc,
+        room: &room,
+    };
+    watches_in(threads, &place, &mut sessions)
+}
+
+/// The same in a room over the state.
+pub fn watched_over<
+    L: Shared<Global, Edit = Edit, Asked = Line, Why = Why> + Send + Sync,
+    R: Wait + Drop + Copy + Send + Sync,
+    T: Threads,
+>(threads: &T, rt: R, alloc: Global, state: L) -> Option<bool> {
+    match Room::begin(rt, alloc, state, 9, 2) {
+        Ok(parts) => watched::<L, Brand, R, T>(threads, &rt, alloc, parts),
+        Err(_) => None,
+    }
 }
 
 #[test]
 fn watch_past_a_gate(rt: HostRuntime) {
-    let handle = &rt;
-    match opened(handle, rt.alloc(), &[]) {
-        Some(parts) => {
-            let passed = watches::<Board, Brand, _, _>(&rt, &handle, rt.alloc(), parts);
-            assert!(rt; passed == Some(true));
-        }
-        None => assert!(rt; false),
-    }
+    let right = is_right_on_board(&rt, &rt, rt.alloc(), &[], Scene::Watched);
+    assert!(rt; right == Ok(true));
 }

@@ -1,75 +1,67 @@
 //! A room over a tally.
 
-ghost use Rattle.std.specs.Prelude.{◌≡◌, ◌∷◌, []};
-
-use crate::room::rooms::{TallyRoom, TallySession, looks, submits};
+use crate::room::met::Met;
+use crate::room::plays::{Play, played};
+use crate::room::seats::{Hall, Heard, Place, Seated, two_of};
+use crate::room::states::{Shared, Sight};
 use crate::tally::{Full, Tally};
 use cq_desk::{Entry, Reply};
-use cq_room::{Front, Parts, Room, RoomFault, RoomName};
+use cq_room::{Room, RoomFault, RoomName, Session};
 use std::alloc::Global;
-use std::marker::Brand;
 use std::sync::Wait;
 
-/// Two sessions one after the other: what the first submitted is seen by the second before it hears of
-/// it, and the other way round after a front was heard.
-fn two_sessions<N: RoomName<[u8; 0]>, R: Wait + Drop>(
-    rt: &R,
-    alloc: Global,
-    room: &TallyRoom<N, R>,
-    mut first: TallySession<N>,
-    second: TallySession<N>,
-) -> Option<(TallySession<N>, TallySession<N>)> {
-    let entered = [Reply::Entered(1), Reply::Entered(2)];
-    let early = submits(rt, alloc, room, &mut first, &[1, 2], &entered, 2)?;
-    let (second, front) = answers(rt, alloc, room, second)?;
-    if !comes_first(&early, &front) || !comes_first(&first.front(), &second.front()) {
-        return None;
-    }
-    first.hear(&front.copy());
-    let first = is_told(first)?;
-    Some((first, second))
+/// Whether the later history begins with the earlier one, and not the other way round.
+fn comes_first<F: Heard>(early: &F, late: &F) -> bool {
+    early.comes_before(late) && !late.comes_before(early) && early.comes_before(&early.again())
 }
 
-/// Whether the later front's history begins with the earlier one's, and not the other way round.
-fn comes_first<N: RoomName<[u8; 0]>>(early: &Front<Tally, N>, late: &Front<Tally, N>) -> bool {
-    early.begins(late) && !late.begins(early) && early.begins(&early.copy())
-}
-
-/// The second session, which sees what was submitted and submits too, and the front that it is told.
-fn answers<N: RoomName<[u8; 0]>, R: Wait + Drop>(
-    rt: &R,
-    alloc: Global,
-    room: &TallyRoom<N, R>,
-    second: TallySession<N>,
-) -> Option<(TallySession<N>, Front<Tally, N>)> {
-    let mut second = looks(second, &[1, 2], 2)?;
+/// The second session, which sees what was submitted and submits too, and what it is told then.
+fn answers<S: Seated, H: Hall<S, Asked = u8, Why = Full>>(
+    hall: &H,
+    second: S,
+) -> Option<(S, S::Told)> {
+    let mut second = second.looks(2, Sight::Bytes(&[1, 2]))?;
     let full = [Reply::Entered(3), Reply::Not(Full)];
-    let front = submits(rt, alloc, room, &mut second, &[3, 4], &full, 3)?;
-    if second.number() != 1 {
+    let told = hall.submits(&mut second, &[3, 4], &full, 3)?;
+    if second.seat() != 1 {
         return None;
     }
-    Some((second, front))
+    Some((second, told))
 }
 
 /// The first session, which sees what it has heard of.
-fn is_told<N: RoomName<[u8; 0]>>(first: TallySession<N>) -> Option<TallySession<N>> {
-    if first.number() != 0 || first.seen() != 3 {
+fn is_told<S: Seated>(first: S) -> Option<S> {
+    if first.seat() != 0 || first.has_seen() != 3 {
         return None;
     }
-    looks(first, &[1, 2, 3], 3)
+    first.looks(3, Sight::Bytes(&[1, 2, 3]))
+}
+
+/// Two sessions one after the other: what the first submitted is seen by the second before it hears of
+/// it, and the other way round after a front was heard.
+fn meet<S: Seated, H: Hall<S, Asked = u8, Why = Full>>(
+    hall: &H,
+    mut first: S,
+    second: S,
+) -> Option<(S, S)> {
+    let entered = [Reply::Entered(1), Reply::Entered(2)];
+    let early = hall.submits(&mut first, &[1, 2], &entered, 2)?;
+    let (second, late) = answers(hall, second)?;
+    if !comes_first(&early, &late) || !comes_first(&first.knows(), &second.knows()) {
+        return None;
+    }
+    first.hears(&late.again());
+    Some((is_told(first)?, second))
 }
 
 /// The two sessions meet, and are put back where they are to be handed in.
-fn meet<N: RoomName<[u8; 0]>, R: Wait + Drop>(
-    rt: &R,
-    alloc: Global,
-    room: &TallyRoom<N, R>,
-    sessions: &mut Vec<TallySession<N>>,
+fn meet_in<S: Seated, H: Hall<S, Asked = u8, Why = Full>>(
+    hall: &H,
+    sessions: &mut Vec<S>,
     hand_in: bool,
 ) -> Option<()> {
-    let second = sessions.pop()?;
-    let first = sessions.pop()?;
-    let (first, second) = two_sessions(rt, alloc, room, first, second)?;
+    let (first, second) = two_of(sessions)?;
+    let (first, second) = meet(hall, first, second)?;
     if hand_in {
         sessions.push(first).ok()?;
         sessions.push(second).ok()?;
@@ -91,54 +83,40 @@ fn are_entries(journal: &[Entry<u8>], wanted: &[(usize, u8)]) -> bool {
     journal.len() == wanted.len()
 }
 
-/// Whether the closed room's journal has what the sessions entered, and nothing else.
-fn closes<N: RoomName<[u8; 0]>, R: Wait + Drop>(
-    rt: &R,
-    room: TallyRoom<N, R>,
-    sessions: Vec<TallySession<N>>,
-) -> bool {
-    are_entries(room.close(rt, sessions).journal(), ENTRIES.as_slice())
-}
-
-fn runs<N: RoomName<[u8; 0]>, R: Wait + Drop>(
-    rt: &R,
-    alloc: Global,
-    parts: Parts<Tally, R>,
+/// The two sessions meet, and are handed in or not.
+#[derive(Clone, Copy)]
+struct Meeting {
     hand_in: bool,
-) -> Option<bool>
-    requires book { parts.book ≡ N.book }
-    requires opening { N.opening ≡ parts.opening ∷ [] }
-    requires limit { N.limit ≡ parts.limit }
-{
-    let (room, mut sessions) = parts.open::<N>().ok()?;
-    let meet = meet(rt, alloc, &room, &mut sessions, hand_in).is_some();
-    Some(closes(rt, room, sessions) && meet)
 }
 
-fn opened<R: Wait + Drop>(rt: R, alloc: Global) -> Result<Parts<Tally, R>, RoomFault> {
-    Room::begin(rt, alloc, Tally::empty(alloc), 9, 2)
+impl<L: Shared<Global, Edit = u8, Asked = u8, Why = Full>, R: Wait + Drop> Play<L, R, Global>
+    for Meeting {
+    fn play<N: RoomName<L::Content>>(
+        &self,
+        place: &Place<'_, L, N, R, Global>,
+        sessions: &mut Vec<Session<L, N>>,
+    ) -> Met {
+        Met::Nothing.if_right(meet_in(place, sessions, self.hand_in).is_some())
+    }
+
+    fn are_entered(_met: Met, journal: &[Entry<u8>]) -> bool {
+        are_entries(journal, ENTRIES.as_slice())
+    }
+}
+
+/// What comes of it in a room over a tally.
+fn met_by_two<R: Wait + Drop + Copy>(rt: R, alloc: Global, hand_in: bool) -> Met {
+    played(rt, alloc, Tally::empty(alloc), &Meeting { hand_in })
 }
 
 #[test]
 fn tally_room(rt: HostRuntime) {
-    let handle = &rt;
-    match opened(handle, rt.alloc()) {
-        Ok(parts) => {
-            assert!(rt; runs::<Brand, _>(&handle, rt.alloc(), parts, true) == Some(true))
-        }
-        Err(_) => assert!(rt; false),
-    }
+    assert!(rt; met_by_two(&rt, rt.alloc(), true) == Met::Nothing);
 }
 
 #[test]
 fn tally_room_of_nobody(rt: HostRuntime) {
-    let handle = &rt;
-    match opened(handle, rt.alloc()) {
-        Ok(parts) => {
-            assert!(rt; runs::<Brand, _>(&handle, rt.alloc(), parts, false) == Some(true))
-        }
-        Err(_) => assert!(rt; false),
-    }
+    assert!(rt; met_by_two(&rt, rt.alloc(), false) == Met::Nothing);
 }
 
 /// Whether a room with so many sessions is refused for their number.
