@@ -11,5 +11,6 @@ pub mod Members
 pub mod Whole
 pub mod Undone
 pub mod Parted
+pub mod Firsts
 pub mod Ordered
 pub mod Columns

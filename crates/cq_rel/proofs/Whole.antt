@@ -82,6 +82,11 @@ pub rows-absent : (catalog : List Declaration) (tables : Lists) (seen : TablesRe
 rows-absent catalog tables seen name view k at =
     sym (ap (rows_in name) view) ∙ rows-stored catalog tables name k ∙ kept-none catalog tables name (place-none catalog name (sym at))
 
+-- how many they are
+pub rows-counted : (arity : Option ℕ) (shown : Option (List RowRecord)) (rows : List RowRecord) → shown ≡ option_map (λ (n : ℕ). rows) arity → option_map (λ (xs : List RowRecord). length xs) shown ≡ option_map (λ (n : ℕ). length rows) arity
+rows-counted None shown rows e = ap (option_map (λ (xs : List RowRecord). length xs)) e
+rows-counted (Some n) shown rows e = ap (option_map (λ (xs : List RowRecord). length xs)) e
+
 of-name : (catalog : List Declaration) (name : List ℕ) (rows : List RowRecord) → AllByRecursion (IsUnder catalog) rows → AllByRecursion (λ (r : RowRecord). (r.relation ≡ name) × IsUnder catalog r) (filter (λ (r : RowRecord). bytes_eq name r.relation) rows)
 of-name catalog name [] h = tt
 of-name catalog name (r ∷ rows) h =

@@ -1,6 +1,6 @@
 -- Tables: a catalog of declared relations, and a set of rows under it.
 -- (the database that the body of an entangled query reads: Gupta et al., SIGMOD 2011; order and limits: this project's profile)
-use Rattle.std.specs.Prelude.{◌≡◌, ◌≤◌, ℕ, Bool, ◌&&◌, not, nat_eq, nat_lt, List, [], ◌∷◌, ◌++◌, length, drop, map, filter, if◌then◌else◌, Option, Some, None, Result, Ok, Err}
+use Rattle.std.specs.Prelude.{◌≡◌, ◌≤◌, ℕ, Bool, ◌&&◌, not, nat_eq, nat_lt, List, [], ◌∷◌, ◌++◌, length, take, drop, map, filter, if◌then◌else◌, Option, Some, None, Result, Ok, Err}
 use Rattle.std.specs.List.{All, Contains, IsDistinct, list_any, position_or_len}
 use Rattle.std.specs.List.Sorted.{IsStrictlySortedBy}
 use Rattle.std.specs.declared.cmp.Ordering.{Ordering}
@@ -126,6 +126,14 @@ order_at column r v = head_order (drop column r.values) v
 -- The row has the value in the column.
 abbrev pub has_at : ℕ → ValueContent → RowRecord → Bool
 has_at column v r = is_eq (order_at column r v)
+
+-- How a row's first values, as many as are given, stand to the given ones.
+abbrev pub first_order : List ValueContent → RowRecord → Ordering
+first_order firsts r = values_order (take (length firsts) r.values) firsts
+
+-- The row's first values are these.
+abbrev pub has_first : List ValueContent → RowRecord → Bool
+has_first firsts r = is_eq (first_order firsts r)
 
 -- The row's value in the column comes before the value.
 abbrev pub is_below : ℕ → ValueContent → RowRecord → Bool

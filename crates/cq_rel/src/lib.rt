@@ -2,7 +2,8 @@
 //!
 //! The crates above use one contract of this one most: tables are a set of rows under a catalog.
 //! `insert` and `delete` say the whole content that they leave, a refused call leaves it as it was,
-//! and `rows_of` shows the rows of one relation in order of their values, for a search in them.
+//! and `rows_of` shows the rows of one relation in order of their values, `rows_with` and `rows_first` those of
+//! them that have values in some columns.
 //!
 //! `read_csv` makes rows of CSV, as `specs/Csv` says which, and puts them into no table.
 //!
@@ -24,7 +25,7 @@ mod tables;
 pub use catalog::Catalog;
 pub use fault::{CatalogFault, CsvFault, RowFault};
 pub use limits::MAX_RELATIONS;
-pub use near::rows_at;
+pub use near::order_of_first;
 pub use reading::read_csv;
 pub use records::all_records;
 pub use tables::Tables;

@@ -1,18 +1,19 @@
 //! Tables.
 
-ghost use Rattle.std.specs.Prelude.{◌≡◌, ◌↔◌, ◌⊎◌, ◌<◌, [], length, filter, IsTrue, OnOk, OnErr, IfOk, IfSome, IfNone, None, Some};
+ghost use Rattle.std.specs.Prelude.{◌≡◌, ◌↔◌, ◌⊎◌, ◌<◌, [], length, map, filter, IsTrue, OnOk, OnErr, IfOk, IfSome, IfNone, None, Some};
 ghost use Rattle.std.specs.List.{All};
 ghost use Rattle.std.specs.List.Sorted.{IsStrictlySortedBy};
 ghost use Rattle.std.specs.Option.{option_map, option_copied};
 ghost use Rattle.cq_atom.specs.Answer.{Answers};
 ghost use Rattle.cq_atom.specs.Limits.{max_arity};
 ghost use Rattle.cq_atom.specs.Atom.{RowRecord};
-ghost use Rattle.cq_rel.specs.Tables.{TablesRecord, IsTables, IsRow, IsUnder, arity_in, has_row, rows_in, values_order, has_at, insert_fault, delete_fault, answer_of, with_row, without_row};
+ghost use Rattle.cq_rel.specs.Tables.{TablesRecord, IsTables, IsRow, IsUnder, arity_in, has_row, rows_in, values_order, has_at, has_first, insert_fault, delete_fault, answer_of, with_row, without_row};
 
 use crate::catalog::Catalog;
 use crate::fault::RowFault;
 use crate::table::Table;
 use cq_atom::{Row, Value};
+use cq_blocks::Iter;
 use std::alloc::{AllocError, Allocator, Global};
 use std::marker::Model;
 
@@ -56,17 +57,18 @@ impl<A: Allocator> Tables<A> {
 
     /// How many rows the relation has, where it is declared.
     pub fn count(&self, relation: &str) -> Option<usize>
-        ensures { result ≡ option_map (λ _. length (rows_in relation.now self.now)) (arity_in self.now.catalog relation.now) }
+        ensures value { result ≡ option_map (λ _. length (rows_in relation.now self.now)) (arity_in self.now.catalog relation.now) }
+        ensures absent { IfNone result (rows_in relation.now self.now ≡ []) }
     {
-        Some(self.rows_of(relation)?.len())
+        Some(self.tables[self.catalog.place_of(relation)?].len())
     }
 
     /// The rows of the relation in order of their values, where it is declared.
-    pub fn rows_of(&self, relation: &str) -> Option<&[Row<A>]>
-        ensures value { option_copied result ≡ option_map (λ _. rows_in relation.now self.now) (arity_in self.now.catalog relation.now) }
-        ensures ascending { IfSome result (λ rows. IsStrictlySortedBy (λ r s. values_order r.values s.values) rows.now) }
+    pub fn rows_of(&self, relation: &str) -> Option<Iter<'_, Row<A>, A>>
+        ensures value { result ≡ option_map (λ _. rows_in relation.now self.now) (arity_in self.now.catalog relation.now) }
+        ensures ascending { IfSome result (λ rows. IsStrictlySortedBy (λ r s. values_order r.values s.values) rows) }
         ensures absent { IfNone result (rows_in relation.now self.now ≡ []) }
-        ensures under { IfSome result (λ rows. All (λ r. (r.relation ≡ relation.now) × IsUnder self.now.catalog r) rows.now) }
+        ensures under { IfSome result (λ rows. All (λ r. (r.relation ≡ relation.now) × IsUnder self.now.catalog r) rows) }
     {
         let place = self.catalog.place_of(relation)?;
         Some(self.tables[place].rows())
@@ -74,16 +76,27 @@ impl<A: Allocator> Tables<A> {
 
     /// The rows of the relation that have the value in the column, counted from 0, in order of their values: none where
     /// the relation is not declared. It is for the columns after the first, by which the rows of a relation stand
-    /// anyhow. Two searches by halving.
-    pub fn rows_with(&self, relation: &str, column: usize, value: &Value<A>) -> &[Row<A>]
+    /// anyhow. Found by halving.
+    pub fn rows_with(&self, relation: &str, column: usize, value: &Value<A>) -> Iter<'_, Row<A>, A>
         requires later { 0 < column }
         requires within { column < max_arity }
-        ensures { result.now ≡ filter (has_at column value.now) (rows_in relation.now self.now) }
+        ensures { result ≡ filter (has_at column value.now) (rows_in relation.now self.now) }
     {
-        match self.catalog.place_of(relation) {
-            Some(place) => self.tables[place].rows_with(column, value),
-            None => &[],
-        }
+        let Some(place) = self.catalog.place_of(relation) else {
+            return Iter::empty();
+        };
+        self.tables[place].rows_with(column, value)
+    }
+
+    /// The rows of the relation whose first values are these, in order of their values: none where the relation is not
+    /// declared, all where no value is given. Found by halving.
+    pub fn rows_first(&self, relation: &str, firsts: &[&Value<A>]) -> Iter<'_, Row<A>, A>
+        ensures { result ≡ filter (has_first (map (λ v. v.now) firsts.now)) (rows_in relation.now self.now) }
+    {
+        let Some(place) = self.catalog.place_of(relation) else {
+            return Iter::empty();
+        };
+        self.tables[place].rows_first(firsts)
     }
 
     /// Deletes the row. It takes no memory.

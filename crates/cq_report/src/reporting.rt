@@ -26,8 +26,8 @@ use std::alloc::{AllocError, Allocator};
 fn row_count<A: Allocator>(tables: &Tables<A>, relation: &str) -> usize
     ensures { result ≡ length (rows_in relation.now tables.now) }
 {
-    match tables.rows_of(relation) {
-        Some(rows) => rows.len(),
+    match tables.count(relation) {
+        Some(count) => count,
         None => 0,
     }
 }
@@ -210,12 +210,12 @@ fn put_posts<A: Allocator>(
 
 /// Puts a line for each list of values.
 fn put_values<A: Allocator>(
-    lists: &[Vec<Value<A>, A>],
+    groundings: &Groundings<A>,
     page: &mut String<A>,
 ) -> Result<(), AllocError>
-    ensures { OnOk result (string_bytes page.new ≡ string_bytes page.old ++ flat_map values_line (map (λ values. values.items) lists.now)) }
+    ensures { OnOk result (string_bytes page.new ≡ string_bytes page.old ++ flat_map values_line groundings.now) }
 {
-    for values in lists {
+    for values in groundings.list() {
         put_grounding(values, page)?;
     }
     Ok(())
@@ -231,7 +231,7 @@ fn put_groundings<A: Allocator + Copy>(
     ensures { OnOk result (string_bytes page.new ≡ string_bytes page.old ++ (groundings_line (variables_of query.now.body) (length groundings.now) ++ flat_map values_line groundings.now)) }
 {
     put_variables(alloc, query, groundings.count(), page)?;
-    put_values(groundings.list(), page)
+    put_values(groundings, page)
 }
 
 /// Puts the name of a query, whether it is matched, and its printed form.

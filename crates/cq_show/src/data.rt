@@ -33,8 +33,8 @@ use std::alloc::{AllocError, Allocator};
 fn row_count<A: Allocator>(tables: &Tables<A>, relation: &str) -> usize
     ensures { result ≡ length (rows_in relation.now tables.now) }
 {
-    match tables.rows_of(relation) {
-        Some(rows) => rows.len(),
+    match tables.count(relation) {
+        Some(count) => count,
         None => 0,
     }
 }
@@ -187,12 +187,12 @@ fn put_values<A: Allocator>(sheet: &mut Sheet<A>, values: &[Value<A>]) -> Result
 /// Puts groundings.
 fn put_groundings<A: Allocator>(
     sheet: &mut Sheet<A>,
-    lists: &[Vec<Value<A>, A>],
+    groundings: &Groundings<A>,
 ) -> Result<(), AllocError>
-    ensures { OnOk result (sheet.new ≡ sheet.old ++ json_tokens (array_of (map grounding_json (map (λ values. values.items) lists.now)))) }
+    ensures { OnOk result (sheet.new ≡ sheet.old ++ json_tokens (array_of (map grounding_json groundings.now))) }
 {
     sheet.begin_array()?;
-    for values in lists {
+    for values in groundings.list() {
         put_values(sheet, values)?;
     }
     sheet.end_array()
@@ -226,7 +226,7 @@ fn put_findings<A: Allocator>(
     sheet.key("variables")?;
     put_variables(sheet, query.variables())?;
     sheet.key("groundings")?;
-    put_groundings(sheet, groundings.list())?;
+    put_groundings(sheet, groundings)?;
     sheet.end_object()
 }
 

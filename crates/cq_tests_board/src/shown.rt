@@ -3,6 +3,7 @@
 use crate::page::Page;
 use crate::samples::RELATIONS;
 use cq_atom::{Name, Row, Value};
+use cq_blocks::Iter;
 use cq_board::{Board, Crowd, Link, NearMiss, Wait};
 use cq_match::{Edge, Fall, Reason};
 use cq_text::print_query;
@@ -137,6 +138,13 @@ fn put_dotted(mark: &str, number: u8, page: &mut Page) {
 }
 
 fn put_each<T: Worded>(items: &[T], page: &mut Page) {
+    for item in items {
+        page.space();
+        item.put(page);
+    }
+}
+
+fn put_all<T: Worded, A: Allocator>(items: Iter<'_, T, A>, page: &mut Page) {
     for item in items {
         page.space();
         item.put(page);
@@ -400,7 +408,7 @@ fn put_rows<A: Allocator + Copy>(board: &Board<A>, page: &mut Page) -> Result<()
         };
         page.space();
         page.put(relation);
-        put_each(rows, page);
+        put_all(rows, page);
     }
     Ok(())
 }
@@ -428,7 +436,7 @@ fn put_pending<A: Allocator + Copy>(
     page.put(name.as_str());
     page.space();
     put_state(view.matched, page);
-    put_each(view.groundings.list(), page);
+    put_all(view.groundings.list(), page);
     page.space();
     put_printed(print_query(alloc, view.query), page)
 }

@@ -71,7 +71,7 @@ fn are_all<A: Allocator + Copy>(
     found: &Groundings<A>,
 ) -> bool {
     match Groundings::all(alloc, query, tables, &mut Meter::new()) {
-        Ok(all) => found.list() == all.list(),
+        Ok(all) => found.list().eq(all.list()),
         Err(_) => false,
     }
 }
@@ -255,7 +255,7 @@ fn gain_again<A: Allocator + Copy>(
     found: &mut Groundings<A>,
     before: &Groundings<A>,
 ) -> bool {
-    found.list() == before.list()
+    found.list().eq(before.list())
         && found.gain(query, tables, row, &mut Meter::new()) == Ok(true)
         && found.count() == 4
         && are_all(alloc, query, tables, found)

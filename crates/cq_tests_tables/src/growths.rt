@@ -172,8 +172,9 @@ fn is_number<A: Allocator>(values: &[Value<A>], number: i64) -> bool {
 }
 
 fn are_jerrys<A: Allocator>(found: &Groundings<A>) -> bool {
-    match found.list() {
-        [first, second] => is_number(first, 122) && is_number(second, 123),
+    let mut list = found.list();
+    match (list.next(), list.next(), list.next()) {
+        (Some(first), Some(second), None) => is_number(first, 122) && is_number(second, 123),
         _ => false,
     }
 }

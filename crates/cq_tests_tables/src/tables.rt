@@ -25,11 +25,13 @@ fn is_printed(alloc: Global, row: &Row, text: &str) -> bool {
 
 /// Whether the rows of the relation, in their order, are printed so.
 fn are_rows(alloc: Global, tables: &Tables, relation: &str, texts: &[&str]) -> bool {
-    let rows = tables.rows_of(relation).unwrap_or(&[]);
-    if rows.len() != texts.len() || tables.count(relation) != Some(texts.len()) {
+    let Some(rows) = tables.rows_of(relation) else {
+        return false;
+    };
+    if tables.count(relation) != Some(texts.len()) {
         return false;
     }
-    for (row, text) in rows.iter().zip(texts) {
+    for (row, text) in rows.zip(texts) {
         if !is_printed(alloc, row, text) {
             return false;
         }

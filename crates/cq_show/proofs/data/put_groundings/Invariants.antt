@@ -1,7 +1,7 @@
-use Rattle.std.proofs.Common.{◌≡◌, ◌++◌, map, drop}
+use Rattle.std.proofs.Common.{◌≡◌, ◌++◌, map}
 use Rattle.cq_show.proofs.Arrays.{listed}
 use Rattle.cq_show.specs.Json.{grounding_json}
 use Rattle.cq_show.proofs.data.put_groundings.Given as goal
 
 abbrev pub invariant-loop-values : goal.invariant-loop-values
-invariant-loop-values g l = l.sheet ++ listed grounding_json (map (λ values. values.items) (drop l.values-index l.lists)) ≡ l.initial.sheet ++ listed grounding_json (map (λ values. values.items) l.lists)
+invariant-loop-values g l = l.sheet ++ listed grounding_json (map (λ values. values.items) l.values-iterator) ≡ l.initial.sheet ++ listed grounding_json l.groundings

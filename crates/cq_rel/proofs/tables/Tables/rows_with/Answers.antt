@@ -7,10 +7,10 @@ use Rattle.cq_rel.proofs.tables.Tables.rows_with.Goals as goal
 pub index-requires : goal.index-requires
 index-requires g c = omega (arith, place-low c.self.inside.catalog c.self.inside.tables.items c.args.relation.now c.in-Some.place c.self.invariant (sym c.in-Some.ensures), c.self.inside.tables.ok)
 
-pub returns-in-Some : goal.returns-in-Some
-returns-in-Some g c =
+pub returns : goal.returns
+returns g c =
     c.rows_with.ensures ∙ ap (filter (has_at c.args.column c.args.value.now))
     (rows-shown c.self.inside.catalog c.self.inside.tables.items c.args.self.now c.args.relation.now c.in-Some.place c.index.result.now c.index.result.now c.self.view_is c.self.invariant (sym c.in-Some.ensures) c.index.ensures refl)
 
-pub returns-in-None : goal.returns-in-None
-returns-in-None g c = sym (ap (filter (has_at c.args.column c.args.value.now)) (rows-absent c.self.inside.catalog c.self.inside.tables.items c.args.self.now c.args.relation.now c.self.view_is c.self.invariant c.in-None.ensures))
+pub returns-in_default : goal.returns-in_default
+returns-in_default g c = c.empty.ensures ∙ sym (ap (filter (has_at c.args.column c.args.value.now)) (rows-absent c.self.inside.catalog c.self.inside.tables.items c.args.self.now c.args.relation.now c.self.view_is c.self.invariant c.in_default.ensures))
