@@ -9,7 +9,7 @@ use cq_tests_growths::{Outcome, Tried, refusals};
 use cq_text::{Form, read_ground_atom};
 use std::alloc::{AllocError, Allocator};
 
-// Names of more than 22 bytes take memory of their own.
+// Names of more than 16 bytes take memory of their own.
 const LONG: &str = "FlightsThatLeaveInTheMorning";
 
 const LONGER: &str = "AirlinesThatHaveSuchFlights";
