@@ -38,4 +38,4 @@ pub use unification::unify;
 pub use valuation::{Valuation, value_place};
 pub use value::{Content, Value};
 pub use variables::Variables;
-pub use word::is_relation_text;
+pub use word::{is_relation_text, same_name};

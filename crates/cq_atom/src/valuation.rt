@@ -13,7 +13,7 @@ use crate::fault::Bad;
 use crate::name::Name;
 use crate::term::Term;
 use crate::value::Value;
-use crate::word::is_variable_text;
+use crate::word::{is_variable_text, same_name};
 use std::alloc::{AllocError, Allocator, Global};
 use std::marker::Model;
 use std::mem;
@@ -110,7 +110,9 @@ pub(crate) fn terms_under<A: Allocator + Clone>(
 fn first_place<A: Allocator>(names: &[String<A>], name: &str) -> Option<usize>
     ensures { result ≡ position (λ other. bytes_eq name.now (string_bytes other)) names.now }
 {
-    names.iter().position(|other| name == other.as_str())
+    names
+        .iter()
+        .position(|other| same_name(name, other.as_str()))
 }
 
 /// The first place of the name among the names: that of the value that it has, where the names are bound

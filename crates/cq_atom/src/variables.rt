@@ -1,6 +1,6 @@
 //! The variables of a body.
 
-ghost use Rattle.std.specs.Prelude.{◌≡◌, List, map, fold, string_bytes, IfOk, IsTrue, OnOk};
+ghost use Rattle.std.specs.Prelude.{◌≡◌, List, map, fold, string_bytes, IfOk, OnOk};
 ghost use Rattle.std.specs.List.{list_any, list_all};
 ghost use Rattle.std.specs.Str.{bytes_eq};
 ghost use Rattle.cq_atom.specs.Atom.{AtomRecord};
@@ -9,6 +9,7 @@ ghost use Rattle.cq_atom.specs.Steps.Variables.{with_variable, is_among};
 
 use crate::atom::Atom;
 use crate::term::Term;
+use crate::word::same_name;
 use std::alloc::{AllocError, Allocator, Global};
 use std::marker::Model;
 
@@ -26,28 +27,12 @@ impl<A: Allocator> Model for Variables<A> {
     ghost view = { λ v. map string_bytes v.names.items };
 }
 
-/// Whether the names have one length and one last byte: few that differ do.
-fn are_alike(name: &str, other: &str) -> bool
-    ensures { name.now ≡ other.now → IsTrue result }
-{
-    let (name, other) = (name.as_bytes(), other.as_bytes());
-    let len = name.len();
-    len == other.len() && (len == 0 || name[len - 1] == other[len - 1])
-}
-
-/// Whether the names are one. Those that are not alike are not compared whole.
-fn is_same(name: &str, other: &str) -> bool
-    ensures { result ≡ bytes_eq name.now other.now }
-{
-    are_alike(name, other) && name == other
-}
-
 fn is_listed<A: Allocator>(variables: &[String<A>], name: &str) -> bool
     ensures { result ≡ list_any (λ v. bytes_eq name.now (string_bytes v)) variables.now }
 {
     variables
         .iter()
-        .any(|variable| is_same(name, variable.as_str()))
+        .any(|variable| same_name(name, variable.as_str()))
 }
 
 /// Puts the name at the end, where it is not there yet.

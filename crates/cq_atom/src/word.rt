@@ -1,7 +1,8 @@
 //! The tests of bytes that the constructors share.
 
-ghost use Rattle.std.specs.Prelude.{◌≡◌, fold, true};
+ghost use Rattle.std.specs.Prelude.{◌≡◌, fold, true, IsTrue};
 ghost use Rattle.std.specs.List.{list_all};
+ghost use Rattle.std.specs.Str.{bytes_eq};
 ghost use Rattle.cq_atom.specs.Text.{is_word_byte, begins_with_letter, is_name, is_variable_name, is_relation_name, begins_with_lower, begins_with_upper, is_plain_byte, is_text};
 ghost use Rattle.cq_atom.specs.Steps.Plain.{still_plain};
 
@@ -88,4 +89,26 @@ pub(crate) fn is_text_content(text: &str) -> bool
     ensures { result ≡ is_text text.now }
 {
     text.len() <= MAX_TEXT && is_plain(text)
+}
+
+/// Whether the names have one length and one last byte: few that differ do.
+fn are_alike(name: &str, other: &str) -> bool
+    ensures { name.now ≡ other.now → IsTrue result }
+{
+    let (name, other) = (name.as_bytes(), other.as_bytes());
+    let len = name.len();
+    len == other.len() && (len == 0 || name[len - 1] == other[len - 1])
+}
+
+/// Whether the names are one: the test `==`, at less cost where they are short or differ, as most names are and do.
+pub fn same_name(name: &str, other: &str) -> bool
+    ensures { result ≡ bytes_eq name.now other.now }
+{
+    if !are_alike(name, other) {
+        return false;
+    }
+    if name.len() < 8 {
+        return name.as_bytes() == other.as_bytes();
+    }
+    name == other
 }

@@ -8,7 +8,7 @@ ghost use Rattle.cq_rel.specs.Tables.{IsCatalog, declaration, arity_in, declares
 
 use crate::fault::{CatalogFault, RowFault};
 use crate::limits::MAX_RELATIONS;
-use cq_atom::{MAX_ARITY, Name, Row, is_relation_text};
+use cq_atom::{MAX_ARITY, Name, Row, is_relation_text, same_name};
 use std::alloc::{AllocError, Allocator, Global};
 use std::marker::Model;
 
@@ -43,7 +43,7 @@ impl<A: Allocator> Entry<A> {
     fn declares(&self, relation: &str) -> bool
         ensures { result ≡ declares relation.now self.now }
     {
-        relation == self.relation.as_str()
+        same_name(relation, self.relation.as_str())
     }
 }
 
