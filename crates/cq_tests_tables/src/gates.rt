@@ -13,8 +13,8 @@ fn lets_in(alloc: Global, query: &str, row: &str) -> Option<bool> {
     let Ok(row) = read_ground_atom(alloc, row.as_bytes(), Form::One) else {
         return None;
     };
-    let gate = gate_of(&query, row.relation());
-    Some(gate.lets_in(&marks_of(&row)))
+    let (gate, marks) = (gate_of(&query, row.relation()), marks_of(&row));
+    Some((0..=marks.len()).any(|column| gate.order_at(&marks, column).is_eq()))
 }
 
 const JERRY: &str = "{} R(Jerry, x) <- Flights(x, Paris), Airlines(x, United)";

@@ -30,8 +30,8 @@ pub enum Call {
     Has(usize, bool),
     /// The places 0, 1, .. have so many groundings, and nothing stands at the next one.
     Counts(&'static [usize]),
-    /// These are the readers of the relation.
-    Readers(&'static str, &'static [usize]),
+    /// The queries at these places, and no others, are those that the row may touch.
+    Open(&'static str, &'static [usize]),
     /// A copy takes the place of the findings.
     Copy,
 }
@@ -116,6 +116,18 @@ fn are_counts<A: Allocator + Copy>(findings: &Findings<A>, counts: &[usize]) -> 
     !findings.has(counts.len())
 }
 
+/// Whether the row may touch the queries at these places, and no others, each told once.
+fn are_open<A: Allocator + Copy>(findings: &Findings<A>, row: &Row<A>, places: &[usize]) -> bool {
+    let mut left = places.len();
+    for place in findings.open_to(row) {
+        if left == 0 || !places.contains(&place) {
+            return false;
+        }
+        left -= 1;
+    }
+    left == 0
+}
+
 impl<A: Allocator + Copy> Copied for Findings<A> {
     fn copied(&self) -> Result<Findings<A>, AllocError> {
         self.copy()
@@ -148,7 +160,9 @@ impl<A: Allocator + Copy> Store<A> for Sample<A> {
     fn given(alloc: A, call: &Call) -> Result<Given<A>, AllocError> {
         match call {
             Call::Add(text, _) => query(alloc, text),
-            Call::Come(text) | Call::Gain(text, _) | Call::Lose(text, _) => { row(alloc, text) }
+            Call::Come(text) | Call::Gain(text, _) | Call::Lose(text, _) | Call::Open(text, _) => {
+                row(alloc, text)
+            }
             _ => Ok(Given::Nothing),
         }
     }
@@ -168,8 +182,8 @@ impl<A: Allocator + Copy> Store<A> for Sample<A> {
             (Call::Withdraw(place), _) => Ok(is_withdrawn(&mut self.findings, *place)),
             (Call::Has(place, there), _) => Ok(self.findings.has(*place) == *there),
             (Call::Counts(counts), _) => Ok(are_counts(&self.findings, counts)),
-            (Call::Readers(relation, places), _) => {
-                Ok(self.findings.readers(relation) == *places)
+            (Call::Open(_, places), Given::Row(row)) => {
+                Ok(are_open(&self.findings, row, places))
             }
             (Call::Copy, _) => go_on_with_copy(&mut self.findings),
             _ => Ok(false),

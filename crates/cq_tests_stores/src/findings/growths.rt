@@ -12,8 +12,8 @@ const FILLED: &[Call] = &[Call::Come("T(1, 2)"), Call::Gain("T(1, 2)", 2)];
 /// What they leave.
 const SHOWN: &[Call] = &[
     Call::Counts(&[0, 1, 0]),
-    Call::Readers("T", &[0, 1]),
-    Call::Readers("U", &[2]),
+    Call::Open("T(1, 2)", &[0, 1]),
+    Call::Open("U(5)", &[2]),
 ];
 
 const ADD: usize = 0;
@@ -29,7 +29,7 @@ const TRIALS: &[Trial<'static, Call>] = &[
         before: &[QUERIES, FILLED],
         tried: Call::Add("{} R(x) <- T(x, y), U(y)", 3),
         shown: &[SHOWN],
-        after: &[&[Call::Counts(&[0, 1, 0, 0]), Call::Readers("U", &[2, 3])]],
+        after: &[&[Call::Counts(&[0, 1, 0, 0]), Call::Open("U(5)", &[2, 3])]],
     },
     // A row comes by which two queries gain groundings.
     Trial {

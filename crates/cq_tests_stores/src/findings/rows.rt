@@ -35,16 +35,21 @@ fn rows_come_and_go(rt: HostRuntime) {
     assert!(rt; other == Ok(None), "{other:?}");
 }
 
-/// The query that reads `T` twice is one reader, and none once it is withdrawn; its place is given again.
+/// The query that reads `T` twice is one reader, and none once it is withdrawn; its place is given again. A row touches
+/// those that read its relation.
 const READERS: &[Call] = &[
-    Call::Readers("T", &[0, 1]),
-    Call::Readers("U", &[2]),
-    Call::Readers("V", &[]),
+    Call::Open("T(1, 2)", &[0, 1]),
+    Call::Open("U(5)", &[2]),
+    Call::Open("V(5)", &[]),
     Call::Withdraw(0),
-    Call::Readers("T", &[1]),
+    Call::Open("T(1, 2)", &[1]),
     Call::Has(0, false),
     Call::Add("{} R(x) <- U(x)", 0),
-    Call::Readers("U", &[2, 0]),
+    Call::Open("U(5)", &[0, 2]),
+    // Where a query alone asks for a constant, a row without it does not touch it.
+    Call::Add("{} R(x) <- T(x, 7)", 3),
+    Call::Open("T(1, 7)", &[1, 3]),
+    Call::Open("T(1, 8)", &[1]),
 ];
 
 #[test]
@@ -60,7 +65,7 @@ const APART: Apart<'static, Call> = Apart {
         (0, Call::Lose("T(1, 1)", 2)),
         (0, Call::Counts(&[0, 0, 0])),
         (1, Call::Counts(&[1, 1, 0])),
-        (1, Call::Readers("T", &[0, 1])),
+        (1, Call::Open("T(1, 2)", &[0, 1])),
         (2, Call::Counts(&[1, 1, 0])),
     ],
 };
