@@ -31,24 +31,26 @@ pub fn gain<A: Allocator + Copy>(
     }
 }
 
-/// Takes the row of the text away from the groundings; false for a text of no row.
+/// Takes the row of the text, which the tables still have, away from the groundings; false for a text of no row.
 fn lose<A: Allocator + Copy>(
     alloc: A,
     query: &Query<A>,
+    tables: &Tables<A>,
     found: &mut Groundings<A>,
     text: &str,
     meter: &mut Meter,
 ) -> bool {
     match read_ground_atom(alloc, text.as_bytes(), Form::One) {
         Ok(row) => {
-            found.lose(query, &row, meter);
+            found.lose(query, tables, &row, meter);
             true
         }
         Err(_) => false,
     }
 }
 
-/// Whether the row of the text came, where the tables did not have it, or else went, and the groundings after it.
+/// Whether the row of the text came, where the tables did not have it, and the groundings after it, or else went, and the
+/// groundings before it.
 fn change<A: Allocator + Copy>(
     alloc: A,
     query: &Query<A>,
@@ -60,7 +62,7 @@ fn change<A: Allocator + Copy>(
     if insert(alloc, tables, text) == Ok(()) {
         return gain(alloc, query, tables, found, text, meter) == Ok(());
     }
-    delete(alloc, tables, text) == Ok(()) && lose(alloc, query, found, text, meter)
+    lose(alloc, query, tables, found, text, meter) && delete(alloc, tables, text) == Ok(())
 }
 
 /// Whether the groundings are those that `all` finds.

@@ -87,7 +87,7 @@ fn is_lost<A: Allocator + Copy>(
     told: u64,
 ) -> bool {
     let mut visits = Meter::new();
-    findings.lose(row, &mut visits);
+    findings.lose(tables, row, &mut visits);
     tables.delete(row) == Ok(()) && visits.count() == told
 }
 
