@@ -327,7 +327,7 @@ fn refused_growth_in_admit(rt: HostRuntime) {
 
 #[test]
 fn refused_growth_in_an_insertion(rt: HostRuntime) {
-    assert!(rt; is_refused::<Nth<4>>(rt.alloc(), 8));
+    assert!(rt; is_refused::<Nth<4>>(rt.alloc(), 4));
 }
 
 #[test]
