@@ -8,7 +8,7 @@ use crate::place::Place;
 use std::alloc::{AllocError, AllocFailed, Allocator};
 
 /// How many elements a block has where an insertion first cuts it in halves.
-pub(crate) const MOST: usize = 512;
+pub(crate) const MOST: usize = 128;
 
 /// Puts a block of one element behind the others.
 fn push_block<T: Drop, A: Allocator + Clone>(

@@ -8,7 +8,7 @@ use std::alloc::{AllocError, Allocator, Global};
 const MANY: usize = 1_500;
 
 /// So many fill one.
-const FULL: usize = 512;
+const FULL: usize = 128;
 
 /// Puts the number at its place.
 fn put<A: Allocator + Copy>(list: &mut Blocks<usize, A>, number: usize) -> Result<(), AllocError> {
