@@ -5,9 +5,9 @@ use Rattle.cq_text.specs.Device.{TakesFront}
 use Rattle.cq_atom.specs.Text.{is_relation_name}
 use Rattle.cq_atom.specs.Atom.{RowRecord}
 use Rattle.cq_text.specs.Print.{printed_row}
-use Rattle.cq_rel.specs.declared.fault.CsvFault.{CsvFault}
-use Rattle.cq_rel.specs.declared.fault.CsvFault.TheVariants as csv
-use Rattle.cq_rel.specs.Csv.{csv_records, records_fault, row_of_record}
+use Rattle.cq_csv.specs.declared.fault.CsvFault.{CsvFault}
+use Rattle.cq_csv.specs.declared.fault.CsvFault.TheVariants as csv
+use Rattle.cq_csv.specs.Csv.{csv_records, records_fault, row_of_record}
 use Rattle.cq_cli.specs.declared.rows.RowsFault.{RowsFault}
 use Rattle.cq_cli.specs.declared.rows.RowsFault.TheVariants.{BadName, BadArity, Read, Write, Width, Text, NoMemory}
 

@@ -7,7 +7,7 @@ ghost use Rattle.cq_cli.specs.Rows.{arity_of, wanted_arity, insert_line, rows_ou
 
 use crate::writing::write_text;
 use cq_atom::{Row, is_relation_text};
-use cq_rel::{CsvFault, read_csv};
+use cq_csv::{CsvFault, read_csv};
 use cq_text::{MAX_READS, Sink, Source, print_row};
 use std::alloc::{AllocError, Allocator, Global};
 use thiserror::Error;

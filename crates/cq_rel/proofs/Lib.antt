@@ -1,6 +1,5 @@
 pub mod CallerLemmas
 pub mod Catalogs
-pub mod Csv
 pub mod Order
 pub mod Filters
 pub mod Rows

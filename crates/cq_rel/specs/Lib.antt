@@ -1,4 +1,3 @@
 pub mod Limits
 pub mod Tables
-pub mod Csv
 pub mod Steps

@@ -1,5 +1,4 @@
--- What only private steps are stated with: how tables are kept, and how CSV is read.
+-- What only private steps are stated with: how tables are kept.
 pub mod Table
 pub mod Column
 pub mod Kept
-pub mod Csv

@@ -1,4 +1,4 @@
-//! Why a relation cannot be declared, why a row cannot be inserted or deleted, and why CSV gives no rows.
+//! Why a relation cannot be declared, and why a row cannot be inserted or deleted.
 
 use std::alloc::{AllocError, AllocFailed};
 use thiserror::Error;
@@ -38,38 +38,6 @@ pub enum RowFault {
     /// The row that is to be deleted is not there.
     #[error("the row is not there")]
     RowAbsent,
-    /// A growth was refused for want of memory.
-    #[error("out of memory")]
-    NoMemory,
-}
-
-/// Why `read_csv` gives no rows, in the order in which it looks.
-#[derive(Clone, Copy, Debug, PartialEq, Eq, Error)]
-pub enum CsvFault {
-    /// The bytes are no relation's name.
-    #[error("not a relation's name")]
-    BadName,
-    /// The arity is none of 1 to 16.
-    #[error("a relation has 1 to 16 values")]
-    BadArity,
-    /// The source failed, or gave no end. Reads count from 1.
-    #[error("read failed at turn {turn}")]
-    Device {
-        /// The number of the read that failed.
-        turn: u64,
-    },
-    /// The number of a record's fields is not the arity. Records count from 0.
-    #[error("record {index} has another number of fields")]
-    Width {
-        /// The place of the record.
-        index: usize,
-    },
-    /// A field of a record is no value. Records count from 0.
-    #[error("record {index} has a field that is no text")]
-    Text {
-        /// The place of the record.
-        index: usize,
-    },
     /// A growth was refused for want of memory.
     #[error("out of memory")]
     NoMemory,
@@ -116,27 +84,5 @@ impl<T: Drop> From<AllocFailed<T>> for RowFault {
 
     fn from(_e: AllocFailed<T>) -> RowFault {
         RowFault::NoMemory
-    }
-}
-
-impl From<AllocError> for CsvFault {
-    ghost use Rattle.std.specs.Prelude.{◌≡◌};
-    ghost use Rattle.cq_rel.specs.declared.fault.CsvFault.TheVariants.{NoMemory};
-
-    ghost from_gives = { λ _ e. e ≡ NoMemory };
-
-    fn from(_e: AllocError) -> CsvFault {
-        CsvFault::NoMemory
-    }
-}
-
-impl<T: Drop> From<AllocFailed<T>> for CsvFault {
-    ghost use Rattle.std.specs.Prelude.{◌≡◌};
-    ghost use Rattle.cq_rel.specs.declared.fault.CsvFault.TheVariants.{NoMemory};
-
-    ghost from_gives = { λ _ e. e ≡ NoMemory };
-
-    fn from(_e: AllocFailed<T>) -> CsvFault {
-        CsvFault::NoMemory
     }
 }

@@ -5,8 +5,6 @@
 //! and `rows_of` shows the rows of one relation in order of their values, `rows_with` and `rows_first` those of
 //! them that have values in some columns.
 //!
-//! `read_csv` makes rows of CSV, as `specs/Csv` says which, and puts them into no table.
-//!
 //! Contracts see a catalog as the list of its `Declaration`s, and tables as a `TablesRecord`.
 //!
 //! Not here: which rows a query's body finds.
@@ -17,15 +15,11 @@ mod column;
 mod fault;
 mod limits;
 mod near;
-mod reading;
-mod records;
 mod table;
 mod tables;
 
 pub use catalog::Catalog;
-pub use fault::{CatalogFault, CsvFault, RowFault};
+pub use fault::{CatalogFault, RowFault};
 pub use limits::MAX_RELATIONS;
 pub use near::order_of_first;
-pub use reading::read_csv;
-pub use records::all_records;
 pub use tables::Tables;

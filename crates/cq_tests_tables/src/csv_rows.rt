@@ -2,7 +2,7 @@
 
 use cq_atom::{Row, Value};
 use cq_refusing::Refusing;
-use cq_rel::{CsvFault, all_records, read_csv};
+use cq_csv::{CsvFault, all_records, read_csv};
 use cq_text::{Counted, print_row};
 use std::alloc::{AllocError, Allocator, Global};
 use std::io::{self, ErrorKind, Read};

@@ -6,8 +6,8 @@ ghost use Rattle.cq_text.specs.Field.{value_of_field};
 ghost use Rattle.csv.specs.Reading.{AreRecords, ReadRecord, default_config, records, strip_bom};
 ghost use Rattle.csv.specs.Records.{fields_of};
 ghost use Rattle.csv.specs.declared.parser.State.TheVariants as st;
-ghost use Rattle.cq_rel.specs.Csv.{IfOfRecord, csv_records, is_field, record_fault, records_fault, row_of_record};
-ghost use Rattle.cq_rel.specs.Steps.Csv.{IsAtStart, IsInRecords, IsPlain, bytes_of, text_left};
+ghost use Rattle.cq_csv.specs.Csv.{IfOfRecord, csv_records, is_field, record_fault, records_fault, row_of_record};
+ghost use Rattle.cq_csv.specs.Steps.Csv.{IsAtStart, IsInRecords, IsPlain, bytes_of, text_left};
 
 use crate::fault::CsvFault;
 use cq_atom::{Row, Value};

@@ -1,7 +1,7 @@
 use Rattle.std.proofs.Common.{◌≡◌, None, Some, map}
-use Rattle.cq_rel.specs.Csv.{csv_records, records_fault, row_of_record}
-use Rattle.cq_rel.proofs.Csv.{fault_of_input, rows_of_input}
-use Rattle.cq_rel.proofs.reading.read_csv.Goals as goal
+use Rattle.cq_csv.specs.Csv.{csv_records, records_fault, row_of_record}
+use Rattle.cq_csv.proofs.Csv.{fault_of_input, rows_of_input}
+use Rattle.cq_csv.proofs.reading.read_csv.Goals as goal
 
 pub returns-clause-rows : goal.returns-clause-rows
 returns-clause-rows g c =

@@ -6,8 +6,8 @@ use Rattle.csv.specs.Reading.{default_config, records, strip_bom}
 use Rattle.cq_atom.specs.Text.{is_relation_name}
 use Rattle.cq_atom.specs.Atom.{RowRecord, is_arity}
 use Rattle.cq_text.specs.Field.{value_of_field}
-use Rattle.cq_rel.specs.declared.fault.CsvFault.{CsvFault}
-use Rattle.cq_rel.specs.declared.fault.CsvFault.TheVariants.{BadName, BadArity, Device, Width, Text, NoMemory}
+use Rattle.cq_csv.specs.declared.fault.CsvFault.{CsvFault}
+use Rattle.cq_csv.specs.declared.fault.CsvFault.TheVariants.{BadName, BadArity, Device, Width, Text, NoMemory}
 
 -- A record: the bytes of each of its fields, quotes taken off.
 abbrev pub CsvRecord : Type 0

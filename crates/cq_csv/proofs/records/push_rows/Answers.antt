@@ -5,10 +5,10 @@ use Rattle.csv.specs.Reading.{Reached, default_config, records}
 use Rattle.csv.specs.Records.{fields_of}
 use Rattle.csv.proofs.ReadFacts.{rows-end, rows-more}
 use Rattle.csv.specs.declared.parser.State.TheVariants as st
-use Rattle.cq_rel.specs.Csv.{IfOfRecord, records_fault, row_of_record}
-use Rattle.cq_rel.specs.Steps.Csv.{bytes_of, text_left}
-use Rattle.cq_rel.proofs.Csv.{are_all, are_all_by_count, are_first, first_bad, good_more, if_of_record}
-use Rattle.cq_rel.proofs.records.push_rows.Goals as goal
+use Rattle.cq_csv.specs.Csv.{IfOfRecord, records_fault, row_of_record}
+use Rattle.cq_csv.specs.Steps.Csv.{bytes_of, text_left}
+use Rattle.cq_csv.proofs.Csv.{are_all, are_all_by_count, are_first, first_bad, good_more, if_of_record}
+use Rattle.cq_csv.proofs.records.push_rows.Goals as goal
 
 pub loop-index-init : goal.loop-index-init
 unfolding Reached

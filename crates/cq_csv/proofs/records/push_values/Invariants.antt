@@ -2,8 +2,8 @@ use Rattle.std.proofs.Common.{◌≡◌, true, take, filter_map}
 use Rattle.std.specs.List.{list_all}
 use Rattle.csv.specs.Records.{fields_of}
 use Rattle.cq_text.specs.Field.{value_of_field}
-use Rattle.cq_rel.specs.Csv.{is_field}
-use Rattle.cq_rel.proofs.records.push_values.Given as goal
+use Rattle.cq_csv.specs.Csv.{is_field}
+use Rattle.cq_csv.proofs.records.push_values.Given as goal
 
 abbrev pub invariant-loop-field : goal.invariant-loop-field
 invariant-loop-field g l = record {

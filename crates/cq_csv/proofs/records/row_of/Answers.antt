@@ -1,7 +1,7 @@
 use Rattle.std.proofs.Common.{◌≡◌, arith, length, refl}
 use Rattle.csv.specs.Records.{fields_of}
-use Rattle.cq_rel.proofs.Csv.{made_row, record_good}
-use Rattle.cq_rel.proofs.records.row_of.Goals as goal
+use Rattle.cq_csv.proofs.Csv.{made_row, record_good}
+use Rattle.cq_csv.proofs.records.row_of.Goals as goal
 
 pub returns-in-Ok-clause-row : goal.returns-in-Ok-clause-row
 returns-in-Ok-clause-row g c =

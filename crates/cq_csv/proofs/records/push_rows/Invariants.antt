@@ -1,7 +1,7 @@
 use Rattle.std.proofs.Common.{◌≡◌, List, length, map, None}
-use Rattle.cq_rel.specs.Csv.{CsvRecord, records_fault, row_of_record}
-use Rattle.cq_rel.specs.Steps.Csv.{IsBehind, text_left}
-use Rattle.cq_rel.proofs.records.push_rows.Given as goal
+use Rattle.cq_csv.specs.Csv.{CsvRecord, records_fault, row_of_record}
+use Rattle.cq_csv.specs.Steps.Csv.{IsBehind, text_left}
+use Rattle.cq_csv.proofs.records.push_rows.Given as goal
 
 abbrev pub invariant-loop-index : goal.invariant-loop-index
 invariant-loop-index g l = record {

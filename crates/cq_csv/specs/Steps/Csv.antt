@@ -5,9 +5,9 @@ use Rattle.csv.specs.Reading.{Reached, Ready, default_config, is_flexible, reade
 use Rattle.csv.specs.declared.reader.Reader.{Reader}
 use Rattle.csv.specs.declared.reader.Trim.TheVariants as trim
 use Rattle.csv.specs.declared.parser.State.TheVariants as st
-use Rattle.cq_rel.specs.Csv.{CsvRecord}
-use Rattle.cq_rel.specs.declared.fault.CsvFault.{CsvFault}
-use Rattle.cq_rel.specs.declared.fault.CsvFault.TheVariants.{BadName, BadArity, Device, Width, Text, NoMemory}
+use Rattle.cq_csv.specs.Csv.{CsvRecord}
+use Rattle.cq_csv.specs.declared.fault.CsvFault.{CsvFault}
+use Rattle.cq_csv.specs.declared.fault.CsvFault.TheVariants.{BadName, BadArity, Device, Width, Text, NoMemory}
 
 -- A reader of bytes in memory.
 abbrev pub BytesReader : Type 0

@@ -4,7 +4,7 @@ ghost use Rattle.std.specs.Prelude.{◌≡◌, ◌<◌, ◌≤◌, ◌+◌, ◌^
 ghost use Rattle.std.specs.Io.KnownBytes.{IsAtEnd};
 ghost use Rattle.cq_text.specs.Limits.{max_reads};
 ghost use Rattle.cq_text.specs.Device.{FailedAtTurn, ReadWhole};
-ghost use Rattle.cq_rel.specs.Csv.{IfOfCall, IfOfDevice, IfOfRecord, IsOfDevice, call_fault, csv_records, records_fault, row_of_record};
+ghost use Rattle.cq_csv.specs.Csv.{IfOfCall, IfOfDevice, IfOfRecord, IsOfDevice, call_fault, csv_records, records_fault, row_of_record};
 
 use crate::fault::CsvFault;
 use crate::records::rows_of;

@@ -13,9 +13,9 @@ use Rattle.cq_atom.specs.Answer.{Answers}
 use Rattle.cq_atom.specs.Atom.{RowRecord}
 use Rattle.cq_atom.specs.declared.fault.Bad.{Bad}
 use Rattle.cq_text.specs.Device.{ReadWhole}
-use Rattle.cq_rel.specs.declared.fault.CsvFault.{CsvFault}
-use Rattle.cq_rel.specs.declared.fault.CsvFault.TheVariants.{BadName, BadArity, Device, Width, Text, NoMemory}
-use Rattle.cq_rel.specs.Csv.{CsvRecord, IfOfRecord, first_of, is_field, record_fault, records_fault}
+use Rattle.cq_csv.specs.declared.fault.CsvFault.{CsvFault}
+use Rattle.cq_csv.specs.declared.fault.CsvFault.TheVariants.{BadName, BadArity, Device, Width, Text, NoMemory}
+use Rattle.cq_csv.specs.Csv.{CsvRecord, IfOfRecord, first_of, is_field, record_fault, records_fault}
 use Rattle.std.proofs.lemmas.Bool.{eq-eqb}
 
 -- ---- the records of a text

@@ -2,9 +2,9 @@ use Rattle.std.proofs.Common.{◌≡◌, refl, ◌∙◌, ap, inr, sym, Some, No
 use Rattle.std.specs.List.{list_all}
 use Rattle.csv.specs.Records.{field_at, fields_of}
 use Rattle.cq_text.specs.Field.{value_of_field}
-use Rattle.cq_rel.specs.Csv.{is_field}
-use Rattle.cq_rel.proofs.Csv.{fields_all, fields_good_more, field_bad, values_more}
-use Rattle.cq_rel.proofs.records.push_values.Goals as goal
+use Rattle.cq_csv.specs.Csv.{is_field}
+use Rattle.cq_csv.proofs.Csv.{fields_all, fields_good_more, field_bad, values_more}
+use Rattle.cq_csv.proofs.records.push_values.Goals as goal
 
 pub loop-field-preserved : goal.loop-field-preserved
 loop-field-preserved g c =

@@ -1,8 +1,8 @@
 use Rattle.std.proofs.Common.{◌≡◌, arith, ap, length, refl, Some}
 use Rattle.csv.specs.Reading.{source_of, strip_bom}
-use Rattle.cq_rel.specs.Steps.Csv.{bytes_of, text_left}
-use Rattle.cq_rel.proofs.Csv.{strip_bom-length}
-use Rattle.cq_rel.proofs.records.rows_of.Goals as goal
+use Rattle.cq_csv.specs.Steps.Csv.{bytes_of, text_left}
+use Rattle.cq_csv.proofs.Csv.{strip_bom-length}
+use Rattle.cq_csv.proofs.records.rows_of.Goals as goal
 
 pub push_rows-requires-clause-most : goal.push_rows-requires-clause-most
 push_rows-requires-clause-most g c =

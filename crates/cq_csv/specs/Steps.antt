@@ -1,0 +1,2 @@
+-- What only private steps are stated with: how records are read one after another.
+pub mod Csv
