@@ -12,4 +12,6 @@ pub mod Undone
 pub mod Parted
 pub mod Firsts
 pub mod Ordered
+pub mod Turned
+pub mod Permuted
 pub mod Columns

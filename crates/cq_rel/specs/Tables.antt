@@ -5,7 +5,7 @@ use Rattle.std.specs.List.{All, Contains, IsDistinct, list_any, position_or_len}
 use Rattle.std.specs.List.Sorted.{IsStrictlySortedBy}
 use Rattle.std.specs.declared.cmp.Ordering.{Ordering}
 use Rattle.std.specs.declared.cmp.Ordering.TheVariants.{Less, Greater}
-use Rattle.std.specs.Ordering.{is_lt, is_gt, is_eq, nat_cmp, int_cmp, ordering_then}
+use Rattle.std.specs.Ordering.{is_lt, is_eq, nat_cmp, int_cmp, ordering_then}
 use Rattle.std.specs.Cmp.Lexicographic.{slice_cmp}
 use Rattle.std.specs.Str.{bytes_eq}
 use Rattle.cq_atom.specs.declared.value.Content.TheVariants.{Number, Text}
@@ -114,34 +114,17 @@ has_row tables row = list_any (same_row row) tables.rows
 abbrev pub rows_in : List ℕ → TablesRecord → List RowRecord
 rows_in relation tables = filter (λ r. bytes_eq relation r.relation) tables.rows
 
--- How the first of the values stands to a value: where there is none, before it.
-abbrev pub head_order : List ValueContent → ValueContent → Ordering
-head_order [] v = Less
-head_order (w ∷ ws) v = value_order w v
+-- The values from the column on, counted from 0, and behind them those before it.
+abbrev pub turned : ℕ → List ValueContent → List ValueContent
+turned column values = drop column values ++ take column values
 
--- How a row's value in a column, counted from 0, stands to a value.
-abbrev pub order_at : ℕ → RowRecord → ValueContent → Ordering
-order_at column r v = head_order (drop column r.values) v
+-- How the first of the values, as many as are given, stand to the given ones.
+abbrev pub first_order : List ValueContent → List ValueContent → Ordering
+first_order firsts values = values_order (take (length firsts) values) firsts
 
--- The row has the value in the column.
-abbrev pub has_at : ℕ → ValueContent → RowRecord → Bool
-has_at column v r = is_eq (order_at column r v)
-
--- How a row's first values, as many as are given, stand to the given ones.
-abbrev pub first_order : List ValueContent → RowRecord → Ordering
-first_order firsts r = values_order (take (length firsts) r.values) firsts
-
--- The row's first values are these.
-abbrev pub has_first : List ValueContent → RowRecord → Bool
-has_first firsts r = is_eq (first_order firsts r)
-
--- The row's value in the column comes before the value.
-abbrev pub is_below : ℕ → ValueContent → RowRecord → Bool
-is_below column v r = is_lt (order_at column r v)
-
--- The row's value in the column does not come after the value.
-abbrev pub is_upto : ℕ → ValueContent → RowRecord → Bool
-is_upto column v r = not (is_gt (order_at column r v))
+-- From the column on, going round behind the last, the row's values begin with these.
+abbrev pub has_turned : ℕ → List ValueContent → RowRecord → Bool
+has_turned column firsts r = is_eq (first_order firsts (turned column r.values))
 
 -- Why the catalog has no place for the row: its relation is looked at before its arity.
 abbrev pub row_fault : List Declaration → RowRecord → Option RowFault

@@ -1,10 +1,11 @@
 //! Catalogs.
 
-ghost use Rattle.std.specs.Prelude.{◌≡◌, ◌++◌, ◌∷◌, [], length, OnOk, OnErr, IfOk, IfErr, None, Some};
+ghost use Rattle.std.specs.Prelude.{◌≡◌, ◌≤◌, ◌<◌, ◌++◌, ◌∷◌, [], length, slice_index_or, OnOk, OnErr, IfOk, IfErr, None, Some};
 ghost use Rattle.std.specs.List.{position, slice_get};
 ghost use Rattle.std.specs.Option.{MatchOption};
 ghost use Rattle.cq_atom.specs.Answer.{Answers};
-ghost use Rattle.cq_rel.specs.Tables.{IsCatalog, declaration, arity_in, declares, declare_fault, row_fault};
+ghost use Rattle.cq_atom.specs.Limits.{max_arity};
+ghost use Rattle.cq_rel.specs.Tables.{Declaration, IsCatalog, declaration, arity_in, declares, declare_fault, row_fault};
 
 use crate::fault::{CatalogFault, RowFault};
 use crate::limits::MAX_RELATIONS;
@@ -94,6 +95,15 @@ impl<A: Allocator> Catalog<A> {
         self.entries
             .iter()
             .position(|entry| entry.declares(relation))
+    }
+
+    /// The arity of the relation that is declared there.
+    pub(crate) fn arity_at(&self, place: usize) -> usize
+        requires { place < length self.now }
+        ensures few { result ≤ max_arity }
+        ensures arity { (d : Declaration) → result ≡ (slice_index_or self.now place d).arity }
+    {
+        self.entries[place].arity()
     }
 
     /// Where the row's relation is declared, if it is, and with the row's arity.

@@ -1,13 +1,12 @@
 //! Tables.
 
-ghost use Rattle.std.specs.Prelude.{◌≡◌, ◌↔◌, ◌⊎◌, ◌<◌, [], length, map, filter, IsTrue, OnOk, OnErr, IfOk, IfSome, IfNone, None, Some};
+ghost use Rattle.std.specs.Prelude.{◌≡◌, ◌↔◌, ◌⊎◌, [], length, map, filter, IsTrue, OnOk, OnErr, IfOk, IfSome, IfNone, None, Some};
 ghost use Rattle.std.specs.List.{All};
-ghost use Rattle.std.specs.List.Sorted.{IsStrictlySortedBy};
+ghost use Rattle.std.specs.List.Sorted.{IsStrictlySortedBy, IsPermutation};
 ghost use Rattle.std.specs.Option.{option_map, option_copied};
 ghost use Rattle.cq_atom.specs.Answer.{Answers};
-ghost use Rattle.cq_atom.specs.Limits.{max_arity};
 ghost use Rattle.cq_atom.specs.Atom.{RowRecord};
-ghost use Rattle.cq_rel.specs.Tables.{TablesRecord, IsTables, IsRow, IsUnder, arity_in, has_row, rows_in, values_order, has_at, has_first, insert_fault, delete_fault, answer_of, with_row, without_row};
+ghost use Rattle.cq_rel.specs.Tables.{TablesRecord, IsTables, IsRow, IsUnder, arity_in, has_row, rows_in, values_order, has_turned, insert_fault, delete_fault, answer_of, with_row, without_row};
 
 use crate::catalog::Catalog;
 use crate::fault::RowFault;
@@ -74,29 +73,22 @@ impl<A: Allocator> Tables<A> {
         Some(self.tables[place].rows())
     }
 
-    /// The rows of the relation that have the value in the column, counted from 0, in order of their values: none where
-    /// the relation is not declared. It is for the columns after the first, by which the rows of a relation stand
-    /// anyhow. Found by halving.
-    pub fn rows_with(&self, relation: &str, column: usize, value: &Value<A>) -> Iter<'_, Row<A>, A>
-        requires later { 0 < column }
-        requires within { column < max_arity }
-        ensures { result ≡ filter (has_at column value.now) (rows_in relation.now self.now) }
+    /// The rows of the relation whose values begin with these from the column on, going round behind the last column: in no
+    /// order that is promised, none where the relation is not declared, all where no value is given. Columns are counted
+    /// from 0. Found by halving.
+    pub fn rows_with(
+        &self,
+        relation: &str,
+        column: usize,
+        values: &[&Value<A>],
+    ) -> Iter<'_, Row<A>, A>
+        ensures { IsPermutation (filter (has_turned column (map (λ v. v.now) values.now)) (rows_in relation.now self.now)) result }
     {
         let Some(place) = self.catalog.place_of(relation) else {
             return Iter::empty();
         };
-        self.tables[place].rows_with(column, value)
-    }
-
-    /// The rows of the relation whose first values are these, in order of their values: none where the relation is not
-    /// declared, all where no value is given. Found by halving.
-    pub fn rows_first(&self, relation: &str, firsts: &[&Value<A>]) -> Iter<'_, Row<A>, A>
-        ensures { result ≡ filter (has_first (map (λ v. v.now) firsts.now)) (rows_in relation.now self.now) }
-    {
-        let Some(place) = self.catalog.place_of(relation) else {
-            return Iter::empty();
-        };
-        self.tables[place].rows_first(firsts)
+        let arity = self.catalog.arity_at(place);
+        self.tables[place].rows_with(arity, column, values)
     }
 
     /// Deletes the row. It takes no memory.

@@ -76,8 +76,17 @@ pub fn travel<A: Allocator + Copy>(alloc: A) -> Result<Tables<A>, CatalogFault> 
 
 /// The tables over `T` of arity 2, with the rows of the texts.
 pub fn pairs<A: Allocator + Copy>(alloc: A, texts: &[&str]) -> Result<Tables<A>, CatalogFault> {
+    of_arity(alloc, 2, texts)
+}
+
+/// The tables over `T` of that arity, with the rows of the texts.
+pub fn of_arity<A: Allocator + Copy>(
+    alloc: A,
+    arity: usize,
+    texts: &[&str],
+) -> Result<Tables<A>, CatalogFault> {
     let mut catalog = Catalog::empty(alloc);
-    catalog.declare("T", 2)?;
+    catalog.declare("T", arity)?;
     let mut tables = Tables::begin(catalog)?;
     match insert_all(alloc, &mut tables, texts) {
         Ok(()) => Ok(tables),

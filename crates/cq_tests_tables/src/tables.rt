@@ -1,7 +1,7 @@
 //! Tables: the worked setup, the order of rows, and the refusals in order.
 
-use crate::samples::{delete, insert, pairs, travel};
-use cq_atom::Row;
+use crate::samples::{delete, insert, of_arity, pairs, travel};
+use cq_atom::{Row, Value};
 use cq_rel::{RowFault, Tables};
 use cq_text::{Form, print_row, read_ground_atom};
 use std::alloc::Global;
@@ -125,6 +125,104 @@ fn rows_in_order(rt: HostRuntime) -> Result<(), Fail> {
     ];
     let tables = pairs(rt.alloc(), falling.as_slice())?;
     assert!(rt; are_rows(rt.alloc(), &tables, "T", rising.as_slice()));
+    Ok(())
+}
+
+/// Whether the row is printed as one of the texts.
+fn is_one_of(alloc: Global, row: &Row, texts: &[&str]) -> bool {
+    for text in texts {
+        if is_printed(alloc, row, text) {
+            return true;
+        }
+    }
+    false
+}
+
+/// Whether the rows of `T` that have the values from the column on are those of the texts, in some order. Tables have each
+/// row once, so it is enough that they are as many.
+fn are_found(
+    alloc: Global,
+    tables: &Tables,
+    column: usize,
+    values: &[&Value],
+    texts: &[&str],
+) -> bool {
+    if tables.rows_with("T", column, values).count() != texts.len() {
+        return false;
+    }
+    for row in tables.rows_with("T", column, values) {
+        if !is_one_of(alloc, row, texts) {
+            return false;
+        }
+    }
+    true
+}
+
+const THREES: [&str; 6] = [
+    "T(1, 2, 3)",
+    "T(1, 5, 3)",
+    "T(1, 2, 4)",
+    "T(2, 2, 3)",
+    "T(3, 2, 1)",
+    "T(4, 1, 3)",
+];
+
+const ONE_AND_THREE: [&str; 2] = ["T(1, 5, 3)", "T(1, 2, 3)"];
+
+const TWO: [&str; 4] = ["T(1, 2, 3)", "T(1, 2, 4)", "T(2, 2, 3)", "T(3, 2, 1)"];
+
+const TWO_THREE: [&str; 2] = ["T(2, 2, 3)", "T(1, 2, 3)"];
+
+const TWO_THREE_ONE: [&str; 1] = ["T(1, 2, 3)"];
+
+// In rows of three values, the first and the last are a run that goes round.
+#[test]
+fn rows_are_found_by_a_run_of_columns(rt: HostRuntime) -> Result<(), Fail> {
+    let tables = of_arity(rt.alloc(), 3, THREES.as_slice())?;
+    let one = Value::num(1);
+    let two = Value::num(2);
+    let three = Value::num(3);
+    let round = [&three, &one];
+    assert!(rt;
+        are_found(
+            rt.alloc(),
+            &tables,
+            2,
+            round.as_slice(),
+            ONE_AND_THREE.as_slice()
+        )
+    );
+    let whole = [&two, &three, &one];
+    assert!(rt; are_found(rt.alloc(), &tables, 1, &whole[..1], TWO.as_slice()));
+    assert!(rt; are_found(rt.alloc(), &tables, 1, &whole[..2], TWO_THREE.as_slice()));
+    assert!(rt;
+        are_found(
+            rt.alloc(),
+            &tables,
+            1,
+            whole.as_slice(),
+            TWO_THREE_ONE.as_slice()
+        )
+    );
+    assert!(rt; are_found(rt.alloc(), &tables, 0, &whole[..0], THREES.as_slice()));
+    assert!(rt; tables.rows_with("U", 0, &whole[..0]).next().is_none());
+    Ok(())
+}
+
+const ONES: [&str; 2] = ["T(1)", "T(2)"];
+
+const SECOND: [&str; 1] = ["T(2)"];
+
+// A column beyond the arity turns nothing.
+#[test]
+fn rows_of_one_value_are_found(rt: HostRuntime) -> Result<(), Fail> {
+    let tables = of_arity(rt.alloc(), 1, ONES.as_slice())?;
+    let one = Value::num(1);
+    let two = Value::num(2);
+    let both = [&two, &one];
+    assert!(rt; are_found(rt.alloc(), &tables, 0, &both[..1], SECOND.as_slice()));
+    assert!(rt; are_found(rt.alloc(), &tables, 1, &both[..1], SECOND.as_slice()));
+    assert!(rt; are_found(rt.alloc(), &tables, 0, both.as_slice(), &SECOND[..0]));
     Ok(())
 }
 
