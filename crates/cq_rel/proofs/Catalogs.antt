@@ -1,11 +1,13 @@
 -- Catalogs: what a declaration adds, and what a look-up says.
-use Rattle.std.proofs.Common.{◌≡◌, ◌<◌, ℕ, Bool, true, false, not, nat_lt, List, [], ◌∷◌, ◌++◌, length, map, refl, Option, Some, None, Ok, if◌then◌else◌, arith, sym, ◌∙◌, ap, length-append}
+use Rattle.std.proofs.Common.{◌≡◌, ◌<◌, ◌≤◌, ◌&&◌, ℕ, Bool, true, false, not, nat_lt, nat_le, get_or, subst, List, [], ◌∷◌, ◌++◌, length, map, refl, Option, Some, None, Ok, if◌then◌else◌, arith, sym, ◌∙◌, ap, length-append}
 use Rattle.std.specs.List.{IsDistinct, list_any}
 use Rattle.std.specs.Str.{bytes_eq}
+use Rattle.std.proofs.lemmas.Bool.{leb-true}
 use Rattle.std.proofs.lemmas.Cmp.{nat_list_eq_equiv}
-use Rattle.std.proofs.lemmas.List.Elements.{All-nil, All-push}
+use Rattle.std.proofs.lemmas.List.Elements.{All-nil, All-push, All-get_or}
 use Rattle.std.proofs.lemmas.Map.Keys.{IsDistinct-push}
 use borrow.Author.Tests.{ltb-true}
+use Rattle.cq_atom.specs.Limits.{max_arity}
 use Rattle.cq_atom.specs.Text.{is_relation_name}
 use Rattle.cq_atom.specs.Answer.{Answers}
 use Rattle.cq_atom.specs.Atom.{arity_fault, is_arity}
@@ -67,3 +69,16 @@ name-made false relation name h = absurd cc
 
 pub IsCatalog-declared_as : (old seen new : List Declaration) (relation name : List ℕ) (arity : ℕ) → old ≡ seen → IsCatalog old → None ≡ declare_fault seen relation arity → name ≡ relation → new ≡ old ++ declaration name arity ∷ [] → IsCatalog new
 IsCatalog-declared_as old seen new relation name arity view is free e made = rw (made, e) (IsCatalog-declared old relation arity is (ap (λ (xs : List Declaration). declare_fault xs relation arity) view ∙ sym free))
+
+good-arity : (name one few : Bool) → (if name then (if one && few then None else Some bad.BadArity) else Some bad.BadName) ≡ None → few ≡ true
+good-arity false one few e = absurd cc
+good-arity true false few e = absurd cc
+good-arity true true false e = absurd cc
+good-arity true true true e = refl
+
+-- a declared arity
+pub few-values : (catalog : List Declaration) (place n : ℕ) (d : Declaration) → IsCatalog catalog → place < length catalog → d ≡ get_or catalog place d → n ≡ d.arity → n ≤ max_arity
+few-values catalog place n d is low read same =
+    let good = subst (λ (e : Declaration). arity_fault e.relation e.arity ≡ None) (sym read) (All-get_or (λ (e : Declaration). arity_fault e.relation e.arity ≡ None) catalog place d low is.good) in
+    let few : d.arity ≤ max_arity = leb-true d.arity max_arity (good-arity (is_relation_name d.relation) (nat_le 1 d.arity) (nat_le d.arity max_arity) good) in
+    omega (arith, few, same)

@@ -1,18 +1,14 @@
 -- Tables as they are seen, by the lists that are kept for each relation.
-use Rattle.std.proofs.Common.{◌≡◌, ℕ, zero, suc, ◌<◌, ◌⊎◌, Bool, true, false, List, [], ◌∷◌, ◌++◌, length, get_or, set, Option, Some, None, Result, Ok, Err, refl, sym, ap, ◌∙◌, subst, arith, nat_eq, nat_le, ◌≤◌, ◌&&◌, if◌then◌else◌}
+use Rattle.std.proofs.Common.{◌≡◌, ℕ, zero, suc, ◌<◌, ◌⊎◌, Bool, true, false, List, [], ◌∷◌, ◌++◌, length, get_or, set, Option, Some, None, Result, Ok, Err, refl, sym, ap, ◌∙◌, subst, arith, nat_eq, if◌then◌else◌}
 use Rattle.std.specs.Prelude.{◌↔◌, IsTrue, OnOk, OnErr}
 use Rattle.std.specs.Str.{bytes_eq}
 use Rattle.std.specs.List.{All, filter, position, AllByRecursion}
 use Rattle.std.specs.Option.{option_map}
-use Rattle.std.proofs.lemmas.List.Elements.{All-from_recursion, All-get_or, recursion_from_All}
-use Rattle.std.proofs.lemmas.Bool.{leb-true}
+use Rattle.std.proofs.lemmas.List.Elements.{All-from_recursion, recursion_from_All}
 use Rattle.std.proofs.lemmas.Bool.Decides.{Decides-eqb}
 use Rattle.cq_atom.specs.Answer.{Answers}
 use Rattle.cq_atom.specs.Value.{ValueContent}
-use Rattle.cq_atom.specs.Atom.{RowRecord, arity_fault}
-use Rattle.cq_atom.specs.Limits.{max_arity}
-use Rattle.cq_atom.specs.Text.{is_relation_name}
-use Rattle.cq_atom.specs.declared.fault.Bad.TheVariants as bad
+use Rattle.cq_atom.specs.Atom.{RowRecord}
 use Rattle.cq_rel.specs.declared.fault.RowFault.{RowFault}
 use Rattle.cq_rel.specs.declared.fault.RowFault.TheVariants.{UnknownRelation, Arity, RowPresent, RowAbsent, NoMemory}
 use Rattle.cq_rel.specs.Tables.{Declaration, TablesRecord, IsCatalog, IsTables, IsUnder, IsRow, declaration, declares, arity_in, place_in, has_row, rows_in, row_fault, insert_fault, delete_fault, with_row, without_row, answer_of}
@@ -117,22 +113,6 @@ rows-alike catalog tables name place n rows k at read arity =
     let of = of-at catalog tables place d rows k.tables (place-known catalog name place at).1 in
     subst (λ (l : List RowRecord). All long l) (sym read)
     (All-from_recursion long (get_or tables place rows) (all-weaker (IsOf (get_or catalog place d)) long (λ r h. h.1 ∙ sym (arity d)) (get_or tables place rows) of))
-
--- an arity that is declared
-pub few-values : (catalog : List Declaration) (place n : ℕ) → IsCatalog catalog → place < length catalog → ((d : Declaration) → n ≡ (get_or catalog place d).arity) → n ≤ max_arity
-few-values catalog place n is low arity =
-    let d : Declaration = declaration [] 0 in
-    let e = get_or catalog place d in
-    let good = All-get_or (λ (x : Declaration). arity_fault x.relation x.arity ≡ None) catalog place d low is.good in
-    let few : e.arity ≤ max_arity = leb-true e.arity max_arity (allowed (is_relation_name e.relation) (nat_le 1 e.arity) (nat_le e.arity max_arity) good) in
-    let same = arity d in
-    omega (arith, few, same)
-  where
-    allowed : (name one few : Bool) → (if name then (if one && few then None else Some bad.BadArity) else Some bad.BadName) ≡ None → few ≡ true
-    allowed false one few e = absurd cc
-    allowed true false few e = absurd cc
-    allowed true true false e = absurd cc
-    allowed true true true e = refl
 
 -- ---- a look-up of a row
 

@@ -147,15 +147,14 @@ fn are_found(
     values: &[&Value],
     texts: &[&str],
 ) -> bool {
-    if tables.rows_with("T", column, values).count() != texts.len() {
-        return false;
-    }
+    let mut left = texts.len();
     for row in tables.rows_with("T", column, values) {
-        if !is_one_of(alloc, row, texts) {
+        if left == 0 || !is_one_of(alloc, row, texts) {
             return false;
         }
+        left -= 1;
     }
-    true
+    left == 0
 }
 
 const THREES: [&str; 6] = [
