@@ -7,7 +7,7 @@ use Rattle.std.specs.Io.KnownBytes.{Appends}
 use Rattle.std.proofs.lemmas.List.{map-append, take_more}
 use Rattle.std.proofs.lemmas.List.Elements.{filter-append}
 use Rattle.cq_board.specs.Pool.{PoolRecord}
-use Rattle.cq_show.specs.Explain.{state_of}
+use Rattle.cq_render.specs.Explain.{state_of}
 use Rattle.cq_report.specs.Lines.{lines_of}
 use Rattle.cq_report.specs.Reading.{Reading}
 use Rattle.cq_report.specs.Output.{AreReadings, pool_left}

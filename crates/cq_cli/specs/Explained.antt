@@ -4,7 +4,7 @@ use Rattle.std.specs.List.{flat_map}
 use Rattle.std.specs.Option.{is_some}
 use Rattle.std.specs.Io.KnownBytes.{Appends}
 use Rattle.cq_board.specs.Pool.{PoolRecord}
-use Rattle.cq_show.specs.Explain.{ArePieces, IsTold, state_of, waiting_names}
+use Rattle.cq_render.specs.Explain.{ArePieces, IsTold, state_of, waiting_names}
 use Rattle.cq_cli.specs.declared.status.Status.{Status}
 use Rattle.cq_cli.specs.declared.status.Status.TheVariants.{Done, NotSo}
 

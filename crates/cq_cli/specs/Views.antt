@@ -3,8 +3,8 @@ use Rattle.std.specs.Prelude.{ℕ, List}
 use Rattle.json.specs.Print.{print}
 use Rattle.json.specs.Tree.{json_tokens}
 use Rattle.cq_board.specs.Pool.{PoolRecord}
-use Rattle.cq_show.specs.Graph.{graph}
-use Rattle.cq_show.specs.Json.{json_of}
+use Rattle.cq_render.specs.Graph.{graph}
+use Rattle.cq_render.specs.Json.{json_of}
 use Rattle.cq_cli.specs.declared.views.View.{View}
 use Rattle.cq_cli.specs.declared.views.View.TheVariants.{Graph, Json}
 

@@ -8,7 +8,7 @@ ghost use Rattle.cq_report.specs.Reading.{Reading};
 ghost use Rattle.cq_report.specs.Output.{AreReadings, pool_left};
 ghost use Rattle.cq_report.specs.Run.{IfRead, IsOfOutput, IsOfRead, IsOfRun, failures_of};
 ghost use Rattle.cq_text.specs.Device.{FailedAtTurn};
-ghost use Rattle.cq_show.specs.Explain.{state_of};
+ghost use Rattle.cq_render.specs.Explain.{state_of};
 ghost use Rattle.cq_cli.specs.declared.status.Status.{Status};
 ghost use Rattle.cq_cli.specs.Status.{DeviceFailed, IsRefused};
 ghost use Rattle.cq_cli.specs.Explained.{absent_line, absent_lines, absent_names, IsExplained, IsWritten, status_of_absent};
@@ -18,8 +18,8 @@ use crate::views::{end_with, write_lines};
 use crate::writing::tell;
 use cq_atom::{Bad, Name};
 use cq_board::Board;
+use cq_render::{explain, explain_named};
 use cq_report::{RunFault, read_script};
-use cq_show::{explain, explain_named};
 use cq_text::{Sink, Source};
 use std::alloc::{AllocError, Allocator, Global};
 

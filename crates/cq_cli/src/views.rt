@@ -17,8 +17,8 @@ use crate::choices::read_choices;
 use crate::status::Status;
 use crate::writing::{tell_fault, write_text};
 use cq_board::{Board, Choice};
+use cq_render::{graph, json};
 use cq_report::{RunFault, read_script};
-use cq_show::{graph, json};
 use cq_text::{Sink, Source};
 use std::alloc::{AllocError, Allocator, Global};
 

@@ -1,6 +1,5 @@
 pub mod CallerLemmas
 mod Examples
-pub mod Named
 pub mod Refused
 pub mod Answering
 pub mod Numbers
@@ -11,4 +10,4 @@ pub mod Served
 pub mod Starving
 pub mod Ending
 pub mod Leaving
-pub mod Pages
+pub mod Empty

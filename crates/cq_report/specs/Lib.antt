@@ -1,7 +1,6 @@
 pub mod Limits
 pub mod Lines
 pub mod Reading
-pub mod Report
 pub mod Reply
 pub mod Machine
 pub mod Output

@@ -13,7 +13,7 @@ use Rattle.cq_desk.specs.declared.event.Answer.{Answer}
 use Rattle.cq_desk.specs.declared.event.Answer.TheVariants.{Entered, Published, Looked, Heard}
 use Rattle.cq_desk.specs.declared.event.StepFault.{StepFault}
 use Rattle.cq_desk.specs.declared.event.StepFault.TheVariants.{NoSession, Ahead, JournalFull, Not, NoMemory}
-use Rattle.cq_report.specs.Report.{line, report}
+use Rattle.cq_render.specs.Report.{line, report}
 
 abbrev pub kind_word : Kind → List ℕ
 kind_word kinds.Token = codes "Token"

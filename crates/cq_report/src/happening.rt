@@ -8,10 +8,10 @@ ghost use Rattle.cq_report.specs.Steps.Put.{Put};
 use crate::fault::RunFault;
 use crate::output::{Output, put_reply};
 use crate::reply::{end_line, entered_line, published_line, refusal_line, show_line};
-use crate::reporting::put_report;
 use crate::setup::Setup;
 use cq_board::{Board, Edit};
 use cq_desk::{Answer, Event, Floor, StepFault};
+use cq_render::put_report;
 use cq_text::Sink;
 use std::alloc::{AllocError, Allocator};
 

@@ -1,11 +1,10 @@
-//! The report: bytes of a script in, reply lines and report blocks out.
+//! Scripts: their bytes in, reply lines and reports out.
 //!
-//! The room above uses `run`: what it writes is `specs/Output` of what it reads. `specs/Lines` cuts
+//! The program uses `run`: what it writes is `specs/Output` of what it reads. `specs/Lines` cuts
 //! a script into lines, `specs/Reading` says what a line is read as, `specs/Machine` what it does and
-//! is answered with, and `specs/Reply` and `specs/Report` how that reads. `report` gives the report on
-//! one board as a text, by the same lines. `read_script` serves a script unheard and gives the board that it leaves.
+//! is answered with, and `specs/Reply` how that reads. `read_script` serves a script unheard and gives the board that it leaves.
 //!
-//! Not here: which texts stand for what, and what a post does to a pool; a program's arguments, its
+//! Not here: which texts stand for what, and what a post does to a pool; the report on a board; a program's arguments, its
 //! exit status and its messages.
 #![tactic(auto)]
 
@@ -15,14 +14,11 @@ mod happening;
 mod heading;
 mod limits;
 mod line;
-mod listing;
 mod machine;
 mod numbering;
 mod output;
-mod page;
 mod playing;
 mod reply;
-mod reporting;
 mod running;
 mod setup;
 mod stage;
@@ -33,13 +29,11 @@ pub use fault::RunFault;
 pub use heading::{form_of, headed};
 pub use limits::{JOURNAL_LIMIT, POOL_LIMIT};
 pub use numbering::Numbering;
-pub use page::put;
 pub use playing::{Played, read_script};
 pub use reply::{
     board_line, catalog_line, entered_line, fault_line, late_line, ok_line, published_line,
     refusal_line, show_line,
 };
-pub use reporting::report;
 pub use running::{first_line, run};
 pub use setup::Setup;
 pub use stage::Stage;

@@ -9,7 +9,7 @@ use Rattle.cq_board.specs.declared.limits.Limits.{Limits}
 use Rattle.cq_board.specs.declared.edit.EditKind.TheVariants.{Post, Withdraw, Insert, Delete}
 use Rattle.cq_board.specs.Edits.{Edit}
 use Rattle.cq_desk.specs.declared.journal.Entry.{Entry}
-use Rattle.cq_report.specs.Report.{line}
+use Rattle.cq_render.specs.Report.{line}
 
 -- The line that asks for an edit, in printed form.
 abbrev pub edit_line : Edit → List ℕ

@@ -2,7 +2,7 @@
 
 ghost use Rattle.std.specs.Prelude.{◌≡◌, ◌++◌, ◌∷◌, ◌<◌, ◌≤◌, ◌^◌, [], ℕ, List, codes, decimal, map, option_map, string_bytes, IfOk, OnOk, length};
 ghost use Rattle.std.specs.List.{flat_map};
-ghost use Rattle.cq_report.specs.Report.{line};
+ghost use Rattle.cq_render.specs.Report.{line};
 ghost use Rattle.cq_sessions.specs.Script.{edit_line, entries_from, entry_lines, declaration_line, form_line, limits_line, replies_from, sheets_from};
 ghost use Rattle.cq_text.specs.Print.{printed_row};
 
@@ -11,7 +11,7 @@ use cq_atom::{Name, Query, Row};
 use cq_board::{Edit, EditKind, Limits};
 use cq_desk::Entry;
 use cq_rel::Catalog;
-use cq_report::put;
+use cq_render::put;
 use cq_text::{Form, print_query, print_row};
 use std::alloc::{AllocError, Allocator};
 

@@ -1,5 +1,5 @@
 //! Tests of what the program is made of above boards: runs of scripts, reports and sessions (`cq_report`), and the texts
-//! that are shown of a board (`cq_show`). Whole scripts and their outputs stand in the cases. Nothing but tests is here, and
+//! that are shown of a board (`cq_render`). Whole scripts and their outputs stand in the cases. Nothing but tests is here, and
 //! no crate stands on this one.
 #![tactic(auto)]
 

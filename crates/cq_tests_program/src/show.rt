@@ -1,8 +1,8 @@
 //! Texts that are written of the boards which scripts leave: each once, and with each of its growths refused in turn.
 
 use cq_board::Board;
-use cq_report::{RunFault, read_script, report};
-use cq_show::{explain, explain_named, graph, json};
+use cq_render::{explain, explain_named, graph, json, report};
+use cq_report::{RunFault, read_script};
 use cq_tests_growths::{Outcome, Tried, refusals};
 use cq_text::Counted;
 use std::alloc::{AllocError, Allocator};

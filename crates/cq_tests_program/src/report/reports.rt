@@ -3,7 +3,7 @@
 use crate::lines::edit;
 use cq_board::{Board, Limits};
 use cq_rel::Catalog;
-use cq_report::report;
+use cq_render::report;
 use std::alloc::{AllocError, Allocator};
 use std::test::Fail;
 

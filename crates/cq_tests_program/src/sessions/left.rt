@@ -4,7 +4,7 @@ use crate::sessions::boards::{LIMITS, catalog};
 use cq_atom::{Name, Query, Row};
 use cq_board::{Board, Edit, EditKind};
 use cq_desk::{Entry, Live, NoMemory};
-use cq_report::report;
+use cq_render::report;
 use std::alloc::Global;
 use std::mem::drop;
 

@@ -3,7 +3,7 @@
 use crate::sessions::boards::Posted;
 use cq_board::{Board, Why};
 use cq_desk::{End, Reply};
-use cq_report::report;
+use cq_render::report;
 use cq_room::{Front, Receipt, RoomName, Session};
 use std::alloc::{AllocError, Global};
 

@@ -2,7 +2,7 @@ use Rattle.std.proofs.Common.{◌++◌, map}
 use Rattle.std.specs.Prelude.{codes, string_bytes}
 use Rattle.std.proofs.lemmas.Result.{on_ok_weaker}
 use Rattle.cq_sessions.specs.Script.{replies_from, sheets_from}
-use Rattle.cq_report.proofs.CallerLemmas.{put_both}
+use Rattle.cq_render.proofs.CallerLemmas.{put_both}
 use Rattle.cq_sessions.proofs.files.put_behind.Goals as goal
 
 pub returns : goal.returns

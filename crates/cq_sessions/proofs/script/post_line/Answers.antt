@@ -1,8 +1,8 @@
 use Rattle.std.proofs.Common.{List, ℕ, ◌++◌, ap, ◌∙◌}
 use Rattle.std.specs.Prelude.{codes}
 use Rattle.std.proofs.lemmas.Result.{IfOk-weaker}
-use Rattle.cq_report.specs.Report.{line}
-use Rattle.cq_report.proofs.CallerLemmas.{joined_more}
+use Rattle.cq_render.specs.Report.{line}
+use Rattle.cq_render.proofs.CallerLemmas.{joined_more}
 use Rattle.cq_sessions.proofs.script.post_line.Goals as goal
 
 pub returns : goal.returns

@@ -4,7 +4,7 @@ use Rattle.std.specs.List.{flat_map}
 use Rattle.cq_rel.specs.Tables.{declaration}
 use Rattle.cq_sessions.specs.Script.{declaration_line}
 use Rattle.cq_board.proofs.Pieces.{pieces_at}
-use Rattle.cq_report.proofs.CallerLemmas.{put_on}
+use Rattle.cq_render.proofs.CallerLemmas.{put_on}
 use Rattle.cq_sessions.proofs.script.put_catalog.Goals as goal
 
 pub loop-place-preserved : goal.loop-place-preserved

@@ -1,9 +1,9 @@
 use Rattle.std.proofs.Common.{◌++◌}
 use Rattle.std.specs.Prelude.{codes, decimal, string_bytes}
 use Rattle.std.proofs.lemmas.Result.{on_ok_weaker}
-use Rattle.cq_report.specs.Report.{line}
+use Rattle.cq_render.specs.Report.{line}
 use Rattle.cq_sessions.specs.Script.{edit_line}
-use Rattle.cq_report.proofs.CallerLemmas.{put_both}
+use Rattle.cq_render.proofs.CallerLemmas.{put_both}
 use Rattle.cq_sessions.proofs.script.put_entry.Goals as goal
 
 pub returns : goal.returns

@@ -2,7 +2,7 @@ use Rattle.std.specs.Prelude.{◌++◌, string_bytes}
 use Rattle.std.specs.List.{flat_map}
 use Rattle.std.proofs.lemmas.Result.{on_ok_weaker}
 use Rattle.cq_sessions.specs.Script.{form_line, declaration_line, limits_line}
-use Rattle.cq_report.proofs.CallerLemmas.{put_both}
+use Rattle.cq_render.proofs.CallerLemmas.{put_both}
 use Rattle.cq_sessions.proofs.script.put_setup.Goals as goal
 
 pub returns : goal.returns

@@ -1,0 +1,18 @@
+use Rattle.std.proofs.Common.{◌≡◌, ◌+◌, List, drop, subst, Some}
+use Rattle.std.specs.Prelude.{string_bytes}
+use Rattle.std.specs.List.{flat_map, slice_get}
+use Rattle.cq_rel.specs.Tables.{Declaration, declaration}
+use Rattle.cq_render.specs.Report.{relation_line}
+use Rattle.cq_render.proofs.Pieces.{pieces_at}
+use Rattle.cq_render.proofs.Pages.{put_on}
+use Rattle.cq_render.proofs.reporting.put_relations.Goals as goal
+
+pub loop-place-preserved : goal.loop-place-preserved
+loop-place-preserved g c =
+    let i = c.loop-place.place in
+    let catalog = c.args.tables.now.catalog in
+    let declared = declaration c.in-Some.entry.0.now c.in-Some.entry.1 in
+    let f = relation_line c.args.tables.now in
+    let there = subst (λ (ds : List Declaration). slice_get ds i ≡ Some declared) c.catalog-catalog.ensures.value c.in-Some.ensures in
+    put_on (string_bytes c.loop-place.page) (string_bytes c.put_relation.new.page) (f declared) _ (flat_map f (drop (i + 1) catalog)) _
+    (pieces_at f catalog i declared there) c.loop-place.invariant c.in_ok-put_relation.ensures

@@ -1,0 +1,6 @@
+pub mod Limits
+pub mod Report
+pub mod Explain
+pub mod Graph
+pub mod Json
+pub mod Steps

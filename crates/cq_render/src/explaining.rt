@@ -1,0 +1,477 @@
+//! Why the queries of a board wait, put on a page line by line.
+
+ghost use Rattle.std.specs.Prelude.{◌≡◌, ◌<◌, ℕ, List, length, map, filter, string_bytes, true, false, [], Some, IfOk, OnOk};
+ghost use Rattle.std.specs.HashMap.{get_by};
+ghost use Rattle.std.specs.List.{All};
+ghost use Rattle.std.specs.Option.{option_copied};
+ghost use Rattle.std.specs.Str.{bytes_eq};
+ghost use Rattle.cq_match.specs.Falling.{IsUnmatched};
+ghost use Rattle.cq_board.specs.Edges.{edges_of};
+ghost use Rattle.cq_board.specs.Board.{nodes_of, place_of};
+ghost use Rattle.cq_board.specs.Named.{matched_named};
+ghost use Rattle.cq_board.specs.Near.{miss_read, post_named};
+ghost use Rattle.cq_board.specs.Waiting.{is_waiting, IsReasonPart};
+ghost use Rattle.cq_render.specs.Steps.Falls.{AreFalls};
+ghost use Rattle.cq_render.specs.Steps.Resting.{ArePlaces};
+ghost use Rattle.cq_render.specs.Explain.{ArePieces, AreProviders, IsExplanation, atom_or_none, head_named, name_of_number, near_words, missing_words, wait_word, only_words, IsUnmetTold, IsReasonTold, IsStep, IsToldBy, IsTold, waiting_names};
+
+use crate::numbering::{Numbers, numbers_of};
+use crate::resting::{part_at, place_in, places_of};
+use crate::walking::{Listing, name_or_none, providers, walk};
+use cq_atom::{Atom, Bad, Name};
+use cq_board::{Board, Heads, NearMiss};
+use cq_match::{Edge, Fall, Reason};
+use cq_text::print_atom;
+use std::alloc::{AllocError, Allocator};
+
+/// What a board lists, the heads by relation and arity, and the falls of the queries that wait; the number of each name, and the
+/// place of each fall by its number.
+#[derive(Drop)]
+struct Fallen<'l, 'b, A: Allocator> {
+    listing: &'l Listing<'b, A>,
+    heads: &'l Heads<'b, A>,
+    falls: &'l [Fall],
+    numbers: &'l Numbers<'b, A>,
+    places: &'l [usize],
+    ghost offered: { heads.now ≡ listing.now.board.now },
+    ghost numbered: { (name : List ℕ) → get_by (λ k. bytes_eq name k.now) numbers.now ≡ place_of name listing.now.board.now.pending },
+    ghost placed: { ArePlaces falls.now places.now },
+}
+
+/// The atom in its printed form; nothing where there is none.
+fn atom_words<A: Allocator + Copy>(
+    alloc: A,
+    atom: Option<&Atom<A>>,
+) -> Result<String<A>, AllocError>
+    ensures { IfOk result (λ text. string_bytes text ≡ atom_or_none (option_copied atom.entry)) }
+{
+    match atom {
+        Some(atom) => print_atom(alloc, atom),
+        None => Ok(String::new(alloc)),
+    }
+}
+
+/// The head of the pending query of that name, counted from 0.
+fn head_of<'a, A: Allocator + Copy>(
+    board: &'a Board<A>,
+    name: &Name<A>,
+    head: u8,
+) -> Option<&'a Atom<A>>
+    ensures { option_copied result ≡ head_named name.now head board.now.pending }
+{
+    let query = board.query(name)?;
+    query.heads().get(usize::from(head))
+}
+
+/// The postcondition of the pending query of that name, counted from 0.
+fn post_of<'a, A: Allocator + Copy>(
+    board: &'a Board<A>,
+    name: &Name<A>,
+    post: u8,
+) -> Option<&'a Atom<A>>
+    ensures { option_copied result ≡ post_named name.now post board.now.pending }
+{
+    let query = board.query(name)?;
+    query.posts().get(usize::from(post))
+}
+
+fn near_words<A: Allocator + Copy>(
+    alloc: A,
+    board: &Board<A>,
+    near: &NearMiss<&Name<A>>,
+) -> Result<String<A>, AllocError>
+    ensures { IfOk result (λ text. string_bytes text ≡ near_words board.now.pending (miss_read (λ name. name.now) near.now)) }
+{
+    let atom = atom_words(alloc, head_of(board, near.provider, near.head))?;
+    let name = near.provider.as_str();
+    let head = near.head;
+    let atom = atom.as_str();
+    format!(in alloc; "{name} head {head} {atom}")
+}
+
+/// The words of each of these heads.
+fn each_near<A: Allocator + Copy>(
+    alloc: A,
+    board: &Board<A>,
+    near: &[NearMiss<&Name<A>>],
+) -> Result<Vec<String<A>, A>, AllocError>
+    ensures { IfOk result (λ words. map string_bytes words.items ≡ map (near_words board.now.pending) (map (miss_read (λ name. name.now)) near.now)) }
+{
+    let mut words = Vec::new(alloc);
+    for miss in near {
+        words.push(near_words(alloc, board, miss)?)?;
+    }
+    Ok(words)
+}
+
+fn missing_words<A: Allocator + Copy>(
+    alloc: A,
+    board: &Board<A>,
+    near: &[NearMiss<&Name<A>>],
+) -> Result<String<A>, AllocError>
+    ensures { IfOk result (λ text. string_bytes text ≡ missing_words board.now.pending (map (miss_read (λ name. name.now)) near.now)) }
+{
+    if near.is_empty() {
+        return String::from_str(alloc, "no provider");
+    }
+    let words = each_near(alloc, board, near)?;
+    let joined = words.join(alloc, ", ")?;
+    let joined = joined.as_str();
+    format!(in alloc; "no provider; near: {joined}")
+}
+
+/// What is told of a postcondition that has no provider.
+fn missing<A: Allocator + Copy>(
+    alloc: A,
+    fallen: &Fallen<'_, '_, A>,
+    name: &Name<A>,
+    post: u8,
+) -> Result<String<A>, AllocError>
+    ensures { IfOk result (λ text. IsUnmetTold fallen.now.listing.now.board.now.pending name.now post [] (string_bytes text)) }
+{
+    let near = fallen.heads.near_misses(name, post)?;
+    missing_words(alloc, fallen.listing.board, &near)
+}
+
+/// The numbers of the queries from which the edges come.
+fn senders<A: Allocator>(alloc: A, edges: &[Edge]) -> Result<Vec<usize, A>, AllocError>
+    ensures { IfOk result (λ senders. senders.items ≡ map (λ edge. edge.provider) edges.now) }
+{
+    let mut senders = Vec::with_capacity(alloc, edges.len())?;
+    for edge in edges {
+        senders.push(edge.provider)?;
+    }
+    Ok(senders)
+}
+
+/// The numbers of the providers of a postcondition, each once.
+fn providers_of<A: Allocator + Copy>(
+    alloc: A,
+    fallen: &Fallen<'_, '_, A>,
+    waiter: usize,
+    post: u8,
+) -> Result<Vec<usize, A>, AllocError>
+    ensures { IfOk result (λ numbers. AreProviders fallen.now.listing.now.board.now.pending waiter post numbers.items) }
+{
+    let mut providers = senders(alloc, providers(fallen.listing, waiter, usize::from(post)))?;
+    providers.sort_unstable();
+    providers.dedup();
+    Ok(providers)
+}
+
+/// The names of the queries of these numbers.
+fn names_of<'a, A: Allocator>(
+    alloc: A,
+    listing: &Listing<'a, A>,
+    numbers: &[usize],
+) -> Result<Vec<&'a str, A>, AllocError>
+    ensures { IfOk result (λ names. map (λ name. name.now) names.items ≡ map (name_of_number listing.now.board.now.pending) numbers.now) }
+{
+    let mut names = Vec::new(alloc);
+    for number in numbers {
+        names.push(name_or_none(listing, *number))?;
+    }
+    Ok(names)
+}
+
+fn wait_word(count: usize) -> &'static str
+    ensures { result.now ≡ wait_word count }
+{
+    if count == 1 { "waits" } else { "wait" }
+}
+
+fn only_words<A: Allocator + Copy>(alloc: A, names: &[&str]) -> Result<String<A>, AllocError>
+    ensures { IfOk result (λ text. string_bytes text ≡ only_words (map (λ name. name.now) names.now)) }
+{
+    let joined = names.join(alloc, ", ")?;
+    let joined = joined.as_str();
+    let wait = wait_word(names.len());
+    format!(in alloc; "only {joined}, who {wait}")
+}
+
+/// What is told of an unmet postcondition, by its providers.
+fn unmet<A: Allocator + Copy>(
+    alloc: A,
+    fallen: &Fallen<'_, '_, A>,
+    name: &Name<A>,
+    post: u8,
+    providers: &[&str],
+) -> Result<String<A>, AllocError>
+    ensures { IfOk result (λ text. IsUnmetTold fallen.now.listing.now.board.now.pending name.now post (map (λ name. name.now) providers.now) (string_bytes text)) }
+{
+    if providers.is_empty() {
+        missing(alloc, fallen, name, post)
+    } else {
+        only_words(alloc, providers)
+    }
+}
+
+/// What is told of an unmet postcondition, whose providers have these numbers.
+fn unmet_words<A: Allocator + Copy>(
+    alloc: A,
+    fallen: &Fallen<'_, '_, A>,
+    name: &Name<A>,
+    post: u8,
+    providers: &[usize],
+) -> Result<String<A>, AllocError>
+    ensures { IfOk result (λ text. IsUnmetTold fallen.now.listing.now.board.now.pending name.now post (map (name_of_number fallen.now.listing.now.board.now.pending) providers.now) (string_bytes text)) }
+{
+    let names = names_of(alloc, fallen.listing, providers)?;
+    unmet(alloc, fallen, name, post, &names)
+}
+
+fn post_reason<A: Allocator + Copy>(
+    alloc: A,
+    fallen: &Fallen<'_, '_, A>,
+    name: &Name<A>,
+    waiter: usize,
+    post: u8,
+) -> Result<String<A>, AllocError>
+    ensures { IfOk result (λ text. IsReasonTold fallen.now.listing.now.board.now.pending name.now waiter (Reason.Unmet post) (string_bytes text)) }
+{
+    let providers = providers_of(alloc, fallen, waiter, post)?;
+    let atom = atom_words(alloc, post_of(fallen.listing.board, name, post))?;
+    let unmet = unmet_words(alloc, fallen, name, post, &providers)?;
+    let atom = atom.as_str();
+    let unmet = unmet.as_str();
+    format!(in alloc; "post {post} {atom}: {unmet}")
+}
+
+fn reason_words<A: Allocator + Copy>(
+    alloc: A,
+    fallen: &Fallen<'_, '_, A>,
+    name: &Name<A>,
+    fall: &Fall,
+) -> Result<String<A>, AllocError>
+    ensures { IfOk result (λ text. IsReasonTold fallen.now.listing.now.board.now.pending name.now fall.now.node fall.now.reason (string_bytes text)) }
+{
+    match fall.reason {
+        Reason::NotAble => String::from_str(alloc, "no row for its body"),
+        Reason::Unmet(post) => post_reason(alloc, fallen, name, fall.node, post),
+    }
+}
+
+fn step_line<A: Allocator + Copy>(
+    alloc: A,
+    fallen: &Fallen<'_, '_, A>,
+    fall: &Fall,
+) -> Result<String<A>, AllocError>
+    requires { fall.now.node < length fallen.now.listing.now.queries.items }
+    ensures { IfOk result (λ text. IsStep fallen.now.listing.now.board.now.pending fall.now (string_bytes text)) }
+{
+    let name = fallen.listing.queries[fall.node].name;
+    let reason = reason_words(alloc, fallen, name, fall)?;
+    let name = name.as_str();
+    let reason = reason.as_str();
+    format!(in alloc; "  {name}: {reason}\n")
+}
+
+/// Puts a step for each of the falls on an empty page.
+fn put_steps<A: Allocator + Copy>(
+    alloc: A,
+    fallen: &Fallen<'_, '_, A>,
+    part: &[Fall],
+    page: &mut String<A>,
+) -> Result<(), AllocError>
+    requires { All (λ fall. fall.node < length fallen.now.listing.now.queries.items) part.now }
+    ensures { string_bytes page.old ≡ [] → OnOk result (ArePieces (IsStep fallen.now.listing.now.board.now.pending) part.now (string_bytes page.new)) }
+{
+    for fall in part {
+        let line = step_line(alloc, fallen, fall)?;
+        page.push_str(line.as_str())?;
+    }
+    Ok(())
+}
+
+/// The part of the falls that tells why the query of that number waits.
+fn part_of<A: Allocator + Copy>(
+    alloc: A,
+    fallen: &Fallen<'_, '_, A>,
+    number: usize,
+) -> Result<Vec<Fall, A>, AllocError>
+    requires fell { AreFalls fallen.now.listing.now.board.now fallen.now.falls.now }
+    requires waits { IsUnmatched (nodes_of fallen.now.listing.now.board.now) (edges_of fallen.now.listing.now.board.now.pending) number }
+    ensures low { IfOk result (λ part. All (λ fall. fall.node < length fallen.now.listing.now.queries.items) part.items) }
+    ensures part { IfOk result (λ part. IsReasonPart fallen.now.listing.now.board.now number part.items) }
+{
+    let place = place_in(fallen.places, number);
+    part_at(
+        alloc,
+        &fallen.listing.edges,
+        fallen.falls,
+        fallen.places,
+        place,
+    )
+}
+
+/// Why the query of that name and number waits.
+fn waiting_words<A: Allocator + Copy>(
+    alloc: A,
+    fallen: &Fallen<'_, '_, A>,
+    name: &Name<A>,
+    number: usize,
+) -> Result<String<A>, AllocError>
+    requires fell { AreFalls fallen.now.listing.now.board.now fallen.now.falls.now }
+    requires there { place_of name.now fallen.now.listing.now.board.now.pending ≡ Some number }
+    requires waits { is_waiting name.now fallen.now.listing.now.board.now ≡ true }
+    ensures { IfOk result (λ text. IsExplanation fallen.now.listing.now.board.now name.now (string_bytes text)) }
+{
+    let part = part_of(alloc, fallen, number)?;
+    let mut steps = String::new(alloc);
+    put_steps(alloc, fallen, &part, &mut steps)?;
+    let name = name.as_str();
+    let steps = steps.as_str();
+    format!(in alloc; "{name} waits\n{steps}")
+}
+
+fn is_waiting<A: Allocator + Copy>(board: &Board<A>, name: &Name<A>) -> bool
+    ensures { result ≡ is_waiting name.now board.now }
+{
+    match board.is_matched(name) {
+        Some(matched) => !matched,
+        None => false,
+    }
+}
+
+/// What is told of a name under which no query waits.
+fn settled_words<A: Allocator + Copy>(
+    alloc: A,
+    board: &Board<A>,
+    name: &Name<A>,
+) -> Result<String<A>, AllocError>
+    ensures { is_waiting name.now board.now ≡ false → IfOk result (λ text. IsToldBy (matched_named name.now board.now) board.now name.now (string_bytes text)) }
+{
+    if board.is_matched(name).is_none() {
+        return Ok(String::new(alloc));
+    }
+    let name = name.as_str();
+    format!(in alloc; "{name} is matched\n")
+}
+
+/// The number of the query of that name.
+fn number_of<A: Allocator>(fallen: &Fallen<'_, '_, A>, wanted: &Name<A>) -> Option<usize>
+    ensures { result ≡ place_of wanted.now fallen.now.listing.now.board.now.pending }
+{
+    fallen.numbers.get(wanted.as_str()).copied()
+}
+
+fn told_of_name<A: Allocator + Copy>(
+    alloc: A,
+    fallen: &Fallen<'_, '_, A>,
+    name: &Name<A>,
+) -> Result<String<A>, AllocError>
+    requires fell { AreFalls fallen.now.listing.now.board.now fallen.now.falls.now }
+    ensures { IfOk result (λ text. IsToldBy (matched_named name.now fallen.now.listing.now.board.now) fallen.now.listing.now.board.now name.now (string_bytes text)) }
+{
+    if !is_waiting(fallen.listing.board, name) {
+        return settled_words(alloc, fallen.listing.board, name);
+    }
+    match number_of(fallen, name) {
+        Some(number) => waiting_words(alloc, fallen, name, number),
+        None => unreachable!(),
+    }
+}
+
+fn told<A: Allocator + Copy>(
+    alloc: A,
+    fallen: &Fallen<'_, '_, A>,
+    word: &str,
+) -> Result<String<A>, AllocError>
+    requires fell { AreFalls fallen.now.listing.now.board.now fallen.now.falls.now }
+    ensures { IfOk result (λ text. IsTold fallen.now.listing.now.board.now word.now (string_bytes text)) }
+{
+    match Name::new(alloc, word) {
+        Ok(name) => told_of_name(alloc, fallen, &name),
+        Err(Bad::NoMemory) => Err(AllocError),
+        Err(_) => Ok(String::new(alloc)),
+    }
+}
+
+/// Puts what is told of each of the words on an empty page.
+fn put_told<A: Allocator + Copy>(
+    alloc: A,
+    fallen: &Fallen<'_, '_, A>,
+    words: &[&str],
+    page: &mut String<A>,
+) -> Result<(), AllocError>
+    requires fell { AreFalls fallen.now.listing.now.board.now fallen.now.falls.now }
+    ensures { string_bytes page.old ≡ [] → OnOk result (ArePieces (IsTold fallen.now.listing.now.board.now) (map (λ word. word.now) words.now) (string_bytes page.new)) }
+{
+    for word in words {
+        let text = told(alloc, fallen, word)?;
+        page.push_str(text.as_str())?;
+    }
+    Ok(())
+}
+
+/// Puts what is told of each of the words on an empty page.
+fn put_words<A: Allocator + Copy>(
+    alloc: A,
+    board: &Board<A>,
+    words: &[&str],
+    page: &mut String<A>,
+) -> Result<(), AllocError>
+    ensures { string_bytes page.old ≡ [] → OnOk result (ArePieces (IsTold board.now) (map (λ word. word.now) words.now) (string_bytes page.new)) }
+{
+    let listing = walk(alloc, board)?;
+    let heads = board.heads()?;
+    let falls = board.falls()?;
+    let numbers = numbers_of(alloc, &listing)?;
+    let places = places_of(alloc, &falls, listing.queries.len())?;
+    let fallen = Fallen {
+        listing: &listing,
+        heads: &heads,
+        falls: &falls,
+        numbers: &numbers,
+        places: &places,
+    };
+    put_told(alloc, &fallen, words, page)
+}
+
+/// Those of the names under which queries wait.
+fn waiting<'a, A: Allocator + Copy>(
+    alloc: A,
+    board: &Board<A>,
+    names: &[&'a Name<A>],
+) -> Result<Vec<&'a str, A>, AllocError>
+    ensures { IfOk result (λ waiting. map (λ name. name.now) waiting.items ≡ filter (λ name. is_waiting name board.now) (map (λ name. name.now) names.now)) }
+{
+    let mut waiting = Vec::new(alloc);
+    for name in names {
+        if is_waiting(board, name) {
+            waiting.push(name.as_str())?;
+        }
+    }
+    Ok(waiting)
+}
+
+/// Why queries of a board wait, told of each of the words in their order. Of a name under which a query waits it is a line
+/// `NAME waits`, and below it a line for each query on which that one rests, itself last, with its reason; of a name under which
+/// a query is matched a line that says so; nothing of any other word. All queries fall once, in the time of [`Board::falls`]; then
+/// each line has the time of its providers, up to sorting, and where there is none, that of [`Heads::near_misses`].
+///
+/// # Errors
+/// `AllocError` where a growth was refused.
+pub fn explain_named<A: Allocator + Copy>(
+    alloc: A,
+    board: &Board<A>,
+    words: &[&str],
+) -> Result<String<A>, AllocError>
+    ensures { IfOk result (λ text. ArePieces (IsTold board.now) (map (λ word. word.now) words.now) (string_bytes text)) }
+{
+    let mut page = String::new(alloc);
+    put_words(alloc, board, words, &mut page)?;
+    Ok(page)
+}
+
+/// The same of all queries of the board that wait, in posting order.
+///
+/// # Errors
+/// `AllocError` where a growth was refused.
+pub fn explain<A: Allocator + Copy>(alloc: A, board: &Board<A>) -> Result<String<A>, AllocError>
+    ensures { IfOk result (λ text. ArePieces (IsTold board.now) (waiting_names board.now) (string_bytes text)) }
+{
+    let names = board.names()?;
+    let waiting = waiting(alloc, board, &names)?;
+    explain_named(alloc, board, &waiting)
+}

@@ -1,8 +1,0 @@
-use Rattle.std.proofs.Common.{◌≡◌, ℕ, List, take, bytes_eq}
-use Rattle.std.specs.HashMap.{get_by}
-use Rattle.std.specs.List.{position}
-use Rattle.cq_show.proofs.numbering.numbers_of.Given as goal
-
--- the names so far have their numbers
-abbrev pub invariant-loop-number : goal.invariant-loop-number
-invariant-loop-number g l = (wanted : List ℕ) → get_by (λ k. bytes_eq wanted k.now) l.numbers ≡ position (λ name. bytes_eq wanted name.now) (take l.number l.names)

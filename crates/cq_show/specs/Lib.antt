@@ -1,5 +1,0 @@
-pub mod Limits
-pub mod Explain
-pub mod Graph
-pub mod Json
-pub mod Steps

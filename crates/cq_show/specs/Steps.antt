@@ -1,3 +1,0 @@
--- What the private steps of the code are stated with; no part of what a reader must believe.
-pub mod Falls
-pub mod Resting
