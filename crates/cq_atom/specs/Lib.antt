@@ -4,6 +4,7 @@ pub mod Text
 pub mod Value
 pub mod Atom
 pub mod Query
+pub mod Edit
 pub mod Valuation
 pub mod Unify
 pub mod Steps

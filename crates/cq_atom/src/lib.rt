@@ -1,4 +1,4 @@
-//! Values, names, atoms, rows and queries: the words in which every other crate speaks.
+//! Values, names, atoms, rows, queries and edits: the words in which every other crate speaks.
 //!
 //! The crates above use one contract of this one most: `unify` is true exactly where one valuation
 //! for each of two atoms makes the same row of both. The constructors (`Name::new`, `Value::text`,
@@ -13,6 +13,7 @@
 
 mod atom;
 mod bytes;
+mod edit;
 mod fault;
 mod limits;
 mod meter;
@@ -27,6 +28,7 @@ mod variables;
 mod word;
 
 pub use atom::Atom;
+pub use edit::{Edit, EditKind};
 pub use fault::{Bad, Part};
 pub use limits::{MAX_ARITY, MAX_ATOMS, MAX_NAME, MAX_TEXT};
 pub use meter::Meter;

@@ -12,7 +12,7 @@ use Rattle.cq_atom.specs.declared.fault.Part.TheVariants.{Posts, Heads}
 use Rattle.cq_atom.specs.Atom.{AtomRecord}
 use Rattle.cq_atom.specs.Query.{QueryRecord}
 use Rattle.cq_rel.specs.Tables.{Declaration, arity_in, TablesRecord, IsTables}
-use Rattle.cq_board.specs.declared.edit.EditKind.TheVariants.{Post}
+use Rattle.cq_atom.specs.declared.edit.EditKind.TheVariants.{Post}
 use Rattle.cq_board.specs.declared.edit.Why.{Why}
 use Rattle.cq_board.specs.declared.edit.Why.TheVariants.{PoolFull, NameTaken, NotAnswer, Arity}
 use Rattle.cq_board.specs.declared.limits.Limits.{Limits}

@@ -7,7 +7,7 @@ use Rattle.cq_findings.specs.Findings.{FindingMap}
 use Rattle.cq_links.specs.Links.{LinkMap}
 use Rattle.cq_match.specs.Matcher.{MatcherRecord}
 use Rattle.cq_board.specs.declared.limits.Limits.{Limits}
-use Rattle.cq_board.specs.declared.edit.EditKind.TheVariants.{Post}
+use Rattle.cq_atom.specs.declared.edit.EditKind.TheVariants.{Post}
 use Rattle.cq_board.specs.Pool.{PendingQuery, PoolRecord, IsPool}
 use Rattle.cq_board.specs.Edits.{is_named, why}
 use Rattle.cq_board.specs.Steps.Stores.{pending_of, AreStores, IsKeptIn}

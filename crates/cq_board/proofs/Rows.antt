@@ -12,11 +12,12 @@ use Rattle.std.proofs.lemmas.List.Kept.{IsStrictlySortedBy-filter}
 use Rattle.cq_atom.specs.Atom.{RowRecord}
 use Rattle.cq_rel.specs.Tables.{Declaration, arity_in, place_in, TablesRecord, IsUnder, IsTables, row_order, same_row, has_row, with_row, without_row}
 use Rattle.cq_rel.proofs.CallerLemmas.{values_total}
-use Rattle.cq_board.specs.declared.edit.EditKind.TheVariants.{Post, Withdraw, Insert, Delete}
+use Rattle.cq_atom.specs.declared.edit.EditKind.TheVariants.{Post, Withdraw, Insert, Delete}
 use Rattle.cq_board.specs.declared.edit.Why.{Why}
 use Rattle.cq_board.specs.declared.edit.Why.TheVariants.{RowPresent}
 use Rattle.cq_board.specs.Pool.{PoolRecord, IsPool}
-use Rattle.cq_board.specs.Edits.{Edit, is_named, arity_why, why, edited, unless_refused, pool_after}
+use Rattle.cq_atom.specs.Edit.{Edit}
+use Rattle.cq_board.specs.Edits.{is_named, arity_why, why, edited, unless_refused, pool_after}
 use Rattle.cq_board.proofs.Members.{by_bool}
 use Rattle.cq_board.proofs.GoodPools.{tables_good, filtered_good, posted_good, first_none, arity_fits}
 

@@ -3,7 +3,8 @@ use Rattle.std.proofs.Common.{◌≡◌, ℕ, ◌+◌, ◌<◌, ◌≤◌, List,
 use Rattle.std.proofs.lemmas.List.{drop_all}
 use Rattle.cq_board.specs.declared.edit.Why.{Why}
 use Rattle.cq_board.specs.Pool.{PoolRecord}
-use Rattle.cq_board.specs.Edits.{Edit, why, edited}
+use Rattle.cq_atom.specs.Edit.{Edit}
+use Rattle.cq_board.specs.Edits.{why, edited}
 use Rattle.cq_board.specs.declared.scratch.ScratchFault.{ScratchFault}
 use Rattle.cq_board.specs.declared.scratch.ScratchFault.TheVariants.{Refused, NoMemory}
 use Rattle.cq_board.specs.Scratch.{or_refused, scratch_of, Makes}

@@ -11,7 +11,7 @@ use Rattle.cq_match.specs.declared.edge.Edge.{Edge}
 use Rattle.cq_match.specs.Matched.{is_matched}
 use Rattle.cq_match.specs.Matcher as matcher
 use Rattle.cq_match.specs.Matcher.{MatcherRecord, without, is_apart}
-use Rattle.cq_board.specs.declared.edit.EditKind.TheVariants.{Withdraw}
+use Rattle.cq_atom.specs.declared.edit.EditKind.TheVariants.{Withdraw}
 use Rattle.cq_board.specs.declared.limits.Limits.{Limits}
 use Rattle.cq_board.specs.Pool.{PendingQuery, PoolRecord, name_of}
 use Rattle.cq_board.specs.Edits.{is_named, edited}

@@ -6,16 +6,12 @@ use Rattle.cq_atom.specs.declared.fault.Part.{Part}
 use Rattle.cq_atom.specs.declared.fault.Part.TheVariants.{Posts, Heads}
 use Rattle.cq_atom.specs.Atom.{AtomRecord, RowRecord}
 use Rattle.cq_atom.specs.Query.{QueryRecord}
+use Rattle.cq_atom.specs.declared.edit.EditKind.TheVariants.{Post, Withdraw, Insert, Delete}
+use Rattle.cq_atom.specs.Edit.{Edit}
 use Rattle.cq_rel.specs.Tables.{Declaration, arity_in, TablesRecord, has_row, with_row, without_row}
-use Rattle.cq_board.specs.declared.edit.EditKind.{EditKind}
-use Rattle.cq_board.specs.declared.edit.EditKind.TheVariants.{Post, Withdraw, Insert, Delete}
 use Rattle.cq_board.specs.declared.edit.Why.{Why}
 use Rattle.cq_board.specs.declared.edit.Why.TheVariants.{PoolFull, NameTaken, NotAnswer, UnknownRelation, Arity, NoSuchName, RowPresent, RowAbsent}
 use Rattle.cq_board.specs.Pool.{PendingQuery, PoolRecord, is_declared}
-
--- An edit, by the bytes of its names and by the parts of its query or row.
-abbrev pub Edit : Type 0
-Edit = EditKind (List ℕ) QueryRecord RowRecord
 
 -- The query is pending under that name.
 abbrev pub is_named : List ℕ → PendingQuery → Bool

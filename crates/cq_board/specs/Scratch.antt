@@ -2,12 +2,13 @@
 use Rattle.std.specs.Prelude.{◌≡◌, ℕ, List, [], ◌∷◌, ◌++◌, map, Option, Some, None, Result, Ok, Err}
 use Rattle.cq_atom.specs.Atom.{RowRecord}
 use Rattle.cq_atom.specs.Query.{QueryRecord}
-use Rattle.cq_board.specs.declared.edit.EditKind.TheVariants.{Post, Insert}
+use Rattle.cq_atom.specs.declared.edit.EditKind.TheVariants.{Post, Insert}
 use Rattle.cq_board.specs.declared.edit.Why.{Why}
 use Rattle.cq_board.specs.declared.scratch.ScratchFault.{ScratchFault}
 use Rattle.cq_board.specs.declared.scratch.ScratchFault.TheVariants.{Refused, NoMemory}
 use Rattle.cq_board.specs.Pool.{PoolRecord}
-use Rattle.cq_board.specs.Edits.{Edit, why, edited}
+use Rattle.cq_atom.specs.Edit.{Edit}
+use Rattle.cq_board.specs.Edits.{why, edited}
 
 -- The insertions of the rows, and then the postings of the queries.
 abbrev pub scratch_edits : List (List ℕ × QueryRecord) → List RowRecord → List Edit

@@ -7,13 +7,14 @@ use Rattle.cq_atom.specs.Query.{QueryRecord}
 use Rattle.cq_ground.specs.Grounding.{reads}
 use Rattle.cq_index.specs.Index.{is_candidate}
 use Rattle.cq_match.specs.declared.edge.Edge.{Edge}
-use Rattle.cq_board.specs.declared.edit.EditKind.TheVariants.{Post, Withdraw, Insert, Delete}
+use Rattle.cq_atom.specs.declared.edit.EditKind.TheVariants.{Post, Withdraw, Insert, Delete}
 use Rattle.cq_board.specs.declared.edit.Why.{Why}
 use Rattle.cq_board.specs.Pool.{PendingQuery, PoolRecord}
 use Rattle.cq_board.specs.Edges.{edges_of}
 use Rattle.cq_board.specs.Board.{is_matched_at, name_at, name_or_none}
 use Rattle.cq_board.specs.Named.{matched_named}
-use Rattle.cq_board.specs.Edits.{Edit, why, edited}
+use Rattle.cq_atom.specs.Edit.{Edit}
+use Rattle.cq_board.specs.Edits.{why, edited}
 
 -- What the pending queries offer.
 abbrev pub heads_of : List PendingQuery → List AtomRecord

@@ -2,7 +2,7 @@
 
 ghost use Rattle.std.specs.Prelude.{◌≡◌, length, OnOk, OnErr, IfOk, None};
 ghost use Rattle.std.specs.Option.{option_copied};
-ghost use Rattle.cq_board.specs.declared.edit.EditKind.TheVariants.{Post, Withdraw, Insert, Delete};
+ghost use Rattle.cq_atom.specs.declared.edit.EditKind.TheVariants.{Post, Withdraw, Insert, Delete};
 ghost use Rattle.cq_board.specs.Pool.{IsPool, opening_pool};
 ghost use Rattle.cq_board.specs.Edits.{why, edited, pool_after};
 ghost use Rattle.cq_board.specs.Board.{name_at};
@@ -10,13 +10,13 @@ ghost use Rattle.cq_board.specs.Work.{candidates, changes_after, changes_done, l
 ghost use Rattle.cq_board.specs.Steps.Stores.{pending_of, AreStores};
 ghost use Rattle.cq_board.specs.Views.{Admits};
 
-use crate::edit::{Edit, EditKind, Why};
+use crate::edit::Why;
 use crate::limits::Limits;
 use crate::refusal::{insert_why, post_why, refusal};
 use crate::row_change;
 use crate::stores::{self, Stores};
 use crate::work::Work;
-use cq_atom::{Name, Query, Row};
+use cq_atom::{Edit, EditKind, Name, Query, Row};
 use cq_rel::{Catalog, Tables};
 use std::alloc::{AllocError, Allocator, Global};
 use std::marker::Model;

@@ -1,38 +1,6 @@
-//! Edits of a pool.
+//! Why an edit of a pool is refused.
 
-use cq_atom::{Name, Part, Query, Row};
-use std::alloc::{Allocator, Global};
-
-/// What is asked of a pool, over what holds names, queries and rows. Contracts see an edit as an
-/// `EditKind` over the bytes of names and the records of queries and rows.
-#[derive(Drop)]
-pub enum EditKind<N, Q, R> {
-    /// Makes the query pending under the name, behind those that are pending.
-    Post {
-        /// The query's name.
-        name: N,
-        /// The query.
-        query: Q,
-    },
-    /// Takes a pending query back.
-    Withdraw {
-        /// The query's name.
-        name: N,
-    },
-    /// Adds a row.
-    Insert {
-        /// The row.
-        row: R,
-    },
-    /// Takes a row out.
-    Delete {
-        /// The row.
-        row: R,
-    },
-}
-
-/// An edit.
-pub type Edit<A = Global> = EditKind<Name<A>, Query<A>, Row<A>>;
+use cq_atom::Part;
 
 /// Why an edit is refused. Of the tests of one edit the first that holds is answered, in the order
 /// in which they stand here. Places count from 0.

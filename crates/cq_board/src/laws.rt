@@ -5,7 +5,8 @@ ghost use Rattle.cq_atom.specs.Atom.{AtomRecord};
 ghost use Rattle.cq_atom.specs.Unify.{Unify};
 ghost use Rattle.cq_board.specs.Supply.{unifies};
 ghost use Rattle.cq_board.specs.Pool.{PoolRecord, IsPool};
-ghost use Rattle.cq_board.specs.Edits.{Edit, pool_after};
+ghost use Rattle.cq_atom.specs.Edit.{Edit};
+ghost use Rattle.cq_board.specs.Edits.{pool_after};
 
 /// The test by which edges are defined is true exactly where two atoms unify, whatever the atoms.
 pub fn unifies_is_unify()

@@ -36,7 +36,7 @@ mod work;
 
 pub use board::Board;
 pub use choice::Choice;
-pub use edit::{Edit, EditKind, Why};
+pub use edit::Why;
 pub use heads::Heads;
 pub use laws::{pools_stay_good, unifies_is_unify};
 pub use limits::Limits;

@@ -1,7 +1,7 @@
 //! Why an edit is refused.
 
 ghost use Rattle.std.specs.Prelude.{◌≡◌, if◌then◌else◌, Some, None};
-ghost use Rattle.cq_board.specs.declared.edit.EditKind.TheVariants.{Post};
+ghost use Rattle.cq_atom.specs.declared.edit.EditKind.TheVariants.{Post};
 ghost use Rattle.cq_board.specs.declared.edit.Why.TheVariants.{RowPresent, RowAbsent};
 ghost use Rattle.cq_board.specs.Pool.{PoolRecord};
 ghost use Rattle.cq_board.specs.Edits.{is_taken, answer_why, arity_why, body_why, query_why, row_why, why};
@@ -9,10 +9,10 @@ ghost use Rattle.cq_board.specs.Steps.Stores.{pending_of};
 ghost use Rattle.cq_findings.specs.Findings.{FindingMap};
 ghost use Rattle.cq_rel.specs.Tables.{arity_in, has_row};
 
-use crate::edit::{Edit, EditKind, Why};
+use crate::edit::Why;
 use crate::limits::Limits;
 use crate::stores::Stores;
-use cq_atom::{Atom, Name, Part, Query, Row};
+use cq_atom::{Atom, Edit, EditKind, Name, Part, Query, Row};
 use cq_rel::{Catalog, Tables};
 use cq_roster::Roster;
 use std::alloc::Allocator;

@@ -1,7 +1,7 @@
 //! Boards from scratch.
 
 ghost use Rattle.std.specs.Prelude.{◌≡◌, [], ◌∷◌, map};
-ghost use Rattle.cq_board.specs.declared.edit.EditKind.TheVariants.{Insert, Post};
+ghost use Rattle.cq_atom.specs.declared.edit.EditKind.TheVariants.{Insert, Post};
 ghost use Rattle.cq_board.specs.declared.scratch.ScratchFault.TheVariants.{NoMemory};
 ghost use Rattle.cq_board.specs.Pool.{opening_pool};
 ghost use Rattle.cq_board.specs.Scratch.{scratch_edits, scratch_of, Makes};

@@ -15,7 +15,7 @@ ghost use Rattle.cq_match.specs.Matcher.{nothing, has_node, without, with_number
 ghost use Rattle.cq_roster.specs.Roster.{seat_of, place_named, is_taken_place};
 ghost use Rattle.cq_findings.specs.Findings.{FindingMap};
 ghost use Rattle.cq_links.specs.Links.{ends_of, candidate_pairs};
-ghost use Rattle.cq_board.specs.declared.edit.EditKind.TheVariants.{Withdraw};
+ghost use Rattle.cq_atom.specs.declared.edit.EditKind.TheVariants.{Withdraw};
 ghost use Rattle.cq_board.specs.Pool.{PendingQuery, PoolRecord};
 ghost use Rattle.cq_board.specs.Edits.{edited, is_named, is_taken};
 ghost use Rattle.cq_board.specs.Work.{candidates, lost, raised};

@@ -1,7 +1,8 @@
 -- Journals, and the pool that one leaves. (this project's profile)
 use Rattle.std.specs.Prelude.{List, fold}
 use Rattle.cq_board.specs.Pool.{PoolRecord}
-use Rattle.cq_board.specs.Edits.{Edit, pool_after}
+use Rattle.cq_atom.specs.Edit.{Edit}
+use Rattle.cq_board.specs.Edits.{pool_after}
 use Rattle.cq_desk.specs.declared.journal.Entry.{Entry}
 
 -- Accepted edits with their authors, the earliest first.

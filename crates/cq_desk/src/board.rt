@@ -4,7 +4,8 @@ ghost use Rattle.cq_board.specs.Edits.{why, pool_after};
 ghost use Rattle.cq_desk.specs.Steps.Laws.{refused_keeps};
 
 use crate::live::{Live, NoMemory};
-use cq_board::{Board, Edit, EditKind, Why};
+use cq_atom::Edit;
+use cq_board::{Board, Why};
 use std::alloc::Allocator;
 
 impl<A: Allocator + Copy> Live for Board<A> {
@@ -29,16 +30,7 @@ impl<A: Allocator + Copy> Live for Board<A> {
     }
 
     fn copy_edit(edit: &Edit<A>) -> Result<Edit<A>, NoMemory> {
-        match edit {
-            EditKind::Post { name, query } => {
-                let name = name.copy()?;
-                let query = query.copy()?;
-                Ok(EditKind::Post { name, query })
-            }
-            EditKind::Withdraw { name } => Ok(EditKind::Withdraw { name: name.copy()? }),
-            EditKind::Insert { row } => Ok(EditKind::Insert { row: row.copy()? }),
-            EditKind::Delete { row } => Ok(EditKind::Delete { row: row.copy()? }),
-        }
+        Ok(edit.copy()?)
     }
 
     ghost refused = { refused_keeps };

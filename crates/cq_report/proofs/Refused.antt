@@ -2,7 +2,8 @@
 use Rattle.std.proofs.Common.{◌≡◌, ap, refl}
 use Rattle.std.specs.Prelude.{Result, Err}
 use Rattle.cq_board.specs.declared.edit.Why.{Why}
-use Rattle.cq_board.specs.Edits.{Edit, why, pool_after}
+use Rattle.cq_atom.specs.Edit.{Edit}
+use Rattle.cq_board.specs.Edits.{why, pool_after}
 use Rattle.cq_desk.specs.declared.event.Event.{Event}
 use Rattle.cq_desk.specs.declared.event.Answer.{Answer}
 use Rattle.cq_desk.specs.declared.event.StepFault.{StepFault}

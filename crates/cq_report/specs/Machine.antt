@@ -5,10 +5,12 @@ use Rattle.cq_rel.specs.Tables.{Declaration, declaration, declare_fault}
 use Rattle.cq_text.specs.declared.form.Form.{Form}
 use Rattle.cq_text.specs.declared.form.Form.TheVariants.{One}
 use Rattle.cq_text.specs.declared.command.CommandKind.TheVariants as commands
+use Rattle.cq_text.specs.declared.command.SetupLine.{SetupLine}
+use Rattle.cq_text.specs.declared.command.SetupLine.TheVariants as setups
 use Rattle.cq_board.specs.declared.limits.Limits.{Limits}
-use Rattle.cq_board.specs.declared.edit.EditKind.TheVariants as edits
 use Rattle.cq_board.specs.Pool.{PoolRecord, opening_pool}
-use Rattle.cq_board.specs.Edits.{Edit, why, pool_after}
+use Rattle.cq_atom.specs.Edit.{Edit}
+use Rattle.cq_board.specs.Edits.{why, pool_after}
 use Rattle.cq_desk.specs.declared.event.Event.{Event}
 use Rattle.cq_desk.specs.declared.event.Event.TheVariants as events
 use Rattle.cq_desk.specs.Machine.{opening_machine, answer_to, published_content}
@@ -67,17 +69,18 @@ form_of (Some form) = form
 abbrev pub form_in : State → Form
 form_in state = form_of state.heading
 
+-- The form of a script whose first line is this one of a setup: that which it names, and else form 1.
+abbrev pub named_form : SetupLine (List ℕ) → Form
+named_form (setups.Relation name arity) = One
+named_form (setups.Board form) = form
+named_form (setups.Limits pool journal) = One
+
 -- The first line that is not blank settles the form: that which it names, and else form 1.
 abbrev pub headed : Option Form → Reading → Option Form
 headed (Some form) reading = Some form
 headed None (Reads commands.Blank) = None
-headed None (Reads (commands.Board form)) = Some form
-headed None (Reads (commands.Relation name arity)) = Some One
-headed None (Reads (commands.Limits pool journal)) = Some One
-headed None (Reads (commands.Post name query)) = Some One
-headed None (Reads (commands.Withdraw name)) = Some One
-headed None (Reads (commands.Insert row)) = Some One
-headed None (Reads (commands.Delete row)) = Some One
+headed None (Reads (commands.Setup line)) = Some (named_form line)
+headed None (Reads (commands.Edit edit)) = Some One
 headed None (Reads commands.Publish) = Some One
 headed None (Reads commands.Show) = Some One
 headed None (Faulty kind offset) = Some One
@@ -90,19 +93,20 @@ board_line (Some form) = late_line
 -- ---- the setup
 
 -- A relation is declared behind the others, or it is told why not.
-abbrev pub declared : Option CatalogFault → SetupRecord → Declaration → Staged × List ℕ
-declared None setup relation = (Setup (record setup { catalog = setup.catalog ++ (relation ∷ []) }), ok_line)
-declared (Some fault) setup relation = (Setup setup, catalog_line fault)
+abbrev pub declared : Option CatalogFault → SetupRecord → Declaration → SetupRecord × List ℕ
+declared None setup relation = (record setup { catalog = setup.catalog ++ (relation ∷ []) }, ok_line)
+declared (Some fault) setup relation = (setup, catalog_line fault)
 
--- A line that declares a relation: behind the setup it is too late.
-abbrev pub declare : Staged → List ℕ → ℕ → Staged × List ℕ
-declare (Setup setup) name arity = declared (declare_fault setup.catalog name arity) setup (declaration name arity)
-declare (Serving serving) name arity = (Serving serving, late_line)
+-- The setup behind a line of it, where this form was settled before, if any, and the reply. The latest limits count.
+abbrev pub set_up : SetupRecord → Option Form → SetupLine (List ℕ) → SetupRecord × List ℕ
+set_up setup heading (setups.Relation name arity) = declared (declare_fault setup.catalog name arity) setup (declaration name arity)
+set_up setup heading (setups.Board form) = (setup, board_line heading)
+set_up setup heading (setups.Limits pool journal) = (record setup { limits = record { pool = pool; journal = journal } }, ok_line)
 
--- A line of limits: the latest count, and behind the setup it is too late.
-abbrev pub limit : Staged → Limits → Staged × List ℕ
-limit (Setup setup) limits = (Setup (record setup { limits = limits }), ok_line)
-limit (Serving serving) limits = (Serving serving, late_line)
+-- Behind the setup each line of a setup is too late.
+abbrev pub prepare : Staged → Option Form → SetupLine (List ℕ) → Staged × List ℕ
+prepare (Setup setup) heading line = (Setup (set_up setup heading line).0, (set_up setup heading line).1)
+prepare (Serving serving) heading line = (Serving serving, late_line)
 
 -- ---- the floor
 
@@ -136,13 +140,8 @@ happen state event = (Serving (after (serving_of state) event), told (serving_of
 -- The stage behind a line, and the reply to it, where this form was settled before, if any. A blank line and a fault of text change nothing.
 abbrev pub staged : Staged → Option Form → Reading → Staged × List ℕ
 staged stage heading (Reads commands.Blank) = (stage, [])
-staged stage heading (Reads (commands.Board form)) = (stage, board_line heading)
-staged stage heading (Reads (commands.Relation name arity)) = declare stage name arity
-staged stage heading (Reads (commands.Limits pool journal)) = limit stage (record { pool = pool; journal = journal })
-staged stage heading (Reads (commands.Post name query)) = happen stage (events.Enter 0 (edits.Post name query))
-staged stage heading (Reads (commands.Withdraw name)) = happen stage (events.Enter 0 (edits.Withdraw name))
-staged stage heading (Reads (commands.Insert row)) = happen stage (events.Enter 0 (edits.Insert row))
-staged stage heading (Reads (commands.Delete row)) = happen stage (events.Enter 0 (edits.Delete row))
+staged stage heading (Reads (commands.Setup line)) = prepare stage heading line
+staged stage heading (Reads (commands.Edit edit)) = happen stage (events.Enter 0 edit)
 staged stage heading (Reads commands.Publish) = happen stage events.Publish
 staged stage heading (Reads commands.Show) = happen stage (events.Look 0)
 staged stage heading (Faulty kind offset) = (stage, fault_line kind offset)

@@ -4,19 +4,18 @@ ghost use Rattle.std.specs.Prelude.{◌≡◌, ◌<◌, ◌^◌, OnOk, IfOk};
 ghost use Rattle.cq_desk.specs.declared.event.Event.TheVariants.{Enter};
 ghost use Rattle.cq_report.specs.declared.stage.Stage.TheVariants.{Serving};
 ghost use Rattle.cq_report.specs.Reading.{Reads};
-ghost use Rattle.cq_report.specs.Machine.{begin_stage, serving_of, declare, limit, happen, staged};
+ghost use Rattle.cq_report.specs.Machine.{begin_stage, serving_of, prepare, happen, staged};
 ghost use Rattle.cq_report.specs.Steps.Put.{Put};
 
 use crate::fault::RunFault;
 use crate::happening::{BoardFloor, happen, open};
 use crate::output::Output;
-use crate::reply::{board_line, catalog_line, late_line, ok_line};
+use crate::reply::late_line;
 use crate::setup::Setup;
 use crate::stage::Stage;
-use cq_board::{Edit, EditKind, Limits};
+use cq_atom::{Edit, Name};
 use cq_desk::Event;
-use cq_rel::CatalogFault;
-use cq_text::{Command, CommandKind, Form, Sink};
+use cq_text::{Command, CommandKind, Form, SetupLine, Sink};
 use std::alloc::{AllocError, Allocator};
 use std::marker::Model;
 use std::mem;
@@ -50,45 +49,33 @@ impl<A: Allocator + Copy> Clerk<A> {
         }
     }
 
-    /// Answers a line that declares a relation.
-    fn declare<W: Sink>(
+    /// Takes a line of a setup, where this form was settled before it, if any, and gives the reply.
+    fn prepare(
         &mut self,
-        name: &str,
-        arity: usize,
-        output: &mut Output<'_, W, A>,
-    ) -> Result<(), RunFault>
-        requires { W.write_failures output.old.sink.now < 2 ^ 62 }
-        ensures state { OnOk result (self.new ≡ (declare self.old name.now arity).0) }
-        ensures put { Put W.taken W.write_failures output.old output.new (declare self.old name.now arity).1 result }
+        heading: Option<Form>,
+        line: &SetupLine<Name<A>>,
+    ) -> Result<&'static str, AllocError>
+        ensures { IfOk result (λ reply. (self.new, reply.now) ≡ prepare self.old heading line.now) }
     {
-        let declared = match &mut self.stage {
-            Stage::Setup(setup) => setup.declare(name, arity),
-            Stage::Serving(_) => return output.put_text(late_line()),
-        };
-        let Err(fault) = declared else {
-            return output.put_text(ok_line());
-        };
-        match fault {
-            CatalogFault::NoMemory => Err(RunFault::NoMemory),
-            _ => output.put_text(catalog_line(fault)),
+        match &mut self.stage {
+            Stage::Setup(setup) => setup.set_up(heading, line),
+            Stage::Serving(_) => Ok(late_line()),
         }
     }
 
-    /// Answers a line of limits.
-    fn limit<W: Sink>(
+    /// Answers a line of a setup, where this form was settled before it, if any.
+    fn answer<W: Sink>(
         &mut self,
-        limits: Limits,
+        heading: Option<Form>,
+        line: &SetupLine<Name<A>>,
         output: &mut Output<'_, W, A>,
     ) -> Result<(), RunFault>
         requires { W.write_failures output.old.sink.now < 2 ^ 62 }
-        ensures state { OnOk result (self.new ≡ (limit self.old limits).0) }
-        ensures put { Put W.taken W.write_failures output.old output.new (limit self.old limits).1 result }
+        ensures state { OnOk result (self.new ≡ (prepare self.old heading line.now).0) }
+        ensures put { Put W.taken W.write_failures output.old output.new (prepare self.old heading line.now).1 result }
     {
-        match &mut self.stage {
-            Stage::Setup(setup) => setup.limit(limits),
-            Stage::Serving(_) => return output.put_text(late_line()),
-        }
-        output.put_text(ok_line())
+        let reply = self.prepare(heading, line)?;
+        output.put_text(reply)
     }
 
     /// The floor opens, where the setup lasts. A floor is large, and stands in the frame of this call alone: so no other
@@ -176,13 +163,8 @@ impl<A: Allocator + Copy> Clerk<A> {
     {
         match command {
             CommandKind::Blank => Ok(()),
-            CommandKind::Board { form: _form } => output.put_text(board_line(heading)),
-            CommandKind::Relation { name, arity } => self.declare(name.as_str(), arity, output),
-            CommandKind::Limits { pool, journal } => self.limit(Limits { pool, journal }, output),
-            CommandKind::Post { name, query } => self.enter(EditKind::Post { name, query }, output),
-            CommandKind::Withdraw { name } => self.enter(EditKind::Withdraw { name }, output),
-            CommandKind::Insert { row } => self.enter(EditKind::Insert { row }, output),
-            CommandKind::Delete { row } => self.enter(EditKind::Delete { row }, output),
+            CommandKind::Setup(line) => self.answer(heading, &line, output),
+            CommandKind::Edit(edit) => self.enter(edit, output),
             CommandKind::Publish => self.happen(Event::Publish, output),
             CommandKind::Show => self.happen(Event::Look { session: SESSION }, output),
         }

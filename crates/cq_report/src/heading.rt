@@ -2,9 +2,10 @@
 
 ghost use Rattle.std.specs.Prelude.{◌≡◌, None};
 ghost use Rattle.cq_report.specs.Reading.{Reads};
-ghost use Rattle.cq_report.specs.Machine.{form_of, headed};
+ghost use Rattle.cq_report.specs.Machine.{form_of, headed, named_form};
 
-use cq_text::{Command, CommandKind, Form};
+use cq_atom::Name;
+use cq_text::{Command, CommandKind, Form, SetupLine};
 use std::alloc::Allocator;
 
 /// The form in which the next line is read, where this one is settled, if any.
@@ -23,24 +24,27 @@ pub fn headed<A: Allocator>(heading: Option<Form>, command: &Command<A>) -> Opti
 {
     match heading {
         Some(form) => Some(form),
-        None => named(command),
+        None => settled(command),
+    }
+}
+
+/// The form of a script whose first line is this one of a setup.
+fn named_form<A: Allocator>(line: &SetupLine<Name<A>>) -> Form
+    ensures { result ≡ named_form line.now }
+{
+    match line {
+        SetupLine::Board { form } => *form,
+        SetupLine::Relation { .. } | SetupLine::Limits { .. } => Form::One,
     }
 }
 
 /// The form that a command settles, where it is the first one, if any.
-fn named<A: Allocator>(command: &Command<A>) -> Option<Form>
+fn settled<A: Allocator>(command: &Command<A>) -> Option<Form>
     ensures { result ≡ headed None (Reads command.now) }
 {
     match command {
         CommandKind::Blank => None,
-        CommandKind::Board { form } => Some(*form),
-        CommandKind::Relation { .. } => Some(Form::One),
-        CommandKind::Limits { .. } => Some(Form::One),
-        CommandKind::Post { .. } => Some(Form::One),
-        CommandKind::Withdraw { .. } => Some(Form::One),
-        CommandKind::Insert { .. } => Some(Form::One),
-        CommandKind::Delete { .. } => Some(Form::One),
-        CommandKind::Publish => Some(Form::One),
-        CommandKind::Show => Some(Form::One),
+        CommandKind::Setup(line) => Some(named_form(line)),
+        CommandKind::Edit(_) | CommandKind::Publish | CommandKind::Show => Some(Form::One),
     }
 }

@@ -30,10 +30,7 @@ pub use heading::{form_of, headed};
 pub use limits::{JOURNAL_LIMIT, POOL_LIMIT};
 pub use numbering::Numbering;
 pub use playing::{Played, read_script};
-pub use reply::{
-    board_line, catalog_line, entered_line, fault_line, late_line, ok_line, published_line,
-    refusal_line, show_line,
-};
+pub use reply::{entered_line, fault_line, late_line, published_line, refusal_line, show_line};
 pub use running::{first_line, run};
 pub use setup::Setup;
 pub use stage::Stage;

@@ -58,7 +58,7 @@ fn place_line<A: Allocator>(alloc: A, words: &str, place: usize) -> Result<Strin
 }
 
 /// The reply to what is accepted before the floor serves.
-pub fn ok_line() -> &'static str
+pub(crate) fn ok_line() -> &'static str
     ensures { result.now ≡ ok_line }
 {
     "ok\n"
@@ -72,7 +72,7 @@ pub fn late_line() -> &'static str
 }
 
 /// The reply to a line that names the form, where this one was settled before it, if any.
-pub fn board_line(heading: Option<Form>) -> &'static str
+pub(crate) fn board_line(heading: Option<Form>) -> &'static str
     ensures { result.now ≡ board_line heading }
 {
     match heading {
@@ -82,7 +82,7 @@ pub fn board_line(heading: Option<Form>) -> &'static str
 }
 
 /// The reply to a relation that is not declared. Want of memory has none.
-pub fn catalog_line(fault: CatalogFault) -> &'static str
+pub(crate) fn catalog_line(fault: CatalogFault) -> &'static str
     ensures { result.now ≡ catalog_line fault }
 {
     match fault {

@@ -1,14 +1,16 @@
 //! The setup of a script.
 
-ghost use Rattle.std.specs.Prelude.{◌≡◌, ◌++◌, ◌∷◌, [], OnOk, OnErr};
-ghost use Rattle.cq_atom.specs.Answer.{Answers};
+ghost use Rattle.std.specs.Prelude.{◌≡◌, OnErr, IfOk};
 ghost use Rattle.cq_rel.specs.Tables.{declaration, declare_fault};
-ghost use Rattle.cq_report.specs.Machine.{begin_setup};
+ghost use Rattle.cq_report.specs.Machine.{begin_setup, declared, set_up};
 
 use crate::limits::{JOURNAL_LIMIT, POOL_LIMIT};
+use crate::reply::{board_line, catalog_line, ok_line};
+use cq_atom::Name;
 use cq_board::Limits;
 use cq_rel::{Catalog, CatalogFault};
-use std::alloc::Allocator;
+use cq_text::{Form, SetupLine};
+use std::alloc::{AllocError, Allocator};
 use std::marker::Model;
 
 /// The relations that were declared so far, and the latest limits.
@@ -46,25 +48,43 @@ impl<A: Allocator> Setup<A> {
     {
         (self.catalog, self.limits)
     }
-
-    /// Sets the limits.
-    pub fn limit(&mut self, limits: Limits)
-        ensures { self.new ≡ record self.old { limits = limits } }
-    {
-        self.limits = limits;
-    }
 }
 
 impl<A: Allocator + Clone> Setup<A> {
-    /// Declares a relation, behind those that are declared.
-    ///
-    /// # Errors
-    /// As those of `Catalog::declare`. The setup stays as it was then.
-    pub fn declare(&mut self, name: &str, arity: usize) -> Result<(), CatalogFault>
-        ensures answer { Answers CatalogFault.NoMemory (declare_fault self.old.catalog name.now arity) tt result }
-        ensures ok { OnOk result (self.new ≡ record self.old { catalog = self.old.catalog ++ declaration name.now arity ∷ [] }) }
+    /// Declares a relation, behind those that are declared, and gives the reply.
+    fn declare(&mut self, name: &str, arity: usize) -> Result<&'static str, AllocError>
+        ensures ok { IfOk result (λ reply. (self.new, reply.now) ≡ declared (declare_fault self.old.catalog name.now arity) self.old (declaration name.now arity)) }
         ensures err { OnErr result (self.new ≡ self.old) }
     {
-        self.catalog.declare(name, arity)
+        match self.catalog.declare(name, arity) {
+            Ok(()) => Ok(ok_line()),
+            Err(CatalogFault::NoMemory) => Err(AllocError),
+            Err(fault) => Ok(catalog_line(fault)),
+        }
+    }
+
+    /// Takes a line of the setup, where this form was settled before it, if any, and gives the reply.
+    ///
+    /// # Errors
+    /// `AllocError` where a growth was refused. The setup stays as it was then.
+    pub fn set_up(
+        &mut self,
+        heading: Option<Form>,
+        line: &SetupLine<Name<A>>,
+    ) -> Result<&'static str, AllocError>
+        ensures ok { IfOk result (λ reply. (self.new, reply.now) ≡ set_up self.old heading line.now) }
+        ensures err { OnErr result (self.new ≡ self.old) }
+    {
+        match line {
+            SetupLine::Relation { name, arity } => self.declare(name.as_str(), *arity),
+            SetupLine::Board { .. } => Ok(board_line(heading)),
+            SetupLine::Limits { pool, journal } => {
+                self.limits = Limits {
+                    pool: *pool,
+                    journal: *journal,
+                };
+                Ok(ok_line())
+            }
+        }
     }
 }

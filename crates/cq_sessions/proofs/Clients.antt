@@ -4,7 +4,8 @@ use Rattle.std.proofs.lemmas.List.{length-map, map-append, take_all}
 use mathlib.Core.List.{IsPrefix}
 use Rattle.cq_board.specs.declared.edit.Why.{Why}
 use Rattle.cq_board.specs.Pool.{PoolRecord}
-use Rattle.cq_board.specs.Edits.{Edit, why, pool_after}
+use Rattle.cq_atom.specs.Edit.{Edit}
+use Rattle.cq_board.specs.Edits.{why, pool_after}
 use Rattle.cq_desk.specs.History.{History, edits_of}
 use Rattle.std.specs.Prelude.{IfSome, MatchOption}
 use Rattle.cq_desk.specs.declared.reply.End.{End}

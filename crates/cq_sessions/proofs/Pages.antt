@@ -3,7 +3,7 @@ use Rattle.std.proofs.Common.{◌≡◌, ℕ, ◌+◌, List, [], ◌∷◌, ◌+
 use Rattle.std.specs.Prelude.{codes, decimal}
 use Rattle.std.specs.List.{slice_get}
 use Rattle.cq_desk.specs.declared.journal.Entry.{Entry}
-use Rattle.cq_board.specs.Edits.{Edit}
+use Rattle.cq_atom.specs.Edit.{Edit}
 use Rattle.cq_sessions.specs.Script.{Sheet, entry_lines, entries_from, replies_from, sheets_from}
 use Rattle.cq_board.proofs.Pieces.{ahead_at}
 

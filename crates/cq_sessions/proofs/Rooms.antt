@@ -7,7 +7,7 @@ use Rattle.cq_desk.specs.History.{edits_of}
 use Rattle.cq_desk.specs.Replies.{journal_edits}
 use Rattle.cq_room.specs.Sessions.{SessionRecord, newcomers}
 use Rattle.cq_board.specs.Pool.{PoolRecord}
-use Rattle.cq_board.specs.Edits.{Edit}
+use Rattle.cq_atom.specs.Edit.{Edit}
 use Rattle.cq_sessions.specs.declared.fault.ServeFault.{ServeFault}
 use Rattle.cq_sessions.specs.declared.fault.ServeFault.TheVariants as serves
 use Rattle.cq_sessions.specs.declared.seat.Done.{Done}

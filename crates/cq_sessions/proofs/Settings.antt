@@ -1,6 +1,12 @@
 -- Lines of a setup, one after another.
 use Rattle.std.proofs.Common.{◌≡◌, ℕ, ◌<◌, List, [], ◌∷◌, ◌++◌, true, false, length, map, refl, sym, ap, subst, ◌∙◌, append_assoc}
-use Rattle.std.specs.Prelude.{Bool, Option, None, MatchBool}
+use Rattle.std.specs.Prelude.{Bool, not, Option, None, Some, MatchBool, if◌then◌else◌}
+use Rattle.cq_rel.specs.declared.fault.CatalogFault.{CatalogFault}
+use Rattle.cq_rel.specs.declared.fault.CatalogFault.TheVariants.{BadName, BadArity, Declared, CatalogFull, NoMemory}
+use Rattle.cq_rel.specs.Tables.{Declaration, declaration, declare_fault}
+use Rattle.cq_text.specs.declared.command.CommandKind.TheVariants as commands
+use Rattle.cq_text.specs.declared.command.SetupLine.{SetupLine}
+use Rattle.cq_text.specs.declared.command.SetupLine.TheVariants.{Relation, Board, Limits}
 use Rattle.cq_text.specs.declared.form.Form.{Form}
 use Rattle.cq_text.specs.Grammar.{CommandContent, StandsFor}
 use Rattle.cq_sessions.specs.declared.sheet.Line.{Line}
@@ -8,7 +14,8 @@ use Rattle.cq_sessions.specs.declared.sheet.Line.TheVariants.{Told}
 use Rattle.cq_report.specs.Lines.{lines_of}
 use Rattle.cq_report.specs.Reading.{Reading, Reads, IsReading, AreReadIn}
 use Rattle.cq_report.specs.declared.numbering.Numbering.TheVariants.{Plain}
-use Rattle.cq_report.specs.Machine.{State, SetupRecord, begin_state, begin_setup, form_of, form_in, headed, next, reply}
+use Rattle.cq_report.specs.declared.stage.Stage.TheVariants as stages
+use Rattle.cq_report.specs.Machine.{State, SetupRecord, begin_state, begin_setup, form_of, form_in, headed, declared, set_up, next, reply}
 use Rattle.cq_report.specs.Output.{AreReadFrom, state_after}
 use Rattle.cq_sessions.specs.Script.{Sheet}
 use Rattle.cq_sessions.specs.Sessions.{is_of_setup, in_setup, IsSetBy, BeginsBoard, setup_sheet, told_or_none}
@@ -101,3 +108,36 @@ when_true false P Q e h = cc
 pub when_false : (b : Bool) (P Q : Type 0) → b ≡ false → MatchBool b P Q → Q
 when_false true P Q e h = cc
 when_false false P Q e h = h
+
+-- why a relation is not declared is never want of memory
+fault_known : (named fits free : Bool) (there : Option ℕ)
+    → (if not named then Some BadName else (if not fits then Some BadArity else elim there [ Some n ↦ Some Declared | None ↦ (if free then None else Some CatalogFull) ])) ≡ Some NoMemory → ⊥
+fault_known false fits free there e = cc
+fault_known true false free there e = cc
+fault_known true true free (Some n) e = cc
+fault_known true true true None e = cc
+fault_known true true false None e = cc
+
+told_declared : (fault : Option CatalogFault) (setup : SetupRecord) (relation : Declaration) → (fault ≡ Some NoMemory → ⊥) → told_or_none (declared fault setup relation).1 ≡ Some (declared fault setup relation).1
+told_declared None setup relation known = refl
+told_declared (Some BadName) setup relation known = refl
+told_declared (Some BadArity) setup relation known = refl
+told_declared (Some Declared) setup relation known = refl
+told_declared (Some CatalogFull) setup relation known = refl
+told_declared (Some NoMemory) setup relation known = absurd (known refl)
+
+-- each line of a setup has a reply
+told_set_up : (setup : SetupRecord) (heading : Option Form) (line : SetupLine (List ℕ)) → told_or_none (set_up setup heading line).1 ≡ Some (set_up setup heading line).1
+told_set_up setup heading (Relation name arity) =
+    told_declared (declare_fault setup.catalog name arity) setup (declaration name arity) (fault_known _ _ _ _)
+told_set_up setup None (Board form) = refl
+told_set_up setup (Some other) (Board form) = refl
+told_set_up setup heading (Limits pool journal) = refl
+
+pub sets_up : (heading : Option Form) (setup setup' : SetupRecord) (sheet sheet' : SheetRecord) (line : SetupLine (List ℕ)) (told : List ℕ) → (setup', told) ≡ set_up setup heading line
+    → sheet' ≡ record sheet { batch = sheet.batch ++ Told (Some told) ∷ [] } → Sets heading setup sheet setup' sheet' (Reads (commands.Setup line))
+sets_up heading setup setup' sheet sheet' line told is now = record {
+  of_setup = refl;
+  stage = ap (λ (p : SetupRecord × List ℕ). stages.Setup p.0) (sym is);
+  told = now ∙ ap (λ (reply : Option (List ℕ)). record sheet { batch = sheet.batch ++ Told reply ∷ [] }) (ap (λ (p : SetupRecord × List ℕ). Some p.1) is ∙ sym (told_set_up setup heading line));
+}

@@ -10,7 +10,8 @@ use Rattle.std.proofs.lemmas.Bool.Decides.{nat_tests}
 use mathlib.Core.List.{IsPrefix}
 use Rattle.cq_board.specs.declared.edit.Why.{Why}
 use Rattle.cq_board.specs.Pool.{PoolRecord}
-use Rattle.cq_board.specs.Edits.{Edit, why, pool_after}
+use Rattle.cq_atom.specs.Edit.{Edit}
+use Rattle.cq_board.specs.Edits.{why, pool_after}
 use Rattle.cq_desk.specs.declared.journal.Entry.{Entry}
 use Rattle.cq_desk.specs.declared.reply.Reply.{Reply}
 use Rattle.cq_desk.specs.declared.reply.Reply.TheVariants.{Entered, JournalFull, Not}
@@ -99,13 +100,8 @@ module _ (opening : PoolRecord) (limit : ℕ) where
   served-stands (line ∷ lines) known asked rs own [] known' s = absurd s
   served-stands (Faulty kind offset ∷ lines) known asked rs own (told ∷ sheet) known' s = served-stands lines known asked rs own sheet known' s.1
   served-stands (Reads commands.Blank ∷ lines) known asked rs own (told ∷ sheet) known' s = served-stands lines known asked rs own sheet known' s.1
-  served-stands (Reads (commands.Relation name arity) ∷ lines) known asked rs own (told ∷ sheet) known' s = served-stands lines known asked rs own sheet known' s.1
-  served-stands (Reads (commands.Board form) ∷ lines) known asked rs own (told ∷ sheet) known' s = served-stands lines known asked rs own sheet known' s.1
-  served-stands (Reads (commands.Limits pool journal) ∷ lines) known asked rs own (told ∷ sheet) known' s = served-stands lines known asked rs own sheet known' s.1
-  served-stands (Reads (commands.Post name query) ∷ lines) known asked rs own (told ∷ sheet) known' (r, is, s) = served-stands lines known _ _ own sheet known' s
-  served-stands (Reads (commands.Withdraw name) ∷ lines) known asked rs own (told ∷ sheet) known' (r, is, s) = served-stands lines known _ _ own sheet known' s
-  served-stands (Reads (commands.Insert row) ∷ lines) known asked rs own (told ∷ sheet) known' (r, is, s) = served-stands lines known _ _ own sheet known' s
-  served-stands (Reads (commands.Delete row) ∷ lines) known asked rs own (told ∷ sheet) known' (r, is, s) = served-stands lines known _ _ own sheet known' s
+  served-stands (Reads (commands.Setup setup) ∷ lines) known asked rs own (told ∷ sheet) known' s = served-stands lines known asked rs own sheet known' s.1
+  served-stands (Reads (commands.Edit edit) ∷ lines) known asked rs own (told ∷ sheet) known' (r, is, s) = served-stands lines known _ _ own sheet known' s
   served-stands (Reads commands.Publish ∷ lines) known asked rs own (told ∷ sheet) known' (now, behind, submitted, is, at, s) =
       let rest = served-stands lines now [] [] behind sheet known' s in (
         subst (Stands known') (sym is) (stands-append known' (entered asked rs) behind (stands-longer now known' (entered asked rs) rest.1 (submitted-stands known now asked rs submitted)) rest.0),

@@ -6,8 +6,8 @@ use Rattle.cq_text.specs.declared.form.Form.{Form}
 use Rattle.cq_text.specs.declared.form.Form.TheVariants.{One, Two}
 use Rattle.cq_rel.specs.Tables.{Declaration}
 use Rattle.cq_board.specs.declared.limits.Limits.{Limits}
-use Rattle.cq_board.specs.declared.edit.EditKind.TheVariants.{Post, Withdraw, Insert, Delete}
-use Rattle.cq_board.specs.Edits.{Edit}
+use Rattle.cq_atom.specs.declared.edit.EditKind.TheVariants.{Post, Withdraw, Insert, Delete}
+use Rattle.cq_atom.specs.Edit.{Edit}
 use Rattle.cq_desk.specs.declared.journal.Entry.{Entry}
 use Rattle.cq_render.specs.Report.{line}
 

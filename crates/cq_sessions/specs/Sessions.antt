@@ -5,10 +5,10 @@ use mathlib.Core.List.{IsPrefix}
 use Rattle.cq_text.specs.Device.{TakesFront}
 use Rattle.cq_text.specs.declared.form.Form.{Form}
 use Rattle.cq_text.specs.declared.command.CommandKind.TheVariants as commands
-use Rattle.cq_board.specs.declared.edit.EditKind.TheVariants as edits
 use Rattle.cq_board.specs.declared.edit.Why.{Why}
 use Rattle.cq_board.specs.Pool.{PoolRecord, opening_pool}
-use Rattle.cq_board.specs.Edits.{Edit, why, pool_after}
+use Rattle.cq_atom.specs.Edit.{Edit}
+use Rattle.cq_board.specs.Edits.{why, pool_after}
 use Rattle.cq_desk.specs.Replies.{accepted, replies_at, journal_edits}
 use Rattle.cq_desk.specs.declared.journal.Entry.{Entry}
 use Rattle.cq_desk.specs.declared.reply.Reply.{Reply}
@@ -61,17 +61,9 @@ Served opening limit [] known asked rs own (told ∷ sheet) known' = ⊥
 Served opening limit (line ∷ lines) known asked rs own [] known' = ⊥
 Served opening limit (Faulty kind offset ∷ lines) known asked rs own (told ∷ sheet) known' = (told ≡ Some (fault_line kind offset)) × Served opening limit lines known asked rs own sheet known'
 Served opening limit (Reads commands.Blank ∷ lines) known asked rs own (told ∷ sheet) known' = (told ≡ None) × Served opening limit lines known asked rs own sheet known'
-Served opening limit (Reads (commands.Relation name arity) ∷ lines) known asked rs own (told ∷ sheet) known' = (told ≡ Some late_line) × Served opening limit lines known asked rs own sheet known'
-Served opening limit (Reads (commands.Board form) ∷ lines) known asked rs own (told ∷ sheet) known' = (told ≡ Some late_line) × Served opening limit lines known asked rs own sheet known'
-Served opening limit (Reads (commands.Limits pool journal) ∷ lines) known asked rs own (told ∷ sheet) known' = (told ≡ Some late_line) × Served opening limit lines known asked rs own sheet known'
-Served opening limit (Reads (commands.Post name query) ∷ lines) known asked rs own (told ∷ sheet) known' =
-    (r : Reply Why) × (told ≡ Some (edit_reply r)) × Served opening limit lines known (asked ++ edits.Post name query ∷ []) (rs ++ r ∷ []) own sheet known'
-Served opening limit (Reads (commands.Withdraw name) ∷ lines) known asked rs own (told ∷ sheet) known' =
-    (r : Reply Why) × (told ≡ Some (edit_reply r)) × Served opening limit lines known (asked ++ edits.Withdraw name ∷ []) (rs ++ r ∷ []) own sheet known'
-Served opening limit (Reads (commands.Insert row) ∷ lines) known asked rs own (told ∷ sheet) known' =
-    (r : Reply Why) × (told ≡ Some (edit_reply r)) × Served opening limit lines known (asked ++ edits.Insert row ∷ []) (rs ++ r ∷ []) own sheet known'
-Served opening limit (Reads (commands.Delete row) ∷ lines) known asked rs own (told ∷ sheet) known' =
-    (r : Reply Why) × (told ≡ Some (edit_reply r)) × Served opening limit lines known (asked ++ edits.Delete row ∷ []) (rs ++ r ∷ []) own sheet known'
+Served opening limit (Reads (commands.Setup setup) ∷ lines) known asked rs own (told ∷ sheet) known' = (told ≡ Some late_line) × Served opening limit lines known asked rs own sheet known'
+Served opening limit (Reads (commands.Edit edit) ∷ lines) known asked rs own (told ∷ sheet) known' =
+    (r : Reply Why) × (told ≡ Some (edit_reply r)) × Served opening limit lines known (asked ++ edit ∷ []) (rs ++ r ∷ []) own sheet known'
 Served opening limit (Reads commands.Publish ∷ lines) known asked rs own (told ∷ sheet) known' =
     (now : List Edit) × (behind : List (ℕ × Edit)) × Submitted opening limit known now asked rs × (own ≡ entered asked rs ++ behind) × (told ≡ Some (published_line (length now))) × Served opening limit lines now [] [] behind sheet known'
 Served opening limit (Reads commands.Show ∷ lines) known asked rs own (told ∷ sheet) known' =
@@ -95,13 +87,8 @@ FilesServed form opening limit knowns files owns sheets knowns' = ⊥
 abbrev pub is_of_setup : Reading → Bool
 is_of_setup (Faulty kind offset) = true
 is_of_setup (Reads commands.Blank) = true
-is_of_setup (Reads (commands.Relation name arity)) = true
-is_of_setup (Reads (commands.Board form)) = true
-is_of_setup (Reads (commands.Limits pool journal)) = true
-is_of_setup (Reads (commands.Post name query)) = false
-is_of_setup (Reads (commands.Withdraw name)) = false
-is_of_setup (Reads (commands.Insert row)) = false
-is_of_setup (Reads (commands.Delete row)) = false
+is_of_setup (Reads (commands.Setup setup)) = true
+is_of_setup (Reads (commands.Edit edit)) = false
 is_of_setup (Reads commands.Publish) = false
 is_of_setup (Reads commands.Show) = false
 

@@ -2,7 +2,7 @@
 
 ghost use Rattle.std.specs.Prelude.{◌≡◌, ◌<◌, ◌∷◌, ◌++◌, [], ℕ, List, length, None, IfNone, IfOk, IfSome, OnErr, MatchOption};
 ghost use mathlib.Core.List.{IsPrefix};
-ghost use Rattle.cq_board.specs.Edits.{Edit as EditContent};
+ghost use Rattle.cq_atom.specs.Edit.{Edit as EditContent};
 ghost use Rattle.cq_board.specs.Pool.{PoolRecord};
 ghost use Rattle.cq_desk.specs.History.{StandsLast, edits_of};
 ghost use Rattle.cq_desk.specs.Replies.{MatchEnd, accepted, entries_by, journal_edits};
@@ -13,7 +13,8 @@ ghost use Rattle.cq_sessions.specs.Steps.Clients.{IsOpened, TakesEdits, IsSubmis
 
 use crate::fault::ServeFault;
 use crate::sheet::Sheet;
-use cq_board::{Board, Edit, Why};
+use cq_atom::Edit;
+use cq_board::{Board, Why};
 use cq_desk::{End, Live, NoMemory, Reply};
 use cq_room::{Pair, Receipt, Room, RoomName, Session};
 use std::alloc::Allocator;
@@ -86,7 +87,7 @@ impl<
     A: Allocator + Copy,
 > Model for BoardClient<'a, L, N, R, A> {
     ghost use Rattle.std.specs.Prelude.{List};
-    ghost use Rattle.cq_board.specs.Edits.{Edit as EditContent};
+    ghost use Rattle.cq_atom.specs.Edit.{Edit as EditContent};
     ghost use Rattle.cq_sessions.specs.Steps.Clients.{known_in, IsSeated, IsOpened, TakesEdits};
 
     ghost Value = { List EditContent };

@@ -7,8 +7,8 @@ ghost use Rattle.cq_sessions.specs.Script.{edit_line, entries_from, entry_lines,
 ghost use Rattle.cq_text.specs.Print.{printed_row};
 
 use crate::sheet::Sheet;
-use cq_atom::{Name, Query, Row};
-use cq_board::{Edit, EditKind, Limits};
+use cq_atom::{Edit, EditKind, Name, Query, Row};
+use cq_board::Limits;
 use cq_desk::Entry;
 use cq_rel::Catalog;
 use cq_render::put;

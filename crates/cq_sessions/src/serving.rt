@@ -12,7 +12,6 @@ ghost use Rattle.cq_text.specs.declared.command.CommandKind.TheVariants.{Publish
 use crate::client::Client;
 use crate::fault::ServeFault;
 use crate::sheet::Sheet;
-use cq_board::EditKind;
 use cq_report::{fault_line, first_line, late_line, published_line, show_line};
 use cq_text::{Command, CommandKind, Form, TextFault, read_command};
 use std::alloc::{AllocError, Allocator};
@@ -72,19 +71,8 @@ fn serve_command<A: Allocator + Copy, C: Client<A>>(
 {
     match command {
         CommandKind::Blank => sheet.tell(None),
-        CommandKind::Relation {
-            name: _name,
-            arity: _arity,
-        } => tell(sheet, late(alloc)),
-        CommandKind::Board { form: _form } => tell(sheet, late(alloc)),
-        CommandKind::Limits {
-            pool: _pool,
-            journal: _journal,
-        } => tell(sheet, late(alloc)),
-        CommandKind::Post { name, query } => sheet.gather(EditKind::Post { name, query }),
-        CommandKind::Withdraw { name } => sheet.gather(EditKind::Withdraw { name }),
-        CommandKind::Insert { row } => sheet.gather(EditKind::Insert { row }),
-        CommandKind::Delete { row } => sheet.gather(EditKind::Delete { row }),
+        CommandKind::Setup(_line) => tell(sheet, late(alloc)),
+        CommandKind::Edit(edit) => sheet.gather(edit),
         CommandKind::Publish => publish(alloc, client, sheet),
         CommandKind::Show => show(alloc, client, sheet),
     }

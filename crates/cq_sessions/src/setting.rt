@@ -1,8 +1,7 @@
 //! The lines of SETUP before the board is begun.
 
-ghost use Rattle.std.specs.Prelude.{◌≡◌, ◌∷◌, ◌++◌, [], true, Option, None, Some, IfOk, OnOk, MatchBool};
-ghost use Rattle.cq_text.specs.declared.form.Form.{Form};
-ghost use Rattle.cq_report.specs.Machine.{SetupRecord, begin_setup, form_of, headed};
+ghost use Rattle.std.specs.Prelude.{◌≡◌, ◌∷◌, ◌++◌, [], true, None, Some, IfOk, OnOk, MatchBool};
+ghost use Rattle.cq_report.specs.Machine.{begin_setup, form_of, headed};
 ghost use Rattle.cq_report.specs.Reading.{Reads, Faulty};
 ghost use Rattle.cq_report.specs.Reply.{fault_line};
 ghost use Rattle.cq_sessions.specs.declared.sheet.Line.TheVariants.{Told};
@@ -12,12 +11,9 @@ ghost use Rattle.cq_sessions.specs.Steps.Settings.{Sets, Stays, SetsLine, IsBehi
 
 use crate::fault::ServeFault;
 use crate::sheet::Sheet;
-use cq_board::Limits;
-use cq_rel::CatalogFault;
-use cq_report::{
-    Setup, board_line, catalog_line, fault_line, first_line, form_of, headed, ok_line,
-};
-use cq_text::{Command, CommandKind, Form, Kind, TextFault, read_command};
+use cq_atom::Name;
+use cq_report::{Setup, fault_line, first_line, form_of, headed};
+use cq_text::{Command, CommandKind, Form, Kind, SetupLine, TextFault, read_command};
 use std::alloc::Allocator;
 
 /// What the first lines of SETUP set, what they were answered, and what stands behind them.
@@ -29,46 +25,18 @@ pub(crate) struct Setting<'a, A: Allocator> {
     pub(crate) rest: &'a [u8],
 }
 
-/// Answers a line that declares a relation.
-fn declare<A: Allocator + Copy>(
-    alloc: A,
-    setup: &mut Setup<A>,
-    sheet: &mut Sheet<A>,
-    name: &str,
-    arity: usize,
-) -> Result<(), ServeFault>
-    ensures { (heading : Option Form) → OnOk result (Sets heading setup.old sheet.old setup.new sheet.new (Reads (commands.Relation name.now arity))) }
-{
-    let text = match setup.declare(name, arity) {
-        Ok(()) => ok_line(),
-        Err(CatalogFault::NoMemory) => return Err(ServeFault::NoMemory),
-        Err(fault) => catalog_line(fault),
-    };
-    sheet.tell(Some(String::from_str(alloc, text)?))
-}
-
-/// Answers a line of limits.
-fn limit<A: Allocator + Copy>(
-    alloc: A,
-    setup: &mut Setup<A>,
-    sheet: &mut Sheet<A>,
-    limits: Limits,
-) -> Result<(), ServeFault>
-    ensures { (heading : Option Form) → OnOk result (Sets heading setup.old sheet.old setup.new sheet.new (Reads (commands.Limits limits.pool limits.journal))) }
-{
-    setup.limit(limits);
-    sheet.tell(Some(String::from_str(alloc, ok_line())?))
-}
-
-/// Answers a line that names the form, where this one was settled before it, if any.
-fn name_form<A: Allocator + Copy>(
+/// Answers a line of the setup, where this form was settled before it, if any.
+fn set_up<A: Allocator + Copy>(
     alloc: A,
     heading: Option<Form>,
+    setup: &mut Setup<A>,
     sheet: &mut Sheet<A>,
+    line: &SetupLine<Name<A>>,
 ) -> Result<(), ServeFault>
-    ensures { (form : Form) (setup : SetupRecord) → OnOk result (Sets heading setup sheet.old setup sheet.new (Reads (commands.Board form))) }
+    ensures { OnOk result (Sets heading setup.old sheet.old setup.new sheet.new (Reads (commands.Setup line.now))) }
 {
-    sheet.tell(Some(String::from_str(alloc, board_line(heading))?))
+    let reply = setup.set_up(heading, line)?;
+    sheet.tell(Some(String::from_str(alloc, reply)?))
 }
 
 /// Answers a command of the setup, and says whether it was one; another command ends the setup.
@@ -83,29 +51,8 @@ fn set_command<A: Allocator + Copy>(
 {
     match command {
         CommandKind::Blank => sheet.tell(None)?,
-        CommandKind::Relation { name, arity } => declare(
-            alloc,
-            setup,
-            sheet,
-            name.as_str(),
-            *arity,
-        )?,
-        CommandKind::Board { form: _form } => name_form(alloc, heading, sheet)?,
-        CommandKind::Limits { pool, journal } => limit(
-            alloc,
-            setup,
-            sheet,
-            Limits {
-                pool: *pool,
-                journal: *journal,
-            },
-        )?,
-        CommandKind::Post { .. }
-        | CommandKind::Withdraw { .. }
-        | CommandKind::Insert { .. }
-        | CommandKind::Delete { .. }
-        | CommandKind::Publish
-        | CommandKind::Show => return Ok(false),
+        CommandKind::Setup(line) => set_up(alloc, heading, setup, sheet, line)?,
+        CommandKind::Edit(_) | CommandKind::Publish | CommandKind::Show => return Ok(false),
     }
     Ok(true)
 }

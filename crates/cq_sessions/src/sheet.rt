@@ -5,7 +5,8 @@ ghost use Rattle.cq_sessions.specs.Sessions.{edit_reply};
 ghost use Rattle.cq_sessions.specs.Steps.Sheets.{blank, filled, line_map, told_in};
 
 use crate::fault::ServeFault;
-use cq_board::{Edit, Why};
+use cq_atom::Edit;
+use cq_board::Why;
 use cq_desk::{Reply, StepFault};
 use cq_report::{entered_line, refusal_line};
 use std::alloc::{AllocError, Allocator};

@@ -6,7 +6,7 @@ ghost use Rattle.cq_sessions.specs.Steps.Sheets.{numbers_of};
 ghost use Rattle.cq_sessions.specs.Steps.Rooms.{AreTold, numbers_told};
 
 use crate::sheet::Sheet;
-use cq_board::Edit;
+use cq_atom::Edit;
 use cq_desk::Entry;
 use std::alloc::{AllocError, Allocator};
 

@@ -6,7 +6,8 @@ use crate::samples::{KRAMER_AND_JERRY, LIMITS, Setup, TRAVEL, WORKED, catalog, e
 use crate::scratch::{Lists, is_worked, lists_of};
 use crate::shown::{other_look, page_of};
 use crate::views::{BY_SLIP, CROWD, CROWD_SHOWN, JERRY_WAITS, PAIR, SLIPS};
-use cq_board::{Board, Edit, ScratchFault};
+use cq_atom::Edit;
+use cq_board::{Board, ScratchFault};
 use cq_rel::Catalog;
 use cq_tests_growths::{Outcome, Refusing, Tried, refusals};
 use std::alloc::{AllocError, Allocator, Global};

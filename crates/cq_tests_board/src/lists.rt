@@ -5,7 +5,8 @@ use crate::page::Page;
 use crate::samples::{begun, edit};
 use crate::scratch::{Lists, page_from};
 use crate::shown::page_of;
-use cq_board::{Board, Edit, Limits, ScratchFault};
+use cq_atom::Edit;
+use cq_board::{Board, Limits, ScratchFault};
 use std::alloc::{AllocError, Global};
 use std::mem::{drop, replace};
 

@@ -2,7 +2,8 @@
 
 use crate::page::Page;
 use crate::shown::{other_look, page_of};
-use cq_board::{Board, Edit, EditKind, Limits, Why};
+use cq_atom::Edit;
+use cq_board::{Board, Limits, Why};
 use cq_rel::Catalog;
 use cq_text::{CommandKind, Form, read_command};
 use std::alloc::{AllocError, Allocator};
@@ -42,10 +43,7 @@ pub const WORKED: Setup = Setup {
 /// The edit that a line of a script asks for; a line of no edit is want of memory.
 pub fn edit<A: Allocator + Copy>(alloc: A, line: &[u8]) -> Result<Edit<A>, AllocError> {
     match read_command(alloc, line, Form::One) {
-        Ok(CommandKind::Post { name, query }) => Ok(EditKind::Post { name, query }),
-        Ok(CommandKind::Withdraw { name }) => Ok(EditKind::Withdraw { name }),
-        Ok(CommandKind::Insert { row }) => Ok(EditKind::Insert { row }),
-        Ok(CommandKind::Delete { row }) => Ok(EditKind::Delete { row }),
+        Ok(CommandKind::Edit(edit)) => Ok(edit),
         _ => Err(AllocError),
     }
 }

@@ -4,8 +4,8 @@ use crate::page::Page;
 use crate::samples::{KRAMER_AND_JERRY, LIMITS, Setup, WORKED, catalog, edit};
 use crate::shown::{other_look, page_of};
 use crate::views::WORKED_SHOWN;
-use cq_atom::{Name, Query, Row};
-use cq_board::{Board, Edit, EditKind, Limits, ScratchFault, Why};
+use cq_atom::{Edit, EditKind, Name, Query, Row};
+use cq_board::{Board, Limits, ScratchFault, Why};
 use cq_rel::Catalog;
 use std::alloc::{AllocError, Allocator, Global};
 

@@ -1,16 +1,13 @@
 //! Edits that are read from lines, and lines that several tests ask for.
 
-use cq_board::{Edit, EditKind};
+use cq_atom::Edit;
 use cq_text::{CommandKind, Form, read_command};
 use std::alloc::{AllocError, Allocator, Global};
 
 /// The edit that a line of a script asks for; a line of no edit is want of memory.
 pub fn edit<A: Allocator + Copy>(alloc: A, line: &str) -> Result<Edit<A>, AllocError> {
     match read_command(alloc, line.as_bytes(), Form::One) {
-        Ok(CommandKind::Post { name, query }) => Ok(EditKind::Post { name, query }),
-        Ok(CommandKind::Withdraw { name }) => Ok(EditKind::Withdraw { name }),
-        Ok(CommandKind::Insert { row }) => Ok(EditKind::Insert { row }),
-        Ok(CommandKind::Delete { row }) => Ok(EditKind::Delete { row }),
+        Ok(CommandKind::Edit(edit)) => Ok(edit),
         _ => Err(AllocError),
     }
 }

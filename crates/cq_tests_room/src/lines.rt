@@ -1,7 +1,7 @@
 //! Boards, and edits that are read from lines.
 
-use cq_atom::Value;
-use cq_board::{Board, Edit, EditKind, Limits, Why};
+use cq_atom::{Edit, Value};
+use cq_board::{Board, Limits, Why};
 use cq_desk::Live;
 use cq_rel::Catalog;
 use cq_text::{CommandKind, Form, read_command};
@@ -55,10 +55,7 @@ pub const FLIGHTS: [(&str, usize); 1] = [("Flights", 2)];
 /// The edit that a line of a script asks for; a line of no edit is want of memory.
 pub fn edit<A: Allocator + Copy>(alloc: A, line: Line) -> Result<Edit<A>, AllocError> {
     match read_command(alloc, line.text().as_bytes(), Form::One) {
-        Ok(CommandKind::Post { name, query }) => Ok(EditKind::Post { name, query }),
-        Ok(CommandKind::Withdraw { name }) => Ok(EditKind::Withdraw { name }),
-        Ok(CommandKind::Insert { row }) => Ok(EditKind::Insert { row }),
-        Ok(CommandKind::Delete { row }) => Ok(EditKind::Delete { row }),
+        Ok(CommandKind::Edit(edit)) => Ok(edit),
         _ => Err(AllocError),
     }
 }

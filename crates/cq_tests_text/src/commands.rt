@@ -1,23 +1,38 @@
 //! Commands, one of each kind. What they hold is shown by the cases.
 
+use cq_atom::{Edit, EditKind, Name};
 use cq_text::{
-    Command, CommandKind, Form, Kind, MAX_COUNT, TextFault, read_command, read_ground_atom,
-    read_query,
+    Command, CommandKind, Form, Kind, MAX_COUNT, SetupLine, TextFault, read_command,
+    read_ground_atom, read_query,
 };
 use std::alloc::{AllocError, Global};
 use std::test::Fail;
+
+/// The kind of a line of a setup, and two numbers as below.
+fn kind_of_setup(line: &SetupLine<Name>) -> (&str, usize, usize) {
+    match line {
+        SetupLine::Relation { name, arity } => ("relation", name.as_str().len(), *arity),
+        SetupLine::Board { form } => ("board", form.max_terms(), form.max_atoms()),
+        SetupLine::Limits { pool, journal } => ("limits", *pool, *journal),
+    }
+}
+
+/// The kind of an edit, and two numbers as below.
+fn kind_of_edit(edit: &Edit) -> (&str, usize, usize) {
+    match edit {
+        EditKind::Post { name, query } => ("post", name.as_str().len(), query.body().len()),
+        EditKind::Withdraw { name } => ("withdraw", name.as_str().len(), 0),
+        EditKind::Insert { row } => ("insert", row.relation().len(), row.values().len()),
+        EditKind::Delete { row } => ("delete", row.relation().len(), row.values().len()),
+    }
+}
 
 /// The kind of a command, and two numbers that it has or that count what it has.
 fn kind_of(command: &Command) -> (&str, usize, usize) {
     match command {
         CommandKind::Blank => ("", 0, 0),
-        CommandKind::Relation { name, arity } => ("relation", name.as_str().len(), *arity),
-        CommandKind::Board { form } => ("board", form.max_terms(), form.max_atoms()),
-        CommandKind::Limits { pool, journal } => ("limits", *pool, *journal),
-        CommandKind::Post { name, query } => ("post", name.as_str().len(), query.body().len()),
-        CommandKind::Withdraw { name } => ("withdraw", name.as_str().len(), 0),
-        CommandKind::Insert { row } => ("insert", row.relation().len(), row.values().len()),
-        CommandKind::Delete { row } => ("delete", row.relation().len(), row.values().len()),
+        CommandKind::Setup(line) => kind_of_setup(line),
+        CommandKind::Edit(edit) => kind_of_edit(edit),
         CommandKind::Publish => ("publish", 0, 0),
         CommandKind::Show => ("show", 0, 0),
     }

@@ -13,7 +13,9 @@ use Rattle.cq_atom.specs.Atom.{TermContent, AtomRecord, RowRecord}
 use Rattle.cq_atom.specs.Query.{QueryRecord}
 use Rattle.cq_text.specs.declared.fault.Kind.TheVariants.{Shape}
 use Rattle.cq_text.specs.declared.fault.TextFault.{TextFault}
-use Rattle.cq_text.specs.declared.command.CommandKind.TheVariants.{Blank, Relation, Limits, Post, Withdraw, Insert, Delete, Publish, Show, Board}
+use Rattle.cq_text.specs.declared.command.CommandKind.TheVariants.{Blank, Setup, Edit, Publish, Show}
+use Rattle.cq_text.specs.declared.command.SetupLine.TheVariants.{Relation, Board, Limits}
+use Rattle.cq_atom.specs.declared.edit.EditKind.TheVariants.{Post, Withdraw, Insert, Delete}
 use Rattle.cq_text.specs.Limits.{max_count, max_form}
 use Rattle.cq_text.specs.declared.token.Sign.{Sign}
 use Rattle.cq_text.specs.declared.token.Sign.TheVariants.{OpenBrace, CloseBrace, OpenParen, CloseParen, Comma, Arrow}
@@ -247,7 +249,7 @@ count_again most a n ts e some few =
     let l = next_is a (Literal (Number n)) ts e refl in
     (l.rest, rw (l.reads, l.is, le-leb 1 (count_of n) some, le-leb (count_of n) most few) refl, l.left)
 
-relation_again_at : (form : Form) → (a : Ahead) (w : List ℕ) (n : ℤ) → ahead a ≡ Word w ∷ Literal (Number n) ∷ [] → begins_with_upper w ≡ true → length w ≤ 32 → 1 ≤ count_of n → count_of n ≤ most_terms form → relation_at form a ≡ Ok (Relation w (count_of n))
+relation_again_at : (form : Form) → (a : Ahead) (w : List ℕ) (n : ℤ) → ahead a ≡ Word w ∷ Literal (Number n) ∷ [] → begins_with_upper w ≡ true → length w ≤ 32 → 1 ≤ count_of n → count_of n ≤ most_terms form → relation_at form a ≡ Ok (Setup (Relation w (count_of n)))
 unfolding relation_at
 relation_again_at form a w n e u short some few =
     let l = next_is a (Word w) (Literal (Number n) ∷ []) e refl in
@@ -255,7 +257,7 @@ relation_again_at form a w n e u short some few =
     let f = end_is k.0 k.2 in
     rw (l.reads, l.is, relation_again w l.lexeme.at u short, k.1, f.1) refl
 
-board_again : (a : Ahead) (named : Form) → ahead a ≡ Literal (Number (pos (number_of_form named))) ∷ [] → board_at a ≡ Ok (Board named)
+board_again : (a : Ahead) (named : Form) → ahead a ≡ Literal (Number (pos (number_of_form named))) ∷ [] → board_at a ≡ Ok (Setup (Board named))
 unfolding board_at
 board_again a forms.One e =
     let k = count_again max_form a (pos 1) [] e (omega arith) (omega arith) in
@@ -266,7 +268,7 @@ board_again a forms.Two e =
     let f = end_is k.0 k.2 in
     rw (k.1, f.1) refl
 
-limits_again : (a : Ahead) (m n : ℤ) → ahead a ≡ Literal (Number m) ∷ Literal (Number n) ∷ [] → 1 ≤ count_of m → count_of m ≤ max_count → 1 ≤ count_of n → count_of n ≤ max_count → limits_at a ≡ Ok (Limits (count_of m) (count_of n))
+limits_again : (a : Ahead) (m n : ℤ) → ahead a ≡ Literal (Number m) ∷ Literal (Number n) ∷ [] → 1 ≤ count_of m → count_of m ≤ max_count → 1 ≤ count_of n → count_of n ≤ max_count → limits_at a ≡ Ok (Setup (Limits (count_of m) (count_of n)))
 unfolding limits_at
 limits_again a m n e some few more fewer =
     let j = count_again max_count a m (Literal (Number n) ∷ []) e some few in
@@ -340,58 +342,58 @@ parts_again form a query (ps, hs, bs, e, p, h, b) short fits =
 -- the parts that a command is read as
 abbrev pub ReadAs : (form : Form) → Ahead → CommandContent → Type 0
 ReadAs form a Blank = ⊥
-ReadAs form a (Relation n c) = command_parts form a ≡ Ok (whole (Relation n c))
-ReadAs form a (Board named) = command_parts form a ≡ Ok (whole (Board named))
-ReadAs form a (Limits p j) = command_parts form a ≡ Ok (whole (Limits p j))
-ReadAs form a (Post w query) = (inner : Ahead) × (command_parts form a ≡ Ok (posted w (query.posts, query.heads, query.body, inner)))
-ReadAs form a (Withdraw n) = command_parts form a ≡ Ok (whole (Withdraw n))
-ReadAs form a (Insert row) = command_parts form a ≡ Ok (whole (Insert row))
-ReadAs form a (Delete row) = command_parts form a ≡ Ok (whole (Delete row))
+ReadAs form a (Setup (Relation n c)) = command_parts form a ≡ Ok (whole (Setup (Relation n c)))
+ReadAs form a (Setup (Board named)) = command_parts form a ≡ Ok (whole (Setup (Board named)))
+ReadAs form a (Setup (Limits p j)) = command_parts form a ≡ Ok (whole (Setup (Limits p j)))
+ReadAs form a (Edit (Post w query)) = (inner : Ahead) × (command_parts form a ≡ Ok (posted w (query.posts, query.heads, query.body, inner)))
+ReadAs form a (Edit (Withdraw n)) = command_parts form a ≡ Ok (whole (Edit (Withdraw n)))
+ReadAs form a (Edit (Insert row)) = command_parts form a ≡ Ok (whole (Edit (Insert row)))
+ReadAs form a (Edit (Delete row)) = command_parts form a ≡ Ok (whole (Edit (Delete row)))
 ReadAs form a Publish = command_parts form a ≡ Ok (whole Publish)
 ReadAs form a Show = command_parts form a ≡ Ok (whole Show)
 
 pub command_again : (form : Form) → (a : Ahead) (c : CommandContent) → FitsGrammar form a.lexemes c → ReadAs form a c
 unfolding command_parts post_parts withdraw_at insert_at delete_at word_alone
 command_again form a Blank f = absurd f.sentence
-command_again form a (Relation w c) f =
+command_again form a (Setup (Relation w c)) f =
     let n = f.sentence.0 in
     let is = f.sentence.3 in
     let s = subst AreShort f.sentence.1 f.short in
     let l = next_is a (Word (codes "relation")) (Word w ∷ Literal (Number n) ∷ []) f.sentence.1 refl in
     let r = relation_again_at form l.rest w n l.left f.sentence.2 s.1.0 (subst (λ (k : ℕ). 1 ≤ k) is f.fits.0) (subst (λ (k : ℕ). k ≤ most_terms form) is f.fits.1) in
-    rw (l.reads, l.is, r) (ap (λ (k : ℕ). Ok (whole (Relation w k))) (sym is))
-command_again form a (Board named) f =
+    rw (l.reads, l.is, r) (ap (λ (k : ℕ). Ok (whole (Setup (Relation w k)))) (sym is))
+command_again form a (Setup (Board named)) f =
     let l = next_is a (Word (codes "board")) (Literal (Number (pos (number_of_form named))) ∷ []) f.sentence refl in
     let r = board_again l.rest named l.left in
     rw (l.reads, l.is, r) refl
-command_again form a (Limits p j) f =
+command_again form a (Setup (Limits p j)) f =
     let m = f.sentence.0 in
     let n = f.sentence.1 in
     let one = f.sentence.3 in
     let two = f.sentence.4 in
     let l = next_is a (Word (codes "limits")) (Literal (Number m) ∷ Literal (Number n) ∷ []) f.sentence.2 refl in
     let r = limits_again l.rest m n l.left (subst (λ (k : ℕ). 1 ≤ k) one f.fits.0) (subst (λ (k : ℕ). k ≤ max_count) one f.fits.1) (subst (λ (k : ℕ). 1 ≤ k) two f.fits.2) (subst (λ (k : ℕ). k ≤ max_count) two f.fits.3) in
-    rw (l.reads, l.is, r) (ap (λ (k : ℕ). Ok (whole (Limits k (count_of n)))) (sym one) ∙ ap (λ (k : ℕ). Ok (whole (Limits p k))) (sym two))
-command_again form a (Post w query) f =
+    rw (l.reads, l.is, r) (ap (λ (k : ℕ). Ok (whole (Setup (Limits k (count_of n))))) (sym one) ∙ ap (λ (k : ℕ). Ok (whole (Setup (Limits p k)))) (sym two))
+command_again form a (Edit (Post w query)) f =
     let rest = f.sentence.0 in
     let s = subst AreShort f.sentence.1 f.short in
     let n = next_is a (Word (codes "post")) (Word w ∷ rest) f.sentence.1 refl in
     let m = next_is n.rest (Word w) rest n.left refl in
     let q = parts_again form m.rest query (subst (λ (ts : List TokenContent). IsQueryText ts query) (sym m.left) f.sentence.2) (subst AreShort (sym m.left) s.1.1) f.fits in
     (q.0, rw (n.reads, n.is, m.reads, m.is, le-ltb 32 (length w) s.1.0, q.1) refl)
-command_again form a (Withdraw w) f =
+command_again form a (Edit (Withdraw w)) f =
     let s = subst AreShort f.sentence f.short in
     let n = next_is a (Word (codes "withdraw")) (Word w ∷ []) f.sentence refl in
     let m = next_is n.rest (Word w) [] n.left refl in
     let e = end_is m.rest m.left in
     rw (n.reads, n.is, m.reads, m.is, le-ltb 32 (length w) s.1.0, e.1) refl
-command_again form a (Insert row) f =
+command_again form a (Edit (Insert row)) f =
     let rest = f.sentence.0 in
     let s = subst AreShort f.sentence.1 f.short in
     let n = next_is a (Word (codes "insert")) rest f.sentence.1 refl in
     let r = row_again form n.rest row (subst (λ (ts : List TokenContent). IsRowText ts row) (sym n.left) f.sentence.2) (subst AreShort (sym n.left) s.1) f.fits in
     rw (n.reads, n.is, r) refl
-command_again form a (Delete row) f =
+command_again form a (Edit (Delete row)) f =
     let rest = f.sentence.0 in
     let s = subst AreShort f.sentence.1 f.short in
     let n = next_is a (Word (codes "delete")) rest f.sentence.1 refl in

@@ -8,7 +8,9 @@ use Rattle.cq_atom.specs.declared.term.TermKind.TheVariants.{Constant, Variable}
 use Rattle.cq_atom.specs.Text.{begins_with_upper, begins_with_lower}
 use Rattle.cq_atom.specs.Value.{ValueContent}
 use Rattle.cq_atom.specs.Atom.{TermContent, AtomRecord}
-use Rattle.cq_text.specs.declared.command.CommandKind.TheVariants.{Blank, Relation, Limits, Post, Withdraw, Insert, Delete, Publish, Show, Board}
+use Rattle.cq_text.specs.declared.command.CommandKind.TheVariants.{Blank, Setup, Edit, Publish, Show}
+use Rattle.cq_text.specs.declared.command.SetupLine.TheVariants.{Relation, Board, Limits}
+use Rattle.cq_atom.specs.declared.edit.EditKind.TheVariants.{Post, Withdraw, Insert, Delete}
 use Rattle.cq_text.specs.declared.command.CommandWord.{CommandWord}
 use Rattle.cq_text.specs.declared.command.CommandWord.TheVariants as words
 use Rattle.cq_text.specs.declared.token.Sign.{Sign}
@@ -236,17 +238,17 @@ behind_word k t ts rest e is q =
 
 Leaves-command : (t : TokenContent) (ts : List TokenContent) (c : CommandContent) → IsSentence (t ∷ ts) c → Leaves command t ts
 Leaves-command t ts Blank s = absurd s
-Leaves-command t ts (Relation n a) (m, e, u, k) =
+Leaves-command t ts (Setup (Relation n a)) (m, e, u, k) =
     behind_word words.Relation t ts (Word n ∷ Literal (Number m) ∷ []) e refl (Expects-two upper number (Word n ∷ []) (Literal (Number m) ∷ []) (n, refl, u) (m, refl))
-Leaves-command t ts (Board f) e =
+Leaves-command t ts (Setup (Board f)) e =
     behind_word words.Board t ts (Literal (Number (pos (number_of_form f))) ∷ []) e refl (Expects-one number (Literal (Number (pos (number_of_form f))) ∷ []) (pos (number_of_form f), refl))
-Leaves-command t ts (Limits p j) (m, n, e, k, i) =
+Leaves-command t ts (Setup (Limits p j)) (m, n, e, k, i) =
     behind_word words.Limits t ts (Literal (Number m) ∷ Literal (Number n) ∷ []) e refl (Expects-two number number (Literal (Number m) ∷ []) (Literal (Number n) ∷ []) (m, refl) (n, refl))
-Leaves-command t ts (Post n query) (rest, e, q) =
+Leaves-command t ts (Edit (Post n query)) (rest, e, q) =
     behind_word words.Post t ts (Word n ∷ rest) e refl (Word n ∷ [], rest, refl, (n, refl), query_expected rest (query, q))
-Leaves-command t ts (Withdraw n) e = behind_word words.Withdraw t ts (Word n ∷ []) e refl (Expects-one name (Word n ∷ []) (n, refl))
-Leaves-command t ts (Insert row) (rest, e, r) = behind_word words.Insert t ts rest e refl (row_expected rest (row, r))
-Leaves-command t ts (Delete row) (rest, e, r) = behind_word words.Delete t ts rest e refl (row_expected rest (row, r))
+Leaves-command t ts (Edit (Withdraw n)) e = behind_word words.Withdraw t ts (Word n ∷ []) e refl (Expects-one name (Word n ∷ []) (n, refl))
+Leaves-command t ts (Edit (Insert row)) (rest, e, r) = behind_word words.Insert t ts rest e refl (row_expected rest (row, r))
+Leaves-command t ts (Edit (Delete row)) (rest, e, r) = behind_word words.Delete t ts rest e refl (row_expected rest (row, r))
 Leaves-command t ts Publish e = behind_word words.Publish t ts [] e refl refl
 Leaves-command t ts Show e = behind_word words.Show t ts [] e refl refl
 
@@ -288,13 +290,13 @@ no_tail P close (inr (i, e, c)) = cc
 
 no_command : (c : CommandContent) → IsSentence [] c → ⊥
 no_command Blank s = s
-no_command (Relation n a) (m, e, u, k) = cc
-no_command (Board f) e = cc
-no_command (Limits p j) (m, n, e, k, i) = cc
-no_command (Post n query) (rest, e, q) = cc
-no_command (Withdraw n) e = cc
-no_command (Insert row) (rest, e, r) = cc
-no_command (Delete row) (rest, e, r) = cc
+no_command (Setup (Relation n a)) (m, e, u, k) = cc
+no_command (Setup (Board f)) e = cc
+no_command (Setup (Limits p j)) (m, n, e, k, i) = cc
+no_command (Edit (Post n query)) (rest, e, q) = cc
+no_command (Edit (Withdraw n)) e = cc
+no_command (Edit (Insert row)) (rest, e, r) = cc
+no_command (Edit (Delete row)) (rest, e, r) = cc
 no_command Publish e = cc
 no_command Show e = cc
 
@@ -448,7 +450,7 @@ query_from_expected ts (f2, r2, e2, i2, (f3, r3, e3, (inner, xs, i3, m), (f4, r4
 Is-more-post : (ts : List TokenContent) → Expects (name ∷ query_symbols) ts → IsCommandText (Word (codes "post") ∷ ts)
 Is-more-post ts (f, r, e, (w, i), more) =
     let q = query_from_expected r more in
-    inl (Post w q.0, (r, ap (λ (l : List TokenContent). Word (codes "post") ∷ l) (e ∙ ap (λ (l : List TokenContent). l ++ r) i), q.1))
+    inl (Edit (Post w q.0), (r, ap (λ (l : List TokenContent). Word (codes "post") ∷ l) (e ∙ ap (λ (l : List TokenContent). l ++ r) i), q.1))
 
 pub row_from_expected : (ts : List TokenContent) → Expects row_symbols ts → IsLoneRow ts
 row_from_expected ts (f, r, e, (w, i, u), (f2, r2, e2, i2, more)) =
@@ -463,7 +465,7 @@ Is-more-relation ts q =
     let w = two.3.0 in
     let n = two.4.0 in
     let tokens : ts ≡ Word w ∷ Literal (Number n) ∷ [] = two.2 ∙ ap (λ (l : List TokenContent). l ++ two.1) two.3.1 ∙ ap (λ (l : List TokenContent). Word w ∷ l) two.4.1 in
-    inl (Relation w (count_of n), (n, ap (λ (l : List TokenContent). Word (codes "relation") ∷ l) tokens, two.3.2, refl))
+    inl (Setup (Relation w (count_of n)), (n, ap (λ (l : List TokenContent). Word (codes "relation") ∷ l) tokens, two.3.2, refl))
 
 Is-more-limits : (ts : List TokenContent) → Expects (number ∷ number ∷ []) ts → IsCommandText (Word (codes "limits") ∷ ts)
 Is-more-limits ts q =
@@ -471,7 +473,7 @@ Is-more-limits ts q =
     let m = two.3.0 in
     let n = two.4.0 in
     let tokens : ts ≡ Literal (Number m) ∷ Literal (Number n) ∷ [] = two.2 ∙ ap (λ (l : List TokenContent). l ++ two.1) two.3.1 ∙ ap (λ (l : List TokenContent). Literal (Number m) ∷ l) two.4.1 in
-    inl (Limits (count_of m) (count_of n), (m, n, ap (λ (l : List TokenContent). Word (codes "limits") ∷ l) tokens, refl, refl))
+    inl (Setup (Limits (count_of m) (count_of n)), (m, n, ap (λ (l : List TokenContent). Word (codes "limits") ∷ l) tokens, refl, refl))
 
 -- a command word, and what its symbols stand for
 command_from_expected : (k : CommandWord) (ts : List TokenContent) → Expects (after_command k) ts → IsCommandText (Word (bytes_of k) ∷ ts)
@@ -479,9 +481,9 @@ command_from_expected words.Relation ts q = Is-more-relation ts q
 command_from_expected words.Board ts q = let i = Is-from_one number ts q in inr (i.0, ap (λ (l : List TokenContent). Word (codes "board") ∷ l) i.1)
 command_from_expected words.Limits ts q = Is-more-limits ts q
 command_from_expected words.Post ts q = Is-more-post ts q
-command_from_expected words.Withdraw ts q = let i = Is-from_one name ts q in inl (Withdraw i.0, ap (λ (l : List TokenContent). Word (codes "withdraw") ∷ l) i.1)
-command_from_expected words.Insert ts q = let r = row_from_expected ts q in inl (Insert r.0, (ts, refl, r.1))
-command_from_expected words.Delete ts q = let r = row_from_expected ts q in inl (Delete r.0, (ts, refl, r.1))
+command_from_expected words.Withdraw ts q = let i = Is-from_one name ts q in inl (Edit (Withdraw i.0), ap (λ (l : List TokenContent). Word (codes "withdraw") ∷ l) i.1)
+command_from_expected words.Insert ts q = let r = row_from_expected ts q in inl (Edit (Insert r.0), (ts, refl, r.1))
+command_from_expected words.Delete ts q = let r = row_from_expected ts q in inl (Edit (Delete r.0), (ts, refl, r.1))
 command_from_expected words.Publish ts q = inl (Publish, ap (λ (l : List TokenContent). Word (codes "publish") ∷ l) q)
 command_from_expected words.Show ts q = inl (Show, ap (λ (l : List TokenContent). Word (codes "show") ∷ l) q)
 

@@ -8,7 +8,9 @@ use Rattle.cq_text.specs.declared.fault.Kind.{Kind}
 use Rattle.cq_text.specs.declared.fault.Kind.TheVariants as kinds
 use Rattle.cq_text.specs.declared.fault.TextFault.{TextFault}
 use Rattle.cq_text.specs.declared.fault.TextFault.TheVariants.{At, NoMemory}
-use Rattle.cq_text.specs.declared.command.CommandKind.TheVariants.{Blank, Relation, Board, Limits, Post, Withdraw, Insert, Delete, Publish, Show}
+use Rattle.cq_text.specs.declared.command.CommandKind.TheVariants.{Blank, Setup, Edit, Publish, Show}
+use Rattle.cq_text.specs.declared.command.SetupLine.TheVariants.{Relation, Board, Limits}
+use Rattle.cq_atom.specs.declared.edit.EditKind.TheVariants.{Post, Withdraw, Insert, Delete}
 use Rattle.cq_text.specs.declared.token.Token.TheVariants.{Word}
 use Rattle.cq_text.specs.Token.{TokenContent, LexemeContent, tokens_of}
 use Rattle.cq_text.specs.Lexing.{is_space, is_blank, front, lexemes, lexemes_of}
@@ -73,9 +75,9 @@ FoundCommand form a c = FitsGrammar form a.lexemes c × IsRestrictedCommand c
 found_parts : (form : Form) → (a : Ahead) (p : Parts) (c : CommandContent) → PartsRead form a.lexemes p → AreGood a.lexemes → command_of_parts p ≡ Ok c → FoundCommand form a c
 found_parts form a (posted w q) c r g e = elim (post_verdict form a.lexemes w q r g) [
   | inl b ↦
-      let made : ◌≡◌ {A = Result CommandContent TextFault} (Ok (Post w (record_of q))) (Ok c) = sym (ap (λ (s : Result QueryRecord TextFault). s >>= λ query. Ok (Post w query)) b.read) ∙ e in
-      subst (λ (d : CommandContent). FoundCommand form a d) (ok_is (Post w (record_of q)) c made) (post_fits form a.lexemes w q r, b.restricted)
-  | inr s ↦ absurd (never_ok kinds.Unbound s.offset c (sym (ap (λ (s : Result QueryRecord TextFault). s >>= λ query. Ok (Post w query)) s.read) ∙ e))
+      let made : ◌≡◌ {A = Result CommandContent TextFault} (Ok (Edit (Post w (record_of q)))) (Ok c) = sym (ap (λ (s : Result QueryRecord TextFault). s >>= λ query. Ok (Edit (Post w query))) b.read) ∙ e in
+      subst (λ (d : CommandContent). FoundCommand form a d) (ok_is (Edit (Post w (record_of q))) c made) (post_fits form a.lexemes w q r, b.restricted)
+  | inr s ↦ absurd (never_ok kinds.Unbound s.offset c (sym (ap (λ (s : Result QueryRecord TextFault). s >>= λ query. Ok (Edit (Post w query))) s.read) ∙ e))
 ]
 found_parts form a (whole d) c r g e = subst (λ (d : CommandContent). FoundCommand form a d) (ok_is d c e) (r.fits, r.restricted)
 
@@ -89,19 +91,19 @@ by_parts form a p e = command_by_parts form a ∙ ap (λ (r : Result Parts TextF
 
 pub command_only : (form : Form) → (a : Ahead) (c : CommandContent) → FitsGrammar form a.lexemes c → IsRestrictedCommand c → command_at form a ≡ Ok c
 command_only form a Blank f restricted = absurd f.sentence
-command_only form a (Relation n k) f restricted = by_parts form a (whole (Relation n k)) (command_again form a (Relation n k) f)
-command_only form a (Board named) f restricted = by_parts form a (whole (Board named)) (command_again form a (Board named) f)
-command_only form a (Limits m n) f restricted = by_parts form a (whole (Limits m n)) (command_again form a (Limits m n) f)
-command_only form a (Post w query) f restricted =
-    let r = command_again form a (Post w query) f in
+command_only form a (Setup (Relation n k)) f restricted = by_parts form a (whole (Setup (Relation n k))) (command_again form a (Setup (Relation n k)) f)
+command_only form a (Setup (Board named)) f restricted = by_parts form a (whole (Setup (Board named))) (command_again form a (Setup (Board named)) f)
+command_only form a (Setup (Limits m n)) f restricted = by_parts form a (whole (Setup (Limits m n))) (command_again form a (Setup (Limits m n)) f)
+command_only form a (Edit (Post w query)) f restricted =
+    let r = command_again form a (Edit (Post w query)) f in
     let q : QueryParts = (query.posts, query.heads, query.body, r.0) in
     elim (post_verdict form a.lexemes w q (command_parts_ok form a (posted w q) r.1) (good_command form a (posted w q) r.1)) [
-      | inl b ↦ by_parts form a (posted w q) r.1 ∙ ap (λ (s : Result QueryRecord TextFault). s >>= λ query. Ok (Post w query)) b.read
+      | inl b ↦ by_parts form a (posted w q) r.1 ∙ ap (λ (s : Result QueryRecord TextFault). s >>= λ query. Ok (Edit (Post w query))) b.read
       | inr s ↦ absurd (s.not_restricted restricted)
     ]
-command_only form a (Withdraw n) f restricted = by_parts form a (whole (Withdraw n)) (command_again form a (Withdraw n) f)
-command_only form a (Insert row) f restricted = by_parts form a (whole (Insert row)) (command_again form a (Insert row) f)
-command_only form a (Delete row) f restricted = by_parts form a (whole (Delete row)) (command_again form a (Delete row) f)
+command_only form a (Edit (Withdraw n)) f restricted = by_parts form a (whole (Edit (Withdraw n))) (command_again form a (Edit (Withdraw n)) f)
+command_only form a (Edit (Insert row)) f restricted = by_parts form a (whole (Edit (Insert row))) (command_again form a (Edit (Insert row)) f)
+command_only form a (Edit (Delete row)) f restricted = by_parts form a (whole (Edit (Delete row))) (command_again form a (Edit (Delete row)) f)
 command_only form a Publish f restricted = by_parts form a (whole Publish) (command_again form a Publish f)
 command_only form a Show f restricted = by_parts form a (whole Show) (command_again form a Show f)
 
@@ -110,9 +112,9 @@ CommandFault form a kind offset = FirstTokenFault form IsCommandText [] a.lexeme
 
 fault_of_parts : (form : Form) → (a : Ahead) (p : Parts) (kind : Kind) (offset : ℕ) → PartsRead form a.lexemes p → AreGood a.lexemes → command_of_parts p ≡ fault kind offset → CommandFault form a kind offset
 fault_of_parts form a (posted w q) kind offset r g e = elim (post_verdict form a.lexemes w q r g) [
-  | inl b ↦ absurd (never_ok kind offset (Post w (record_of q)) (sym e ∙ ap (λ (s : Result QueryRecord TextFault). s >>= λ query. Ok (Post w query)) b.read))
+  | inl b ↦ absurd (never_ok kind offset (Edit (Post w (record_of q))) (sym e ∙ ap (λ (s : Result QueryRecord TextFault). s >>= λ query. Ok (Edit (Post w query))) b.read))
   | inr s ↦
-      let same = fault_is kinds.Unbound kind s.offset offset (sym (ap (λ (s : Result QueryRecord TextFault). s >>= λ query. Ok (Post w query)) s.read) ∙ e) in
+      let same = fault_is kinds.Unbound kind s.offset offset (sym (ap (λ (s : Result QueryRecord TextFault). s >>= λ query. Ok (Edit (Post w query))) s.read) ∙ e) in
       inr (same.0, (w, record_of q, post_fits form a.lexemes w q r, ap (first_unbound_at q.2) (brace_of_post form a.lexemes w q r) ∙ s.first ∙ ap (λ (n : ℕ). Some n) (sym same.1)))
 ]
 fault_of_parts form a (whole c) kind offset r g e = absurd (never_ok kind offset c (sym e))
@@ -139,14 +141,14 @@ command_only_fault form a kind offset (inl h) =
     let e = only_fault (command_parts form a) kind offset (sym (run_command form a) ∙ scan_from_first form IsCommandText [] (command ∷ []) a.lexemes a.end kind offset leave_command h) in
     command_by_parts form a ∙ ap (λ (r : Result Parts TextFault). r >>= command_of_parts) e
 command_only_fault form a kind offset (inr (k, (w, query, f, at))) =
-    let r = command_again form a (Post w query) f in
+    let r = command_again form a (Edit (Post w query)) f in
     let q : QueryParts = (query.posts, query.heads, query.body, r.0) in
     let read = command_parts_ok form a (posted w q) r.1 in
     let here : first_unbound_at query.body q.3.lexemes ≡ Some offset = ap (first_unbound_at query.body) (sym (brace_of_post form a.lexemes w q read)) ∙ at in
     elim (post_verdict form a.lexemes w q read (good_command form a (posted w q) r.1)) [
       | inl b ↦ absurd (some_none offset (sym here ∙ b.nowhere))
       | inr s ↦
-          by_parts form a (posted w q) r.1 ∙ ap (λ (s : Result QueryRecord TextFault). s >>= λ query. Ok (Post w query)) s.read
+          by_parts form a (posted w q) r.1 ∙ ap (λ (s : Result QueryRecord TextFault). s >>= λ query. Ok (Edit (Post w query))) s.read
           ∙ ap (λ (n : ℕ). fault kinds.Unbound n) (some_same s.offset offset (sym s.first ∙ here)) ∙ ap (λ (j : Kind). fault j offset) (sym k)
     ]
 
@@ -265,13 +267,13 @@ no_token at (b ∷ bs) e w more h = by_case (is_space b) refl e h (no_token (at 
 
 begins_word : (ts : List TokenContent) (c : CommandContent) → IsSentence ts c → (w : List ℕ) × (more : List TokenContent) × (ts ≡ Word w ∷ more)
 begins_word ts Blank s = absurd s
-begins_word ts (Relation n a) (m, e, u, k) = (_, _, e)
-begins_word ts (Board named) e = (_, _, e)
-begins_word ts (Limits p j) (m, n, e, k, i) = (_, _, e)
-begins_word ts (Post n query) (rest, e, q) = (_, _, e)
-begins_word ts (Withdraw n) e = (_, _, e)
-begins_word ts (Insert row) (rest, e, r) = (_, _, e)
-begins_word ts (Delete row) (rest, e, r) = (_, _, e)
+begins_word ts (Setup (Relation n a)) (m, e, u, k) = (_, _, e)
+begins_word ts (Setup (Board named)) e = (_, _, e)
+begins_word ts (Setup (Limits p j)) (m, n, e, k, i) = (_, _, e)
+begins_word ts (Edit (Post n query)) (rest, e, q) = (_, _, e)
+begins_word ts (Edit (Withdraw n)) e = (_, _, e)
+begins_word ts (Edit (Insert row)) (rest, e, r) = (_, _, e)
+begins_word ts (Edit (Delete row)) (rest, e, r) = (_, _, e)
 begins_word ts Publish e = (_, _, e)
 begins_word ts Show e = (_, _, e)
 

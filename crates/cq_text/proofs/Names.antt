@@ -3,7 +3,9 @@ use Rattle.std.proofs.Common.{◌≡◌, ℕ, Bool, true, List, Ok, refl, sym, a
 use Rattle.cq_atom.specs.Atom.{TermContent, AtomRecord}
 use Rattle.cq_atom.specs.Query.{QueryRecord}
 use Rattle.cq_atom.specs.Value.{ValueContent}
-use Rattle.cq_text.specs.declared.command.CommandKind.TheVariants.{Relation, Post}
+use Rattle.cq_text.specs.declared.command.CommandKind.TheVariants.{Setup, Edit}
+use Rattle.cq_text.specs.declared.command.SetupLine.TheVariants.{Relation}
+use Rattle.cq_atom.specs.declared.edit.EditKind.TheVariants.{Post}
 use Rattle.cq_text.specs.declared.token.Close.{Close}
 use Rattle.cq_text.specs.declared.token.Sign.TheVariants.{OpenParen}
 use Rattle.cq_text.specs.Steps.Lexemes.{Ahead, ◌>>=◌, sign_at, end_at, goes_on_at, name_at, relation_name_at, Gives}
@@ -30,18 +32,18 @@ row_by_name form a = sym (simp bind_assoc)
 pub row_read : (form : Form) → (a b c d e : Ahead) (w : List ℕ) (at : ℕ) (values : List ValueContent) → relation_name_at a ≡ Ok (w, at, b) → sign_at OpenParen b ≡ Ok c → values_at form c ≡ Ok (values, d) → end_at d ≡ Ok e → row_at form a ≡ Ok (row_record w values)
 row_read form a b c d e w at values n s v f = row_by_name form a ∙ rw (n, s, v, f) refl
 
-relation_by_name : (form : Form) → (a : Ahead) → relation_at form a ≡ (relation_name_at a >>= λ n. count_at (most_terms form) n.2 >>= λ k. end_at k.1 >>= λ r. Ok (Relation n.0 k.0))
+relation_by_name : (form : Form) → (a : Ahead) → relation_at form a ≡ (relation_name_at a >>= λ n. count_at (most_terms form) n.2 >>= λ k. end_at k.1 >>= λ r. Ok (Setup (Relation n.0 k.0)))
 unfolding relation_at relation_name_at
 relation_by_name form a = sym (simp bind_assoc)
 
-pub relation_read : (form : Form) → (a b c d : Ahead) (w v : List ℕ) (at arity : ℕ) → relation_name_at a ≡ Ok (w, at, b) → count_at (most_terms form) b ≡ Ok (arity, c) → end_at c ≡ Ok d → ◌≡◌ {A = Result (List ℕ) TextFault} (Ok w) (Ok v) → relation_at form a ≡ Ok (Relation v arity)
-relation_read form a b c d w v at arity n k f e = relation_by_name form a ∙ rw (n, k, f) (ap (λ (u : List ℕ). Ok (Relation u arity)) (ok_is w v e))
+pub relation_read : (form : Form) → (a b c d : Ahead) (w v : List ℕ) (at arity : ℕ) → relation_name_at a ≡ Ok (w, at, b) → count_at (most_terms form) b ≡ Ok (arity, c) → end_at c ≡ Ok d → ◌≡◌ {A = Result (List ℕ) TextFault} (Ok w) (Ok v) → relation_at form a ≡ Ok (Setup (Relation v arity))
+relation_read form a b c d w v at arity n k f e = relation_by_name form a ∙ rw (n, k, f) (ap (λ (u : List ℕ). Ok (Setup (Relation u arity))) (ok_is w v e))
 
-post_by_name : (form : Form) → (a : Ahead) → post_at form a ≡ (name_at a >>= λ n. query_at form n.1 >>= λ q. Ok (Post n.0 q))
+post_by_name : (form : Form) → (a : Ahead) → post_at form a ≡ (name_at a >>= λ n. query_at form n.1 >>= λ q. Ok (Edit (Post n.0 q)))
 unfolding post_at name_at
 post_by_name form a = sym (simp bind_assoc)
 
-pub post_read : (form : Form) → (a b : Ahead) (w : List ℕ) (q : QueryRecord) → name_at a ≡ Ok (w, b) → query_at form b ≡ Ok q → post_at form a ≡ Ok (Post w q)
+pub post_read : (form : Form) → (a b : Ahead) (w : List ℕ) (q : QueryRecord) → name_at a ≡ Ok (w, b) → query_at form b ≡ Ok q → post_at form a ≡ Ok (Edit (Post w q))
 post_read form a b w q n r = post_by_name form a ∙ rw (n, r) refl
 
 applied_by : (form : Form) → (w : List ℕ) (a b c : Ahead) (terms : List TermContent) → sign_at OpenParen a ≡ Ok b → terms_at form b ≡ Ok (terms, c) → applied_at form w a ≡ Ok (atom_record w terms, c)

@@ -9,7 +9,8 @@ use Rattle.cq_text.specs.declared.fault.Kind.TheVariants as kinds
 use Rattle.cq_text.specs.declared.fault.Kind.TheVariants.{Shape}
 use Rattle.cq_text.specs.declared.fault.TextFault.{TextFault}
 use Rattle.cq_text.specs.declared.fault.TextFault.TheVariants.{At, NoMemory}
-use Rattle.cq_text.specs.declared.command.CommandKind.TheVariants.{Blank, Post}
+use Rattle.cq_text.specs.declared.command.CommandKind.TheVariants.{Blank, Edit}
+use Rattle.cq_atom.specs.declared.edit.EditKind.TheVariants.{Post}
 use Rattle.cq_text.specs.Token.{LexemeContent, flaw}
 use Rattle.cq_text.specs.Lexing.{is_blank}
 use Rattle.cq_text.specs.Grammar.{CommandContent, StandsFor, StandsForQuery, StandsForRow}
@@ -81,8 +82,8 @@ command_parts_told form a e = scan_told form (command ∷ []) opening a.lexemes 
 
 posted_told : (form : Form) → (a : Ahead) (w : List ℕ) (q : QueryParts) → command_parts form a ≡ Ok (posted w q) → Starved (command_of_parts (posted w q)) → ⊥
 posted_told form a w q d h = elim (post_verdict form a.lexemes w q (command_parts_ok form a (posted w q) d) (good_command form a (posted w q) d)) [
-  | inl b ↦ not_starved_ok _ (sym (ap (λ (s : Result QueryRecord TextFault). s >>= λ query. Ok (Post w query)) b.read) ∙ h)
-  | inr s ↦ not_starved_fault kinds.Unbound s.offset (sym (ap (λ (s : Result QueryRecord TextFault). s >>= λ query. Ok (Post w query)) s.read) ∙ h)
+  | inl b ↦ not_starved_ok _ (sym (ap (λ (s : Result QueryRecord TextFault). s >>= λ query. Ok (Edit (Post w query))) b.read) ∙ h)
+  | inr s ↦ not_starved_fault kinds.Unbound s.offset (sym (ap (λ (s : Result QueryRecord TextFault). s >>= λ query. Ok (Edit (Post w query))) s.read) ∙ h)
 ]
 
 of_parts_told : (form : Form) → (a : Ahead) (p : Parts) → command_parts form a ≡ Ok p → Starved (command_of_parts p) → ⊥

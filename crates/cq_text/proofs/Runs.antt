@@ -13,7 +13,8 @@ use Rattle.cq_text.specs.declared.fault.Kind.{Kind}
 use Rattle.cq_text.specs.declared.fault.Kind.TheVariants.{Shape, Limit}
 use Rattle.cq_text.specs.declared.fault.TextFault.{TextFault}
 use Rattle.cq_text.specs.Limits.{max_count, max_form}
-use Rattle.cq_text.specs.declared.command.CommandKind.TheVariants.{Post, Publish, Show}
+use Rattle.cq_text.specs.declared.command.CommandKind.TheVariants.{Edit, Publish, Show}
+use Rattle.cq_atom.specs.declared.edit.EditKind.TheVariants.{Post}
 use Rattle.cq_text.specs.declared.command.CommandWord.{CommandWord}
 use Rattle.cq_text.specs.declared.command.CommandWord.TheVariants as words
 use Rattle.cq_text.specs.declared.token.Sign.{Sign}
@@ -584,7 +585,7 @@ pub data Parts : Type 0 where
   whole : CommandContent → Parts
 
 abbrev pub command_of_parts : Parts → Result CommandContent TextFault
-command_of_parts (posted w q) = bound_query q.0 q.1 q.2 q.3 >>= λ query. Ok (Post w query)
+command_of_parts (posted w q) = bound_query q.0 q.1 q.2 q.3 >>= λ query. Ok (Edit (Post w query))
 command_of_parts (whole c) = Ok c
 
 unfoldable pub post_parts : (form : Form) → Ahead → Result Parts TextFault
@@ -618,7 +619,7 @@ command_parts form a = next_at a >>= λ l. parts_from form (command_word_in l.0.
 post_by_parts : (form : Form) → (a : Ahead) → post_at form a ≡ (post_parts form a >>= command_of_parts)
 unfolding post_at post_parts
 post_by_parts form a =
-    bind_same (next_at a) _ _ (λ l. bind_same (name_in l.0.token l.0.at) _ _ (λ w. ap (λ (r : Result QueryRecord TextFault). r >>= λ query. Ok (Post w query)) (query_by_parts form l.1) ∙ bind_assoc (parts_at form l.1) _ _))
+    bind_same (next_at a) _ _ (λ l. bind_same (name_in l.0.token l.0.at) _ _ (λ w. ap (λ (r : Result QueryRecord TextFault). r >>= λ query. Ok (Edit (Post w query))) (query_by_parts form l.1) ∙ bind_assoc (parts_at form l.1) _ _))
     ∙ sym (simp bind_assoc)
 
 whole_by_parts : (r : Result CommandContent TextFault) → r ≡ (whole_parts r >>= command_of_parts)

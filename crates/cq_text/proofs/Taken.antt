@@ -12,7 +12,9 @@ use Rattle.cq_atom.specs.Atom.{TermContent, AtomRecord, RowRecord}
 use Rattle.cq_text.specs.declared.fault.Kind.{Kind}
 use Rattle.cq_text.specs.declared.fault.Kind.TheVariants.{Shape, Limit}
 use Rattle.cq_text.specs.declared.fault.TextFault.{TextFault}
-use Rattle.cq_text.specs.declared.command.CommandKind.TheVariants.{Relation, Limits, Post, Withdraw, Insert, Delete, Publish, Show, Board}
+use Rattle.cq_text.specs.declared.command.CommandKind.TheVariants.{Setup, Edit, Publish, Show}
+use Rattle.cq_text.specs.declared.command.SetupLine.TheVariants.{Relation, Board, Limits}
+use Rattle.cq_atom.specs.declared.edit.EditKind.TheVariants.{Post, Withdraw, Insert, Delete}
 use Rattle.cq_text.specs.Limits.{max_count, max_form}
 use Rattle.cq_text.specs.declared.command.CommandWord.{CommandWord}
 use Rattle.cq_text.specs.declared.command.CommandWord.TheVariants as words
@@ -584,7 +586,7 @@ relation_read form l a c is e =
     let tokens : l.token ∷ ahead a ≡ Word (codes "relation") ∷ Word q.0 ∷ Literal (Number k.number) ∷ [] =
     ap (λ (t : TokenContent). t ∷ ahead a) is ∙ ap (λ (ts : List TokenContent). Word (codes "relation") ∷ ts) (first ∙ ap (λ (ts : List TokenContent). Word q.0 ∷ ts) rest)
     in
-    subst (λ (z : CommandContent). WholeRead form (l ∷ a.lexemes) z) (ok_is (Relation q.0 n.0.0) c f.2)
+    subst (λ (z : CommandContent). WholeRead form (l ∷ a.lexemes) z) (ok_is (Setup (Relation q.0 n.0.0)) c f.2)
     (record { fits = record { sentence = (k.number, tokens, u.upper, k.count); short = subst AreShort (sym tokens) (omega arith, (u.short, (tt, tt))); fits = (k.some, k.few) }; restricted = tt })
 
 -- a number from 1 to 2 is that of its form
@@ -605,7 +607,7 @@ board_read form l a c is e =
     let tokens : l.token ∷ ahead a ≡ Word (codes "board") ∷ Literal (Number (pos (number_of_form (form_numbered n.0.0)))) ∷ [] =
     ap (λ (t : TokenContent). t ∷ ahead a) is ∙ ap (λ (ts : List TokenContent). Word (codes "board") ∷ ts) (k.parts ∙ ap (λ (ts : List TokenContent). Literal (Number k.number) ∷ ts) (end_ok n.0.1 f.0 f.1) ∙ ap (λ (m : ℤ). Literal (Number m) ∷ []) named)
     in
-    subst (λ (z : CommandContent). WholeRead form (l ∷ a.lexemes) z) (ok_is (Board (form_numbered n.0.0)) c f.2)
+    subst (λ (z : CommandContent). WholeRead form (l ∷ a.lexemes) z) (ok_is (Setup (Board (form_numbered n.0.0))) c f.2)
     (record { fits = record { sentence = tokens; short = subst AreShort (sym tokens) (omega arith, (tt, tt)); fits = tt }; restricted = tt })
 
 limits_read : (form : Form) → (l : LexemeContent) (a : Ahead) (c : CommandContent) → l.token ≡ Word (codes "limits") → limits_at a ≡ Ok c → WholeRead form (l ∷ a.lexemes) c
@@ -620,7 +622,7 @@ limits_read form l a c is e =
     let tokens : l.token ∷ ahead a ≡ Word (codes "limits") ∷ Literal (Number pool.number) ∷ Literal (Number journal.number) ∷ [] =
     ap (λ (t : TokenContent). t ∷ ahead a) is ∙ ap (λ (ts : List TokenContent). Word (codes "limits") ∷ ts) (pool.parts ∙ ap (λ (ts : List TokenContent). Literal (Number pool.number) ∷ ts) rest)
     in
-    subst (λ (z : CommandContent). WholeRead form (l ∷ a.lexemes) z) (ok_is (Limits m.0.0 n.0.0) c f.2)
+    subst (λ (z : CommandContent). WholeRead form (l ∷ a.lexemes) z) (ok_is (Setup (Limits m.0.0 n.0.0)) c f.2)
     (record { fits = record { sentence = (pool.number, journal.number, tokens, pool.count, journal.count); short = subst AreShort (sym tokens) (omega arith, (tt, (tt, tt))); fits = (pool.some, pool.few, journal.some, journal.few) }; restricted = tt })
 
 withdraw_read : (form : Form) → (l : LexemeContent) (a : Ahead) (c : CommandContent) → l.token ≡ Word (codes "withdraw") → withdraw_at a ≡ Ok c → WholeRead form (l ∷ a.lexemes) c
@@ -632,7 +634,7 @@ withdraw_read form l a c is e =
     let k = name_ok p.0.0.token p.0.0.at w.0 w.1 in
     let rest : ahead a ≡ Word w.0 ∷ [] = next_token a p.0.0 p.0.1 p.1 (word_not_finish p.0.0.token w.0 k.is) ∙ ap (λ (t : TokenContent). t ∷ ahead p.0.1) k.is ∙ ap (λ (ts : List TokenContent). Word w.0 ∷ ts) (end_ok p.0.1 f.0 f.1) in
     let tokens : l.token ∷ ahead a ≡ Word (codes "withdraw") ∷ Word w.0 ∷ [] = ap (λ (t : TokenContent). t ∷ ahead a) is ∙ ap (λ (ts : List TokenContent). Word (codes "withdraw") ∷ ts) rest in
-    subst (λ (z : CommandContent). WholeRead form (l ∷ a.lexemes) z) (ok_is (Withdraw w.0) c f.2)
+    subst (λ (z : CommandContent). WholeRead form (l ∷ a.lexemes) z) (ok_is (Edit (Withdraw w.0)) c f.2)
     (record { fits = record { sentence = tokens; short = subst AreShort (sym tokens) (omega arith, (k.short, tt)); fits = tt }; restricted = tt })
 
 insert_read : (form : Form) → (l : LexemeContent) (a : Ahead) (c : CommandContent) → l.token ≡ Word (codes "insert") → insert_at form a ≡ Ok c → WholeRead form (l ∷ a.lexemes) c
@@ -641,7 +643,7 @@ insert_read form l a c is e =
     let r = bind_ok (row_at form a) _ c e in
     let f = row_ok form a r.0 r.1 in
     let tokens : l.token ∷ ahead a ≡ Word (codes "insert") ∷ ahead a = ap (λ (t : TokenContent). t ∷ ahead a) is in
-    subst (λ (z : CommandContent). WholeRead form (l ∷ a.lexemes) z) (ok_is (Insert r.0) c r.2)
+    subst (λ (z : CommandContent). WholeRead form (l ∷ a.lexemes) z) (ok_is (Edit (Insert r.0)) c r.2)
     (record { fits = record { sentence = (ahead a, tokens, f.sentence); short = subst AreShort (sym tokens) (omega arith, f.short); fits = f.fits }; restricted = tt })
 
 delete_read : (form : Form) → (l : LexemeContent) (a : Ahead) (c : CommandContent) → l.token ≡ Word (codes "delete") → delete_at form a ≡ Ok c → WholeRead form (l ∷ a.lexemes) c
@@ -650,7 +652,7 @@ delete_read form l a c is e =
     let r = bind_ok (row_at form a) _ c e in
     let f = row_ok form a r.0 r.1 in
     let tokens : l.token ∷ ahead a ≡ Word (codes "delete") ∷ ahead a = ap (λ (t : TokenContent). t ∷ ahead a) is in
-    subst (λ (z : CommandContent). WholeRead form (l ∷ a.lexemes) z) (ok_is (Delete r.0) c r.2)
+    subst (λ (z : CommandContent). WholeRead form (l ∷ a.lexemes) z) (ok_is (Edit (Delete r.0)) c r.2)
     (record { fits = record { sentence = (ahead a, tokens, f.sentence); short = subst AreShort (sym tokens) (omega arith, f.short); fits = f.fits }; restricted = tt })
 
 alone_end : (c d : CommandContent) (a : Ahead) → word_alone c a ≡ Ok d → (ahead a ≡ []) × (c ≡ d)
@@ -708,7 +710,7 @@ command_parts_ok form a p e =
     subst (λ (ls : List LexemeContent). PartsRead form ls p) (sym split) (parts_from_ok form n.0.0 n.0.1 p n.0.0.token refl n.2)
 
 -- a post that was read fits the grammar
-pub post_fits : (form : Form) → (ls : List LexemeContent) (w : List ℕ) (q : QueryParts) → PostRead form ls w q → FitsGrammar form ls (Post w (query_record q.0 q.1 q.2))
+pub post_fits : (form : Form) → (ls : List LexemeContent) (w : List ℕ) (q : QueryParts) → PostRead form ls w q → FitsGrammar form ls (Edit (Post w (query_record q.0 q.1 q.2)))
 post_fits form ls w q r =
     let f = query_fits form r.rest q r.query in
     let tokens : tokens_of ls ≡ Word (codes "post") ∷ Word w ∷ ahead r.rest = ap tokens_of r.split ∙ ap (λ (t : TokenContent). t ∷ r.name.token ∷ ahead r.rest) r.is_word ∙ ap (λ (t : TokenContent). Word (codes "post") ∷ t ∷ ahead r.rest) r.is_name in

@@ -11,7 +11,8 @@ use Rattle.cq_atom.specs.Query.{QueryRecord, is_bound}
 use Rattle.cq_text.specs.Limits.{max_count, max_form}
 use Rattle.cq_text.specs.declared.fault.Kind.{Kind}
 use Rattle.cq_text.specs.declared.fault.Kind.TheVariants.{Shape, Limit, Unbound}
-use Rattle.cq_text.specs.declared.command.CommandKind.TheVariants.{Post}
+use Rattle.cq_text.specs.declared.command.CommandKind.TheVariants.{Edit}
+use Rattle.cq_atom.specs.declared.edit.EditKind.TheVariants.{Post}
 use Rattle.cq_text.specs.declared.token.Sign.TheVariants.{OpenBrace, CloseBrace, OpenParen, CloseParen, Comma, Arrow}
 use Rattle.cq_text.specs.declared.token.Token.TheVariants.{Mark, Word, Literal, Bad, Finish}
 use Rattle.cq_text.specs.Token.{TokenContent, LexemeContent, flaw}
@@ -146,7 +147,7 @@ IsUnboundAt ls query offset = first_unbound_at query.body (behind_brace ls) ≡ 
 
 -- A text of a command fits the grammar and its limits, and has an unbound variable.
 abbrev pub UnboundInCommand : (form : Form) → List LexemeContent → ℕ → Type 0
-UnboundInCommand form ls offset = (name : List ℕ) × (query : QueryRecord) × FitsGrammar form ls (Post name query) × IsUnboundAt ls query offset
+UnboundInCommand form ls offset = (name : List ℕ) × (query : QueryRecord) × FitsGrammar form ls (Edit (Post name query)) × IsUnboundAt ls query offset
 
 abbrev pub UnboundInQuery : (form : Form) → List LexemeContent → ℕ → Type 0
 UnboundInQuery form ls offset = (query : QueryRecord) × FitsQueryGrammar form ls query × IsUnboundAt ls query offset

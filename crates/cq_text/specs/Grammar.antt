@@ -11,7 +11,9 @@ use Rattle.cq_atom.specs.Atom.{TermContent, AtomRecord, RowRecord}
 use Rattle.cq_atom.specs.Query.{QueryRecord, is_bound}
 use Rattle.cq_text.specs.Limits.{max_count}
 use Rattle.cq_text.specs.declared.command.CommandKind.{CommandKind}
-use Rattle.cq_text.specs.declared.command.CommandKind.TheVariants.{Blank, Relation, Board, Limits, Post, Withdraw, Insert, Delete, Publish, Show}
+use Rattle.cq_text.specs.declared.command.CommandKind.TheVariants.{Blank, Setup, Edit, Publish, Show}
+use Rattle.cq_text.specs.declared.command.SetupLine.TheVariants.{Relation, Board, Limits}
+use Rattle.cq_atom.specs.declared.edit.EditKind.TheVariants.{Post, Withdraw, Insert, Delete}
 use Rattle.cq_text.specs.declared.token.Sign.TheVariants.{OpenBrace, CloseBrace, OpenParen, CloseParen, Comma, Arrow}
 use Rattle.cq_text.specs.declared.token.Token.TheVariants.{Mark, Word, Literal, Bad, Finish}
 use Rattle.cq_text.specs.Token.{TokenContent, LexemeContent, tokens_of}
@@ -71,13 +73,13 @@ count_of (negsuc n) = 0
 -- The tokens of a command, limits apart. A blank text has none.
 abbrev pub IsSentence : List TokenContent → CommandContent → Type 0
 IsSentence ts Blank = ⊥
-IsSentence ts (Relation name arity) = (n : ℤ) × (ts ≡ Word (codes "relation") ∷ Word name ∷ Literal (Number n) ∷ []) × IsTrue (begins_with_upper name) × (arity ≡ count_of n)
-IsSentence ts (Board form) = ts ≡ Word (codes "board") ∷ Literal (Number (pos (number_of_form form))) ∷ []
-IsSentence ts (Limits pool journal) = (m : ℤ) × (n : ℤ) × (ts ≡ Word (codes "limits") ∷ Literal (Number m) ∷ Literal (Number n) ∷ []) × (pool ≡ count_of m) × (journal ≡ count_of n)
-IsSentence ts (Post name query) = (rest : List TokenContent) × (ts ≡ Word (codes "post") ∷ Word name ∷ rest) × IsQueryText rest query
-IsSentence ts (Withdraw name) = ts ≡ Word (codes "withdraw") ∷ Word name ∷ []
-IsSentence ts (Insert row) = (rest : List TokenContent) × (ts ≡ Word (codes "insert") ∷ rest) × IsRowText rest row
-IsSentence ts (Delete row) = (rest : List TokenContent) × (ts ≡ Word (codes "delete") ∷ rest) × IsRowText rest row
+IsSentence ts (Setup (Relation name arity)) = (n : ℤ) × (ts ≡ Word (codes "relation") ∷ Word name ∷ Literal (Number n) ∷ []) × IsTrue (begins_with_upper name) × (arity ≡ count_of n)
+IsSentence ts (Setup (Board form)) = ts ≡ Word (codes "board") ∷ Literal (Number (pos (number_of_form form))) ∷ []
+IsSentence ts (Setup (Limits pool journal)) = (m : ℤ) × (n : ℤ) × (ts ≡ Word (codes "limits") ∷ Literal (Number m) ∷ Literal (Number n) ∷ []) × (pool ≡ count_of m) × (journal ≡ count_of n)
+IsSentence ts (Edit (Post name query)) = (rest : List TokenContent) × (ts ≡ Word (codes "post") ∷ Word name ∷ rest) × IsQueryText rest query
+IsSentence ts (Edit (Withdraw name)) = ts ≡ Word (codes "withdraw") ∷ Word name ∷ []
+IsSentence ts (Edit (Insert row)) = (rest : List TokenContent) × (ts ≡ Word (codes "insert") ∷ rest) × IsRowText rest row
+IsSentence ts (Edit (Delete row)) = (rest : List TokenContent) × (ts ≡ Word (codes "delete") ∷ rest) × IsRowText rest row
 IsSentence ts Publish = ts ≡ Word (codes "publish") ∷ []
 IsSentence ts Show = ts ≡ Word (codes "show") ∷ []
 
@@ -100,13 +102,13 @@ FitsQuery form query = (length query.posts ≤ most_atoms form) × (length query
 
 abbrev pub FitsCommand : (form : Form) → CommandContent → Type 0
 FitsCommand form Blank = Unit {0}
-FitsCommand form (Relation name arity) = (1 ≤ arity) × (arity ≤ most_terms form)
-FitsCommand form (Board other) = Unit {0}
-FitsCommand form (Limits pool journal) = (1 ≤ pool) × (pool ≤ max_count) × (1 ≤ journal) × (journal ≤ max_count)
-FitsCommand form (Post name query) = FitsQuery form query
-FitsCommand form (Withdraw name) = Unit {0}
-FitsCommand form (Insert row) = length row.values ≤ most_terms form
-FitsCommand form (Delete row) = length row.values ≤ most_terms form
+FitsCommand form (Setup (Relation name arity)) = (1 ≤ arity) × (arity ≤ most_terms form)
+FitsCommand form (Setup (Board other)) = Unit {0}
+FitsCommand form (Setup (Limits pool journal)) = (1 ≤ pool) × (pool ≤ max_count) × (1 ≤ journal) × (journal ≤ max_count)
+FitsCommand form (Edit (Post name query)) = FitsQuery form query
+FitsCommand form (Edit (Withdraw name)) = Unit {0}
+FitsCommand form (Edit (Insert row)) = length row.values ≤ most_terms form
+FitsCommand form (Edit (Delete row)) = length row.values ≤ most_terms form
 FitsCommand form Publish = Unit {0}
 FitsCommand form Show = Unit {0}
 
@@ -120,14 +122,14 @@ abbrev pub IsRestricted : QueryRecord → Type 0
 IsRestricted query = AreBound query.body query.posts × AreBound query.body query.heads
 
 abbrev pub IsRestrictedCommand : CommandContent → Type 0
-IsRestrictedCommand (Post name query) = IsRestricted query
+IsRestrictedCommand (Edit (Post name query)) = IsRestricted query
 IsRestrictedCommand Blank = Unit {0}
-IsRestrictedCommand (Relation name arity) = Unit {0}
-IsRestrictedCommand (Board form) = Unit {0}
-IsRestrictedCommand (Limits pool journal) = Unit {0}
-IsRestrictedCommand (Withdraw name) = Unit {0}
-IsRestrictedCommand (Insert row) = Unit {0}
-IsRestrictedCommand (Delete row) = Unit {0}
+IsRestrictedCommand (Setup (Relation name arity)) = Unit {0}
+IsRestrictedCommand (Setup (Board form)) = Unit {0}
+IsRestrictedCommand (Setup (Limits pool journal)) = Unit {0}
+IsRestrictedCommand (Edit (Withdraw name)) = Unit {0}
+IsRestrictedCommand (Edit (Insert row)) = Unit {0}
+IsRestrictedCommand (Edit (Delete row)) = Unit {0}
 IsRestrictedCommand Publish = Unit {0}
 IsRestrictedCommand Show = Unit {0}
 

@@ -4,15 +4,12 @@ ghost use Rattle.std.specs.Prelude.{◌≡◌};
 ghost use Rattle.cq_text.specs.Steps.Commands.{command_word};
 
 use crate::form::Form;
-use cq_atom::{Name, Query, Row};
+use cq_atom::{EditKind, Name, Query, Row};
 use std::alloc::{Allocator, Global};
 
-/// What a line of a script stands for, over what holds names, queries and rows. Contracts see a
-/// command as a `CommandKind` over the bytes of names and the records of queries and rows.
+/// A line of a script's setup, over what holds names.
 #[derive(Drop)]
-pub enum CommandKind<N, Q, R> {
-    /// A line of spaces, or a comment.
-    Blank,
+pub enum SetupLine<N> {
     /// Declares a database relation with that many columns.
     Relation {
         /// The relation's name.
@@ -32,28 +29,18 @@ pub enum CommandKind<N, Q, R> {
         /// The most journal entries.
         journal: usize,
     },
-    /// Posts a query under a name.
-    Post {
-        /// The query's name.
-        name: N,
-        /// The query.
-        query: Q,
-    },
-    /// Takes a pending query back.
-    Withdraw {
-        /// The query's name.
-        name: N,
-    },
-    /// Adds a row to a database relation.
-    Insert {
-        /// The row.
-        row: R,
-    },
-    /// Takes a row out of a database relation.
-    Delete {
-        /// The row.
-        row: R,
-    },
+}
+
+/// What a line of a script stands for, over what holds names, queries and rows. Contracts see a
+/// command as a `CommandKind` over the bytes of names and the records of queries and rows.
+#[derive(Drop)]
+pub enum CommandKind<N, Q, R> {
+    /// A line of spaces, or a comment.
+    Blank,
+    /// Sets the board up.
+    Setup(SetupLine<N>),
+    /// Asks for an edit.
+    Edit(EditKind<N, Q, R>),
     /// Publishes the edits so far.
     Publish,
     /// Shows the published board.

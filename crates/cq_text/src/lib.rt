@@ -29,7 +29,7 @@ mod token;
 mod whole;
 mod word;
 
-pub use command::{Command, CommandKind};
+pub use command::{Command, CommandKind, SetupLine};
 pub use counted::Counted;
 pub use fault::{Kind, TextFault, WholeFault};
 pub use field::read_field;

@@ -1,8 +1,8 @@
 //! What a client does with its session.
 
 use crate::fault::Fault;
-use cq_atom::Name;
-use cq_board::{Board, Edit, EditKind, Why};
+use cq_atom::{Edit, EditKind, Name};
+use cq_board::{Board, Why};
 use cq_desk::{Live, Reply};
 use cq_room::{Front, Pair, Receipt, Room, RoomName, Session};
 use cq_text::{Form, read_ground_atom, read_query};

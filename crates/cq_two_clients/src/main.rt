@@ -15,8 +15,8 @@ mod fault;
 
 use crate::client::{Client, Shared, SharedRoom, insertion, run_both, submit};
 use crate::fault::Fault;
-use cq_atom::Name;
-use cq_board::{Board, Edit, Limits};
+use cq_atom::{Edit, Name};
+use cq_board::{Board, Limits};
 use cq_rel::Catalog;
 use cq_room::{Parts, Room, RoomName, Session};
 use std::alloc::Global;

@@ -2,7 +2,8 @@
 use Rattle.std.specs.Prelude.{◌≡◌, ℕ, List, [], ◌∷◌, ◌++◌, Option, None, Some, length}
 use Rattle.cq_board.specs.declared.edit.Why.{Why}
 use Rattle.cq_board.specs.Pool.{PoolRecord, opening_pool}
-use Rattle.cq_board.specs.Edits.{Edit, why, pool_after}
+use Rattle.cq_atom.specs.Edit.{Edit}
+use Rattle.cq_board.specs.Edits.{why, pool_after}
 use Rattle.cq_desk.specs.History.{edits_of}
 use Rattle.cq_desk.specs.Replies.{journal_edits}
 use Rattle.cq_desk.specs.declared.reply.Reply.{Reply}

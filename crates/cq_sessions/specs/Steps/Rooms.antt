@@ -3,7 +3,7 @@ use Rattle.std.specs.Prelude.{◌≡◌, ℕ, ◌≤◌, List, [], ◌∷◌, �
 use Rattle.std.specs.List.{Contains}
 use mathlib.Core.List.{IsPrefix}
 use Rattle.cq_board.specs.Pool.{PoolRecord}
-use Rattle.cq_board.specs.Edits.{Edit}
+use Rattle.cq_atom.specs.Edit.{Edit}
 use Rattle.cq_desk.specs.Replies.{journal_edits}
 use Rattle.cq_desk.specs.declared.journal.Entry.{Entry}
 use Rattle.cq_report.specs.declared.fault.RunFault.{RunFault}

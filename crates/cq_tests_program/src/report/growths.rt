@@ -3,7 +3,8 @@
 use crate::devices::{Expecting, OneLine, Pieces};
 use crate::lines::edit;
 use crate::report::reports::with_one_row;
-use cq_board::{Board, Edit};
+use cq_atom::Edit;
+use cq_board::Board;
 use cq_render::report;
 use cq_report::{Numbering, RunFault, read_whole, run};
 use cq_tests_growths::{ENOUGH, Outcome, Refusing, Tried, refusals};

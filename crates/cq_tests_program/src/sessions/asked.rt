@@ -1,8 +1,8 @@
 //! What each writer asks for.
 
 use crate::lines::{edit, posting, withdrawal};
-use cq_atom::{Name, Query, Row};
-use cq_board::{Edit, EditKind, Why};
+use cq_atom::{Edit, EditKind, Name, Query, Row};
+use cq_board::Why;
 use cq_desk::Reply;
 use cq_text::{print_query, print_row};
 use std::alloc::{AllocError, Global};

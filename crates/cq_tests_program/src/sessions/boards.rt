@@ -1,6 +1,7 @@
 //! The boards and rooms of these tests.
 
-use cq_board::{Board, Edit, Limits, Why};
+use cq_atom::Edit;
+use cq_board::{Board, Limits, Why};
 use cq_desk::Live;
 use cq_rel::Catalog;
 use cq_room::{Pair, Room};

@@ -3,7 +3,8 @@
 use crate::sessions::asked::{EDITS, WRITERS, line, may_be, text};
 use crate::sessions::left::report_of;
 use crate::sessions::record::{Kept, Record};
-use cq_board::{Edit, Why};
+use cq_atom::Edit;
+use cq_board::Why;
 use cq_desk::{Entry, Reply};
 use std::alloc::{AllocError, Global};
 

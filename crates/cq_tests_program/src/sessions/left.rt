@@ -1,8 +1,8 @@
 //! What a beginning of a journal leaves, over plain lists of queries and rows.
 
 use crate::sessions::boards::{LIMITS, catalog};
-use cq_atom::{Name, Query, Row};
-use cq_board::{Board, Edit, EditKind};
+use cq_atom::{Edit, EditKind, Name, Query, Row};
+use cq_board::Board;
 use cq_desk::{Entry, Live, NoMemory};
 use cq_render::report;
 use std::alloc::Global;

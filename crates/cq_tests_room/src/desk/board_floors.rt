@@ -1,7 +1,8 @@
 //! Floors over a board.
 
 use crate::lines::{BoardLike, FLIGHTS, Line, board, edit};
-use cq_board::{Board, Edit, Why};
+use cq_atom::Edit;
+use cq_board::{Board, Why};
 use cq_desk::{Answer, Event, Floor, FloorFault, StepFault, looks_never_fall};
 use std::alloc::{AllocError, Global};
 

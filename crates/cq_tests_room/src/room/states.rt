@@ -2,7 +2,8 @@
 
 use crate::lines::{Line, board, edit, edits, is_grounded, stands_at};
 use crate::tally::{Full, Tally, list};
-use cq_board::{Board, Edit, Why};
+use cq_atom::Edit;
+use cq_board::{Board, Why};
 use cq_desk::{Live, Reply};
 use std::alloc::Allocator;
 

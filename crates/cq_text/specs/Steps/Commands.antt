@@ -4,7 +4,9 @@ use Rattle.cq_atom.specs.Value.{number_of}
 use Rattle.cq_text.specs.declared.fault.Kind.TheVariants.{Shape, Limit}
 use Rattle.cq_text.specs.declared.fault.TextFault.{TextFault}
 use Rattle.cq_text.specs.Limits.{max_count, max_form}
-use Rattle.cq_text.specs.declared.command.CommandKind.TheVariants.{Relation, Board, Limits, Post, Withdraw, Insert, Delete, Publish, Show}
+use Rattle.cq_text.specs.declared.command.CommandKind.TheVariants.{Setup, Edit, Publish, Show}
+use Rattle.cq_text.specs.declared.command.SetupLine.TheVariants.{Relation, Board, Limits}
+use Rattle.cq_atom.specs.declared.edit.EditKind.TheVariants.{Post, Withdraw, Insert, Delete}
 use Rattle.cq_text.specs.declared.command.CommandWord.{CommandWord}
 use Rattle.cq_text.specs.declared.token.Token.TheVariants.{Mark, Word, Literal, Bad, Finish}
 use Rattle.cq_text.specs.Token.{TokenContent}
@@ -63,7 +65,7 @@ relation_at form a = do
   name ← relation_in l.0.token l.0.at
   arity ← count_at (most_terms form) l.1
   rest ← end_at arity.1
-  Ok (Relation name arity.0)
+  Ok (Setup (Relation name arity.0))
 
 -- The form of a number from 1 to 2.
 abbrev pub form_numbered : ℕ → Form
@@ -73,38 +75,38 @@ unfoldable pub board_at : Ahead → Result CommandContent TextFault
 board_at a = do
   number ← count_at max_form a
   rest ← end_at number.1
-  Ok (Board (form_numbered number.0))
+  Ok (Setup (Board (form_numbered number.0)))
 
 unfoldable pub limits_at : Ahead → Result CommandContent TextFault
 limits_at a = do
   pool ← count_at max_count a
   journal ← count_at max_count pool.1
   rest ← end_at journal.1
-  Ok (Limits pool.0 journal.0)
+  Ok (Setup (Limits pool.0 journal.0))
 
 unfoldable pub post_at : (form : Form) → Ahead → Result CommandContent TextFault
 post_at form a = do
   l ← next_at a
   name ← name_in l.0.token l.0.at
   query ← query_at form l.1
-  Ok (Post name query)
+  Ok (Edit (Post name query))
 
 unfoldable pub withdraw_at : Ahead → Result CommandContent TextFault
 withdraw_at a = do
   l ← next_at a
   name ← name_in l.0.token l.0.at
   rest ← end_at l.1
-  Ok (Withdraw name)
+  Ok (Edit (Withdraw name))
 
 unfoldable pub insert_at : (form : Form) → Ahead → Result CommandContent TextFault
 insert_at form a = do
   row ← row_at form a
-  Ok (Insert row)
+  Ok (Edit (Insert row))
 
 unfoldable pub delete_at : (form : Form) → Ahead → Result CommandContent TextFault
 delete_at form a = do
   row ← row_at form a
-  Ok (Delete row)
+  Ok (Edit (Delete row))
 
 unfoldable pub word_alone : CommandContent → Ahead → Result CommandContent TextFault
 word_alone command a = do

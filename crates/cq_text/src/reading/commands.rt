@@ -5,13 +5,14 @@ ghost use Rattle.cq_text.specs.Grammar.{count_of};
 ghost use Rattle.cq_text.specs.Steps.Commands.{number_in, count_in, count_at, relation_at, form_numbered, board_at, limits_at, withdraw_at, insert_at, delete_at, command_word_in, command_word_at, post_at, word_alone, command_of, command_at};
 ghost use Rattle.cq_text.specs.Steps.Lexemes.{Gives};
 
-use crate::command::{Command, CommandKind, CommandWord};
+use crate::command::{Command, CommandKind, CommandWord, SetupLine};
 use crate::fault::TextFault;
 use crate::form::Form;
 use crate::limits::{MAX_COUNT, MAX_FORM};
 use crate::reading::Reader;
 use crate::reading::lexemes::{limit, new_name, shape};
 use crate::token::{TextLexeme, TextToken, Token};
+use cq_atom::EditKind;
 use std::alloc::Allocator;
 
 /// The number that a token is.
@@ -82,7 +83,7 @@ impl<'a, A: Allocator + Copy> Reader<'a, A> {
         let arity = self.count(form.max_terms())?;
         self.end()?;
         let name = new_name(self.alloc, word)?;
-        Ok(CommandKind::Relation { name, arity })
+        Ok(CommandKind::Setup(SetupLine::Relation { name, arity }))
     }
 
     /// The form of the script, and the end.
@@ -92,9 +93,8 @@ impl<'a, A: Allocator + Copy> Reader<'a, A> {
     {
         let number = self.count(MAX_FORM)?;
         self.end()?;
-        Ok(CommandKind::Board {
-            form: form_numbered(number),
-        })
+        let form = form_numbered(number);
+        Ok(CommandKind::Setup(SetupLine::Board { form }))
     }
 
     /// The limits of the board, and the end.
@@ -105,7 +105,7 @@ impl<'a, A: Allocator + Copy> Reader<'a, A> {
         let pool = self.count(MAX_COUNT)?;
         let journal = self.count(MAX_COUNT)?;
         self.end()?;
-        Ok(CommandKind::Limits { pool, journal })
+        Ok(CommandKind::Setup(SetupLine::Limits { pool, journal }))
     }
 
     #[tactic(auto, unfolding(crate::specs::Steps::Commands::post_at, crate::specs::Steps::Lexemes::name_at))]
@@ -114,7 +114,7 @@ impl<'a, A: Allocator + Copy> Reader<'a, A> {
     {
         let name = self.name()?;
         let query = self.query(form)?;
-        Ok(CommandKind::Post { name, query })
+        Ok(CommandKind::Edit(EditKind::Post { name, query }))
     }
 
     #[tactic(auto, unfolding(crate::specs::Steps::Commands::withdraw_at, crate::specs::Steps::Lexemes::name_at))]
@@ -123,7 +123,7 @@ impl<'a, A: Allocator + Copy> Reader<'a, A> {
     {
         let name = self.name()?;
         self.end()?;
-        Ok(CommandKind::Withdraw { name })
+        Ok(CommandKind::Edit(EditKind::Withdraw { name }))
     }
 
     #[tactic(auto, unfolding(crate::specs::Steps::Commands::insert_at))]
@@ -131,7 +131,7 @@ impl<'a, A: Allocator + Copy> Reader<'a, A> {
         ensures { Gives (λ command. command) result (insert_at form self.old) }
     {
         let row = self.row(form)?;
-        Ok(CommandKind::Insert { row })
+        Ok(CommandKind::Edit(EditKind::Insert { row }))
     }
 
     #[tactic(auto, unfolding(crate::specs::Steps::Commands::delete_at))]
@@ -139,7 +139,7 @@ impl<'a, A: Allocator + Copy> Reader<'a, A> {
         ensures { Gives (λ command. command) result (delete_at form self.old) }
     {
         let row = self.row(form)?;
-        Ok(CommandKind::Delete { row })
+        Ok(CommandKind::Edit(EditKind::Delete { row }))
     }
 
     /// The command of a word, with nothing behind it.

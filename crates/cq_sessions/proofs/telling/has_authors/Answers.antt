@@ -1,5 +1,5 @@
 use Rattle.std.proofs.Common.{ap, arith}
-use Rattle.cq_board.specs.Edits.{Edit}
+use Rattle.cq_atom.specs.Edit.{Edit}
 use Rattle.cq_desk.specs.declared.journal.Entry.{Entry}
 use Rattle.cq_sessions.proofs.Told.{none-on, read-more}
 use Rattle.cq_sessions.proofs.telling.has_authors.Goals as goal

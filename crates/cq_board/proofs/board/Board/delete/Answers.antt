@@ -1,6 +1,6 @@
 use Rattle.std.proofs.Common.{◌≡◌, ℕ, subst, ◌∙◌}
 use Rattle.cq_match.specs.Matcher as matcher
-use Rattle.cq_board.specs.declared.edit.EditKind.TheVariants.{Delete}
+use Rattle.cq_atom.specs.declared.edit.EditKind.TheVariants.{Delete}
 use Rattle.cq_board.specs.Edits.{edited}
 use Rattle.cq_board.specs.Work.{lost, raised}
 use Rattle.cq_board.proofs.WorkLost.{lost-brought}

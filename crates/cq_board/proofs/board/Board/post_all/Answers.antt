@@ -1,6 +1,6 @@
 use Rattle.std.proofs.Common.{[], ◌∷◌, map, refl, ap, ◌∙◌, arith, Err}
 use Rattle.std.proofs.lemmas.Result.{err_from_is_err_and}
-use Rattle.cq_board.specs.declared.edit.EditKind.TheVariants.{Post}
+use Rattle.cq_atom.specs.declared.edit.EditKind.TheVariants.{Post}
 use Rattle.cq_board.specs.Scratch.{scratch_of}
 use Rattle.cq_board.proofs.Scratched.{continues_refused, step_refused, step_done, all_done}
 use Rattle.cq_board.proofs.board.Board.post_all.Goals as goal

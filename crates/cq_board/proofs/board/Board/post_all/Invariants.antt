@@ -1,5 +1,5 @@
 use Rattle.std.proofs.Common.{◌≡◌, map, drop}
-use Rattle.cq_board.specs.declared.edit.EditKind.TheVariants.{Post}
+use Rattle.cq_atom.specs.declared.edit.EditKind.TheVariants.{Post}
 use Rattle.cq_board.specs.Scratch.{scratch_of}
 use Rattle.cq_board.proofs.board.Board.post_all.Given as goal
 

@@ -1,6 +1,6 @@
 use Rattle.std.proofs.Common.{◌++◌, map, sym, ap, ◌∙◌, Err}
 use Rattle.std.proofs.lemmas.Result.{err_from_is_err_and}
-use Rattle.cq_board.specs.declared.edit.EditKind.TheVariants.{Insert, Post}
+use Rattle.cq_atom.specs.declared.edit.EditKind.TheVariants.{Insert, Post}
 use Rattle.cq_board.specs.Pool.{PoolRecord}
 use Rattle.cq_board.specs.Scratch.{scratch_of}
 use Rattle.cq_board.proofs.Scratched.{makes_refused, scratch_of-append, scratch_of-append_refused}

@@ -1,5 +1,5 @@
 use Rattle.std.proofs.Common.{◌≡◌, refl, ap, subst, ◌∙◌}
-use Rattle.cq_board.specs.declared.edit.EditKind.TheVariants.{Withdraw}
+use Rattle.cq_atom.specs.declared.edit.EditKind.TheVariants.{Withdraw}
 use Rattle.cq_board.specs.Pool.{PoolRecord}
 use Rattle.cq_board.specs.Edits.{edited}
 use Rattle.cq_board.specs.Work.{lost, raised}
