@@ -60,7 +60,7 @@ impl<A: Allocator + Clone> Atom<A> {
     ///
     /// # Errors
     /// `BadName` unless the bytes are a name that begins with an upper-case letter; then `BadArity`
-    /// unless there are 1 to 16 terms; else `NoMemory` where the growth was refused.
+    /// unless there are 1 to 16 terms; else `NoMemory` where the allocation failed.
     pub fn new(alloc: A, relation: &str, terms: Vec<Term<A>, A>) -> Result<Atom<A>, Bad>
         ensures { let atom : AtomRecord = record { relation = relation.now; terms = terms.items } in
             Answers Bad.NoMemory (arity_fault relation.now (length terms.items)) atom result }
@@ -120,7 +120,7 @@ impl<A: Allocator + Clone> Atom<A> {
     /// knows is replaced by its value, and every other term stays.
     ///
     /// # Errors
-    /// `AllocError` where a growth was refused.
+    /// `AllocError` where an allocation failed.
     pub fn under(&self, valuation: &Valuation<A>) -> Result<Atom<A>, AllocError>
         ensures { IfOk result (λ atom. atom ≡ under valuation.now self.now) }
     {

@@ -37,7 +37,7 @@ impl<A: Allocator> Bytes<A> {
     /// The bytes of the text.
     ///
     /// # Errors
-    /// `AllocError` where the growth was refused.
+    /// `AllocError` where the allocation failed.
     pub fn from_str(alloc: A, text: &str) -> Result<Bytes<A>, AllocError>
         ensures { IfOk result (λ bytes. bytes ≡ text.now) }
     {

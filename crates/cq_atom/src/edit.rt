@@ -42,7 +42,7 @@ impl<A: Allocator + Clone> EditKind<Name<A>, Query<A>, Row<A>> {
     /// An equal edit, which shares its query or row with this one.
     ///
     /// # Errors
-    /// `AllocError` where the growth was refused, or where 2^63 - 1 equal ones share the query or the row already.
+    /// `AllocError` where the allocation failed, or where 2^63 - 1 equal ones share the query or the row already.
     pub fn copy(&self) -> Result<Edit<A>, AllocError>
         ensures { IfOk result (λ edit. edit ≡ self.now) }
     {

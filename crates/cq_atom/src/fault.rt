@@ -46,7 +46,7 @@ pub enum Bad {
         /// The place of the term in that atom, from 0.
         term: usize,
     },
-    /// A growth was refused for want of memory.
+    /// An allocation failed.
     #[error("out of memory")]
     NoMemory,
 }

@@ -34,7 +34,7 @@ impl<A: Allocator> Name<A> {
     /// The name of these bytes.
     ///
     /// # Errors
-    /// `BadName` where they are none; else `NoMemory` where the growth was refused.
+    /// `BadName` where they are none; else `NoMemory` where the allocation failed.
     pub fn new(alloc: A, text: &str) -> Result<Name<A>, Bad>
         ensures { Answers Bad.NoMemory (if is_name text.now then None else Some Bad.BadName) text.now result }
     {
@@ -66,7 +66,7 @@ impl<A: Allocator + Clone> Name<A> {
     /// An equal name, on the same allocator.
     ///
     /// # Errors
-    /// `AllocError` where the growth was refused.
+    /// `AllocError` where the allocation failed.
     pub fn copy(&self) -> Result<Name<A>, AllocError>
         ensures { IfOk result (λ name. name ≡ self.now) }
     {

@@ -44,7 +44,7 @@ impl<A: Allocator + Clone> Row<A> {
     ///
     /// # Errors
     /// `BadName` unless the bytes are a name that begins with an upper-case letter; then `BadArity`
-    /// unless there are 1 to 16 values; else `NoMemory` where the growth was refused.
+    /// unless there are 1 to 16 values; else `NoMemory` where the allocation failed.
     pub fn new(alloc: A, relation: &str, values: Vec<Value<A>, A>) -> Result<Row<A>, Bad>
         ensures { let row : RowRecord = record { relation = relation.now; values = values.items } in
             Answers Bad.NoMemory (arity_fault relation.now (length values.items)) row result }

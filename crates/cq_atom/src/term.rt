@@ -57,7 +57,7 @@ impl<A: Allocator> Term<A> {
     ///
     /// # Errors
     /// `BadName` unless the bytes are a name that begins with a lower-case letter; else `NoMemory`
-    /// where the growth was refused.
+    /// where the allocation failed.
     pub fn variable(alloc: A, name: &str) -> Result<Term<A>, Bad>
         ensures { Answers Bad.NoMemory (if is_variable_name name.now then None else Some Bad.BadName) (TermKind.Variable name.now) result }
     {
@@ -70,7 +70,7 @@ impl<A: Allocator> Term<A> {
     /// The variable of that name, which is known to be a variable's.
     ///
     /// # Errors
-    /// `AllocError` where the growth was refused.
+    /// `AllocError` where the allocation failed.
     pub fn known_variable(alloc: A, name: &str) -> Result<Term<A>, AllocError>
         requires { IsTrue (is_variable_name name.now) }
         ensures { IfOk result (λ term. term ≡ TermKind.Variable name.now) }

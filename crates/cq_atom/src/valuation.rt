@@ -72,7 +72,7 @@ impl<A: Allocator + Clone> Valuation<A> {
     ///
     /// # Errors
     /// `BadName` unless the bytes are a name that begins with a lower-case letter; else `NoMemory`
-    /// where a growth was refused. The value is dropped then, and the valuation stays as it was.
+    /// where an allocation failed. The value is dropped then, and the valuation stays as it was.
     pub fn bind(&mut self, name: &str, value: Value<A>) -> Result<Option<Value<A>>, Bad>
         ensures answer { Answers Bad.NoMemory (if is_variable_name name.now then None else Some Bad.BadName) (value_at self.old name.now) result }
         ensures ok { OnOk result ((x : List ℕ) → value_at self.new x ≡ (if bytes_eq x name.now then Some value else value_at self.old x)) }

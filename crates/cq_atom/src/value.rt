@@ -77,7 +77,7 @@ impl<A: Allocator> Value<A> {
     ///
     /// # Errors
     /// `BadText` where it is longer than 255 bytes or has a control character of ASCII; else
-    /// `NoMemory` where the growth was refused.
+    /// `NoMemory` where the allocation failed.
     pub fn text(alloc: A, text: &str) -> Result<Value<A>, Bad>
         ensures { Answers Bad.NoMemory (if is_text text.now then None else Some Bad.BadText) (Content.Text text.now) result }
     {
@@ -90,7 +90,7 @@ impl<A: Allocator> Value<A> {
     /// The text as a value, which is known to be one.
     ///
     /// # Errors
-    /// `AllocError` where the growth was refused.
+    /// `AllocError` where the allocation failed.
     pub fn known_text(alloc: A, text: &str) -> Result<Value<A>, AllocError>
         requires { IsTrue (is_text text.now) }
         ensures { IfOk result (λ value. value ≡ Content.Text text.now) }
@@ -146,7 +146,7 @@ impl<A: Allocator + Clone> Value<A> {
     /// An equal value, on the same allocator.
     ///
     /// # Errors
-    /// `AllocError` where the growth was refused.
+    /// `AllocError` where the allocation failed.
     pub fn copy(&self) -> Result<Value<A>, AllocError>
         ensures { IfOk result (λ value. value ≡ self.now) }
     {

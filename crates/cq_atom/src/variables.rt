@@ -101,7 +101,7 @@ impl<A: Allocator + Clone> Variables<A> {
     /// The variables of a body. Each occurrence is compared with the names before it.
     ///
     /// # Errors
-    /// `AllocError` where a growth was refused.
+    /// `AllocError` where an allocation failed.
     pub fn of(alloc: A, body: &[Atom<A>]) -> Result<Variables<A>, AllocError>
         ensures { IfOk result (λ variables. variables ≡ variables_of body.now) }
     {

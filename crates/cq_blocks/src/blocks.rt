@@ -48,7 +48,7 @@ impl<T, A: Allocator> Blocks<T, A> {
     /// The elements of a `Vec` in their order, as one block.
     ///
     /// # Errors
-    /// `AllocError` where a growth was refused. Where there are no elements, none is asked for.
+    /// `AllocError` where an allocation failed. Where there are no elements, none is asked for.
     pub fn from_vec(vec: Vec<T, A>) -> Result<Blocks<T, A>, AllocError>
     where
         T: Drop,

@@ -60,7 +60,7 @@ impl<A: Allocator + Copy> Board<A> {
     /// The board over the catalog, without rows and queries. It grows with the allocator later on.
     ///
     /// # Errors
-    /// `AllocError` where a growth was refused.
+    /// `AllocError` where an allocation failed.
     pub fn begin(alloc: A, catalog: Catalog<A>, limits: Limits) -> Result<Board<A>, AllocError>
         ensures { IfOk result (λ board. board ≡ opening_pool catalog limits) }
     {
@@ -77,7 +77,7 @@ impl<A: Allocator + Copy> Board<A> {
     /// Puts an edit to the pool, or tells why it is refused. A refused edit changes nothing.
     ///
     /// # Errors
-    /// `AllocError` where a growth was refused, which comes after every other refusal. Nothing has
+    /// `AllocError` where an allocation failed, which comes after every other refusal. Nothing has
     /// changed then.
     pub fn admit(&mut self, edit: &Edit<A>) -> Result<Option<Why>, AllocError>
         ensures answer { Admits (why self.old edit.now) result }
@@ -142,7 +142,7 @@ impl<A: Allocator + Copy> Board<A> {
     /// A board of equal content.
     ///
     /// # Errors
-    /// `AllocError` where a growth was refused.
+    /// `AllocError` where an allocation failed.
     pub fn copy(&self) -> Result<Board<A>, AllocError>
         ensures { IfOk result (λ board. board ≡ self.now) }
     {

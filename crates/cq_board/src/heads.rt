@@ -223,7 +223,7 @@ impl<A: Allocator + Copy> Board<A> {
     /// of the pool.
     ///
     /// # Errors
-    /// `AllocError` where a growth was refused.
+    /// `AllocError` where an allocation failed.
     pub fn heads(&self) -> Result<Heads<'_, A>, AllocError>
         ensures { IfOk result (λ heads. heads ≡ self.now) }
     {
@@ -242,7 +242,7 @@ impl<A: Allocator + Copy> Board<A> {
     /// postcondition. One pass over the heads of the pool; for more than one postcondition [`Board::heads`] is made once.
     ///
     /// # Errors
-    /// `AllocError` where a growth was refused.
+    /// `AllocError` where an allocation failed.
     pub fn near_misses(
         &self,
         name: &Name<A>,
@@ -283,7 +283,7 @@ impl<'a, A: Allocator + Copy> Heads<'a, A> {
     /// three with one.
     ///
     /// # Errors
-    /// `AllocError` where a growth was refused.
+    /// `AllocError` where an allocation failed.
     pub fn near_misses(
         &self,
         name: &Name<A>,

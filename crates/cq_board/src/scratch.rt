@@ -22,7 +22,7 @@ pub enum ScratchFault {
     /// A row or a query was refused, the first of them for this reason.
     #[error("refused: {0:?}")]
     Refused(Why),
-    /// A growth was refused.
+    /// An allocation failed.
     #[error("out of memory")]
     NoMemory,
 }
@@ -90,8 +90,8 @@ impl<A: Allocator + Copy> Board<A> {
     /// in the order in which they stand.
     ///
     /// # Errors
-    /// `Refused` tells why the first row or query that is refused is refused, and `NoMemory` that a
-    /// growth was refused.
+    /// `Refused` tells why the first row or query that is refused is refused, and `NoMemory` that an
+    /// allocation failed.
     pub fn scratch(
         alloc: A,
         catalog: Catalog<A>,

@@ -199,7 +199,7 @@ impl<A: Allocator + Copy> Board<A> {
     /// goes last.
     ///
     /// # Errors
-    /// `AllocError` where a growth was refused.
+    /// `AllocError` where an allocation failed.
     pub fn names(&self) -> Result<Vec<&Name<A>, A>, AllocError>
         ensures { IfOk result (λ names. map (λ name. name.now) names.items ≡ map name_of self.now.pending) }
     {
@@ -211,7 +211,7 @@ impl<A: Allocator + Copy> Board<A> {
     /// provider, the head. The list is made when it is asked for: its time is that of sorting it.
     ///
     /// # Errors
-    /// `AllocError` where a growth was refused.
+    /// `AllocError` where an allocation failed.
     pub fn edges_by_place(&self) -> Result<Vec<Edge, A>, AllocError>
         ensures { IfOk result (λ edges. edges.items ≡ edges_of self.now.pending) }
     {
@@ -222,7 +222,7 @@ impl<A: Allocator + Copy> Board<A> {
     /// head.
     ///
     /// # Errors
-    /// `AllocError` where a growth was refused.
+    /// `AllocError` where an allocation failed.
     pub fn edges(&self) -> Result<Vec<Link<&Name<A>>, A>, AllocError>
         ensures { IfOk result (λ links. map (link_read (λ name. name.now)) links.items ≡ links_of self.now.pending) }
     {
@@ -235,7 +235,7 @@ impl<A: Allocator + Copy> Board<A> {
     /// postcondition. One pass over the edges.
     ///
     /// # Errors
-    /// `AllocError` where a growth was refused.
+    /// `AllocError` where an allocation failed.
     pub fn crowded(&self) -> Result<Vec<Crowd<&Name<A>>, A>, AllocError>
         ensures { IfOk result (λ crowded. map (crowd_read (λ name. name.now)) crowded.items ≡ crowded_of self.now.pending) }
     {
@@ -247,7 +247,7 @@ impl<A: Allocator + Copy> Board<A> {
     /// The names of the matched queries, in posting order.
     ///
     /// # Errors
-    /// `AllocError` where a growth was refused.
+    /// `AllocError` where an allocation failed.
     pub fn matched(&self) -> Result<Vec<&Name<A>, A>, AllocError>
         ensures { IfOk result (λ names. map (λ name. name.now) names.items ≡ matched_names self.now) }
     {

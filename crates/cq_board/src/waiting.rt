@@ -105,7 +105,7 @@ impl<A: Allocator + Copy> Board<A> {
     /// time is that of sorting queries and edges.
     ///
     /// # Errors
-    /// `AllocError` where a growth was refused.
+    /// `AllocError` where an allocation failed.
     pub fn falls(&self) -> Result<Vec<Fall, A>, AllocError>
         ensures falls { IfOk result (λ falls. IsFalling (nodes_of self.now) (edges_of self.now.pending) falls.items) }
         ensures unmatched { IfOk result (λ falls. (n : ℕ) → Contains (fallen falls.items) n ↔ IsUnmatched (nodes_of self.now) (edges_of self.now.pending) n) }
@@ -159,7 +159,7 @@ impl<A: Allocator + Copy> Board<A> {
     /// matched. It is made when it is asked for: its time is that of `falls`.
     ///
     /// # Errors
-    /// `AllocError` where a growth was refused.
+    /// `AllocError` where an allocation failed.
     pub fn why_waiting(&self, name: &Name<A>) -> Result<Option<Vec<Wait<&Name<A>>, A>>, AllocError>
         ensures none { IfOk result (λ told. is_some told ≡ is_waiting name.now self.now) }
         ensures reason { IfOk result (λ told. (number : ℕ) → place_of name.now self.now.pending ≡ Some number → IfSome told (λ waits. IsReason self.now number (map (wait_read (λ name. name.now)) waits.items))) }

@@ -12,7 +12,7 @@ use Rattle.cq_cli.specs.declared.choices.ChoiceFault.TheVariants as choices
 use Rattle.cq_cli.specs.declared.status.Status.{Status}
 use Rattle.cq_cli.specs.declared.status.Status.TheVariants.{Done, Failed, Usage, NoMemory, BadRecord, Unserved, NotSo}
 
--- Done is 0, a device that failed is 1, and so are sessions that were not served, a fault of usage is 2, want of memory is 3, a record at fault is 4, what is not so on a board is 5.
+-- Done is 0, a device that failed is 1, and so are sessions that were not served, a fault of usage is 2, out of memory is 3, a record at fault is 4, what is not so on a board is 5.
 abbrev pub code_of : Status → ℕ
 code_of Done = 0
 code_of Failed = 1

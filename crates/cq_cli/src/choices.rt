@@ -19,7 +19,7 @@ pub(crate) enum ChoiceFault<'a> {
     /// The word is no name with values in brackets behind it.
     #[error("bad choice: {word}")]
     Bad { word: &'a str },
-    /// A growth was refused.
+    /// An allocation failed.
     #[error("out of memory")]
     NoMemory,
 }

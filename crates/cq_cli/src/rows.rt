@@ -33,7 +33,7 @@ pub(crate) enum RowsFault {
     /// A field of a record is no value.
     #[error("record {index}: bad text")]
     Text { index: usize },
-    /// A growth was refused.
+    /// An allocation failed.
     #[error("out of memory")]
     NoMemory,
 }
@@ -160,7 +160,7 @@ fn read_lines<A: Allocator + Copy, R: Source>(
 ///
 /// # Errors
 /// `BadName`, and then `BadArity`, before anything is read. `Read`, `Width` and `Text` as `read_csv` tells
-/// them, and `NoMemory` where a growth was refused: nothing is written then. `Write` where the writer
+/// them, and `NoMemory` where an allocation failed: nothing is written then. `Write` where the writer
 /// failed.
 pub(crate) fn write_rows<A: Allocator + Copy, R: Source, W: Sink>(
     alloc: A,

@@ -17,7 +17,7 @@ pub(crate) enum Status {
     Failed,
     /// The words ask for nothing that the program does.
     Usage,
-    /// A growth was refused for want of memory.
+    /// An allocation failed.
     NoMemory,
     /// A record of CSV is at fault.
     BadRecord,

@@ -393,8 +393,8 @@ fn task_of<'a>(
 /// What the words ask for, of which the first is the program's name.
 ///
 /// # Errors
-/// What `clap` says of words that ask for nothing, for help or for the version; `OutOfMemory` where a
-/// growth was refused.
+/// What `clap` says of words that ask for nothing, for help or for the version; `OutOfMemory` where an
+/// allocation failed.
 pub(crate) fn read_words<'a, S: AsStr>(alloc: Global, words: &'a [S]) -> Result<Wanted<'a>, Error> {
     let matches = board_command(alloc)?.try_get_matches_from(words)?;
     let Some((name, behind)) = matches.subcommand() else {

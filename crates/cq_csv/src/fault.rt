@@ -30,7 +30,7 @@ pub enum CsvFault {
         /// The place of the record.
         index: usize,
     },
-    /// A growth was refused for want of memory.
+    /// An allocation failed.
     #[error("out of memory")]
     NoMemory,
 }

@@ -58,7 +58,7 @@ fn call_fault(relation: &str, arity: usize) -> Option<CsvFault>
 /// `BadArity` unless the arity is 1 to 16. `Device` tells the number, from 1, of the read that failed,
 /// and 1,048,577 where no read failed and none came to the end. Then the first record at fault is told, counted
 /// from 0: `Width` where the number of its fields is not the arity, else `Text` where a field is no
-/// value. `NoMemory` where a growth was refused.
+/// value. `NoMemory` where an allocation failed.
 pub fn read_csv<A: Allocator + Copy, R: Source>(
     alloc: A,
     heap: Global,

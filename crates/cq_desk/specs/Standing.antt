@@ -39,7 +39,7 @@ MayWant (Err Ahead) = ⊥
 MayWant (Err JournalFull) = ⊥
 MayWant (Err NoMemory) = ⊥
 
--- What is answered is what the machine answers, or want of memory.
+-- What is answered is what the machine answers, or out of memory.
 abbrev pub IsTold : {W : Type 0} → Result Answer (StepFault W) → Result Answer (StepFault W) → Type 0
 IsTold answer (Ok told) = answer ≡ Ok told
 IsTold answer (Err NoSession) = answer ≡ Err NoSession

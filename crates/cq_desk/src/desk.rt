@@ -94,7 +94,7 @@ impl<L: Live, P: Publisher<L>, A: Allocator + Copy> Desk<L, P, A> {
     /// Enters the edit under the author's name, and answers its number.
     ///
     /// # Errors
-    /// `JournalFull` before `Not`; `NoMemory` where a growth was refused, which may take the place
+    /// `JournalFull` before `Not`; `NoMemory` where an allocation failed, which may take the place
     /// of `Not`. Nothing has changed then.
     pub fn enter(&mut self, author: usize, edit: L::Edit) -> Result<u64, Refused<L::Why>>
         ensures answer { IsAnswer (reply_at L.after L.why (P.opening self.old.publisher) self.old.limit (journal_edits self.old.journal) edit) result }
@@ -121,7 +121,7 @@ impl<L: Live, P: Publisher<L>, A: Allocator + Copy> Desk<L, P, A> {
     /// how many entries are published.
     ///
     /// # Errors
-    /// `NoMemory` where a growth was refused. Journal and shown publications stay as they were, and
+    /// `NoMemory` where an allocation failed. Journal and shown publications stay as they were, and
     /// a later call goes on.
     pub fn publish(&mut self, leave: &P::Leave) -> Result<u64, NoMemory>
         ensures journal { self.new.journal ≡ self.old.journal }

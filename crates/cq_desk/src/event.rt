@@ -50,6 +50,6 @@ pub enum StepFault<W> {
     JournalFull,
     /// The state refuses the edit.
     Not(W),
-    /// A growth was refused. It may take the place of `Not`.
+    /// An allocation failed. It may take the place of `Not`.
     NoMemory,
 }

@@ -28,7 +28,7 @@ pub enum FloorFault {
     /// There are 1 to 16 sessions.
     #[error("there must be 1 to 16 sessions")]
     Sessions,
-    /// A growth was refused.
+    /// An allocation failed.
     #[error("out of memory")]
     NoMemory,
 }
@@ -83,8 +83,8 @@ impl<L: Live, A: Allocator + Copy> Floor<L, A> {
     /// sessions, numbered from 0.
     ///
     /// # Errors
-    /// `Sessions` where there are not 1 to 16, before anything else; `NoMemory` where a growth was
-    /// refused.
+    /// `Sessions` where there are not 1 to 16, before anything else; `NoMemory` where an allocation
+    /// failed.
     pub fn begin(
         alloc: A,
         state: L,
@@ -200,8 +200,8 @@ impl<L: Live, A: Allocator + Copy> Floor<L, A> {
     /// Does what the event asks for, and answers it as the floor machine does.
     ///
     /// # Errors
-    /// `NoSession`, `Ahead`, `JournalFull`, `Not`, in this order; `NoMemory` where a growth was
-    /// refused, which may take the place of `Not`. Nothing has changed then.
+    /// `NoSession`, `Ahead`, `JournalFull`, `Not`, in this order; `NoMemory` where an allocation
+    /// failed, which may take the place of `Not`. Nothing has changed then.
     pub fn step(&mut self, event: Event<L::Edit>) -> Told<L::Why>
         ensures answer { IsTold (answer_to L.after L.why self.old.opening self.old.limit self.old.machine event) result }
         ensures ok { OnOk result (self.new ≡ stepped L.after L.why self.old event) }
@@ -235,7 +235,7 @@ impl<L: Live, A: Allocator + Copy> Floor<L, A> {
     /// what its published front leaves, as `working` and `board` say.
     ///
     /// # Errors
-    /// The answers to the events before the one at which a growth was refused. That one and those
+    /// The answers to the events before the one at which an allocation failed. That one and those
     /// behind it have not happened. There are none where there was no room for the answers.
     pub fn play(
         &mut self,

@@ -5,7 +5,7 @@ ghost use Rattle.std.specs.Prelude.{◌≡◌, Option, Some, IfOk, OnOk, OnErr};
 use std::alloc::{AllocError, AllocFailed};
 use thiserror::Error;
 
-/// A growth was refused.
+/// An allocation failed.
 #[derive(Clone, Copy, Debug, PartialEq, Eq, Error)]
 #[error("out of memory")]
 pub struct NoMemory;
@@ -47,7 +47,7 @@ pub trait Live: Drop {
     /// Takes the edit, or tells why it is refused.
     ///
     /// # Errors
-    /// `NoMemory` where a growth was refused. Nothing has changed then.
+    /// `NoMemory` where an allocation failed. Nothing has changed then.
     fn admit(&mut self, edit: &Self::Edit) -> Result<Option<Self::Why>, NoMemory>
         ensures answer { IfOk result (λ answer. answer ≡ why (content self.old) edit.now) }
         ensures ok { OnOk result (content self.new ≡ after (content self.old) edit.now) }
@@ -56,14 +56,14 @@ pub trait Live: Drop {
     /// A state of equal content.
     ///
     /// # Errors
-    /// `NoMemory` where a growth was refused.
+    /// `NoMemory` where an allocation failed.
     fn copy(&self) -> Result<Self, NoMemory>
         ensures { IfOk result (λ state. content state ≡ content self.now) };
 
     /// An equal edit.
     ///
     /// # Errors
-    /// `NoMemory` where a growth was refused.
+    /// `NoMemory` where an allocation failed.
     fn copy_edit(edit: &Self::Edit) -> Result<Self::Edit, NoMemory>
         ensures { IfOk result (λ copy. copy ≡ edit.now) };
 

@@ -41,7 +41,7 @@ impl<L: Live, A: Allocator + Copy> Plain<L, A> {
     /// Shows the state. The list of entries grows with the allocator later on.
     ///
     /// # Errors
-    /// `NoMemory` where a growth was refused.
+    /// `NoMemory` where an allocation failed.
     pub fn begin(alloc: A, state: L) -> Result<Plain<L, A>, NoMemory>
         ensures { IfOk result (λ plain. plain ≡ record { opening = L.content state; history = []; pending = [] }) }
     {

@@ -26,7 +26,7 @@ pub trait Publisher<L: Live>: Drop {
     /// Adds a pending entry: the edit under the author's number.
     ///
     /// # Errors
-    /// `NoMemory` where a growth was refused. Nothing has changed then.
+    /// `NoMemory` where an allocation failed. Nothing has changed then.
     fn append(&mut self, author: usize, edit: L::Edit) -> Result<(), NoMemory>
         requires { length (edits_of (history self.old)) + length (pending self.old) < u64.MAX }
         ensures opening { opening self.new ≡ opening self.old }
@@ -39,7 +39,7 @@ pub trait Publisher<L: Live>: Drop {
     /// adds no publication.
     ///
     /// # Errors
-    /// `NoMemory` where a growth was refused. What is shown stays then, and history and pending
+    /// `NoMemory` where an allocation failed. What is shown stays then, and history and pending
     /// entries together stay the same in the same order; the next publish goes on from there.
     fn publish(&mut self, leave: &Self::Leave) -> Result<(), NoMemory>
         ensures opening { opening self.new ≡ opening self.old }

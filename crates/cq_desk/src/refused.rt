@@ -7,6 +7,6 @@ pub enum Refused<W> {
     JournalFull,
     /// The state refuses it.
     Not(W),
-    /// A growth was refused. It may take the place of `Not`.
+    /// An allocation failed. It may take the place of `Not`.
     NoMemory,
 }

@@ -60,7 +60,7 @@ impl<L: Live, A: Allocator + Copy> Turns<L, A> {
     /// The state is shown, and the journal is empty. It grows with the allocator later on.
     ///
     /// # Errors
-    /// `NoMemory` where a growth was refused.
+    /// `NoMemory` where an allocation failed.
     pub(crate) fn begin(alloc: A, state: L, limit: usize) -> Result<Turns<L, A>, NoMemory>
         ensures { IfOk result (λ turns. turns ≡ (record { opening = L.content state; limit = limit; journal = []; published = 0 })) }
     {

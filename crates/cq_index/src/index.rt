@@ -91,7 +91,7 @@ impl<A: Allocator + Copy> AtomIndex<A> {
     /// many atoms share its buckets.
     ///
     /// # Errors
-    /// `AllocError` where a growth was refused; then nothing has changed.
+    /// `AllocError` where an allocation failed; then nothing has changed.
     pub fn add(&mut self, place: usize, atom: &Atom<A>) -> Result<(), AllocError>
         requires { map.get self.old place ≡ None }
         ensures ok { OnOk result (self.new ≡ map.insert self.old place atom.now) }
@@ -128,7 +128,7 @@ impl<A: Allocator + Copy> AtomIndex<A> {
     /// no candidate cannot unify with it. The time is that of sorting the answer.
     ///
     /// # Errors
-    /// `AllocError` where a growth was refused.
+    /// `AllocError` where an allocation failed.
     pub fn candidates(&self, atom: &Atom<A>) -> Result<Vec<usize, A>, AllocError>
         ensures listed { IfOk result (λ places. places.items ≡ candidates_of self.now atom.now) }
         ensures exact { IfOk result (λ places. (p : ℕ) → Contains places.items p ↔ IsCandidateAt self.now atom.now p) }
@@ -153,7 +153,7 @@ impl<A: Allocator + Copy> AtomIndex<A> {
     /// each candidate, whether it unifies or not.
     ///
     /// # Errors
-    /// `AllocError` where a growth was refused; the meter has counted the tests that were made before then.
+    /// `AllocError` where an allocation failed; the meter has counted the tests that were made before then.
     pub fn partners(&self, atom: &Atom<A>, meter: &mut Meter) -> Result<Vec<usize, A>, AllocError>
         ensures exact { IfOk result (λ places. (p : ℕ) → Contains places.items p ↔ IsPartnerAt self.now atom.now p) }
         ensures rising { IfOk result (λ places. IsStrictlyIncreasing places.items) }
@@ -176,7 +176,7 @@ impl<A: Allocator + Copy> AtomIndex<A> {
     /// time for each atom.
     ///
     /// # Errors
-    /// `AllocError` where a growth was refused.
+    /// `AllocError` where an allocation failed.
     pub fn copy(&self) -> Result<AtomIndex<A>, AllocError>
         ensures { IfOk result (λ copy. copy ≡ self.now) }
     {

@@ -107,7 +107,7 @@ impl<A: Allocator + Copy> Links<A> {
     /// expected time for each atom of the query beside the tests, up to sorting what is tested.
     ///
     /// # Errors
-    /// `AllocError` where a growth was refused, and where the place is so great that its atoms have no
+    /// `AllocError` where an allocation failed, and where the place is so great that its atoms have no
     /// numbers, which no pool reaches. Then nothing has changed, but the meter may have counted some tests.
     pub fn add(
         &mut self,
@@ -152,7 +152,7 @@ impl<A: Allocator + Copy> Links<A> {
     /// Links with the same queries at the same places, on the same allocator. Constant expected time for each atom.
     ///
     /// # Errors
-    /// `AllocError` where a growth was refused.
+    /// `AllocError` where an allocation failed.
     pub fn copy(&self) -> Result<Links<A>, AllocError>
         ensures { IfOk result (λ copy. copy ≡ self.now) }
     {

@@ -177,7 +177,7 @@ fn rounds_of<A: Allocator + Copy>(
 /// fall in a round are sorted and nodes looked up by halving. No clause says so.
 ///
 /// # Errors
-/// `AllocError` where a growth was refused.
+/// `AllocError` where an allocation failed.
 pub fn falling<A: Allocator + Copy>(
     alloc: A,
     nodes: &[(usize, u8, bool)],

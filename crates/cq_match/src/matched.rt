@@ -157,7 +157,7 @@ fn standing_numbers<A: Allocator>(
 /// No clause says so.
 ///
 /// # Errors
-/// `AllocError` where a growth was refused.
+/// `AllocError` where an allocation failed.
 pub fn greatest<A: Allocator + Copy>(
     alloc: A,
     nodes: &[(usize, u8, bool)],

@@ -161,7 +161,7 @@ impl<A: Allocator + Copy> Matcher<A> {
     /// able and unmatched nodes that its edges reach, with their edges. A number beyond all that were there before takes memory and work for each place up to it, once.
     ///
     /// # Errors
-    /// `AllocError` where a growth was refused; and where so many nodes or edges have come that their counters are at
+    /// `AllocError` where an allocation failed; and where so many nodes or edges have come that their counters are at
     /// their ends, which 2^64 of them would take. Then nothing has changed.
     pub fn add(
         &mut self,
@@ -226,7 +226,7 @@ impl<A: Allocator> Matcher<A> {
     /// are able and unmatched and that its edges reach, with their edges, and no others.
     ///
     /// # Errors
-    /// `AllocError` where a growth was refused; then nothing has changed.
+    /// `AllocError` where an allocation failed; then nothing has changed.
     pub fn enable(&mut self, node: usize) -> Result<(), AllocError>
         requires { has_node node self.old ≡ true }
         ensures nodes { OnOk result (self.new.nodes ≡ with_flag node true self.old.nodes) }
@@ -328,7 +328,7 @@ impl<A: Allocator> Matcher<A> {
         Ok(())
     }
 
-    /// Puts edges that touch the node, which is not able: all of them, or some where a growth was refused.
+    /// Puts edges that touch the node, which is not able: all of them, or some where an allocation failed.
     fn link_all(&mut self, node: usize, edges: &[Edge]) -> Result<(), AllocError>
         requires unable { is_able node self.old.nodes ≡ false }
         requires touch { All (λ edge. is_apart node edge ≡ false) edges.now }
@@ -347,8 +347,8 @@ impl<A: Allocator> Matcher<A> {
         Ok(())
     }
 
-    /// Puts edges that touch the node, which is not able, and lets it be able where it is to be so. Where a growth was
-    /// refused, some of the edges are there, and nothing else has changed.
+    /// Puts edges that touch the node, which is not able, and lets it be able where it is to be so. Where an allocation
+    /// failed, some of the edges are there, and nothing else has changed.
     fn fill(&mut self, node: usize, able: bool, edges: &[Edge]) -> Result<(), AllocError>
         requires there { has_node node self.old ≡ true }
         requires unable { is_able node self.old.nodes ≡ false }
@@ -415,7 +415,7 @@ impl<A: Allocator + Copy> Matcher<A> {
     /// clause says so.
     ///
     /// # Errors
-    /// `AllocError` where a growth was refused.
+    /// `AllocError` where an allocation failed.
     pub fn waiters(&self, node: usize) -> Result<Vec<Edge, A>, AllocError>
         ensures permutation { IfOk result (λ waiters. IsPermutation (filter (leaves node) self.now.edges) waiters.items) }
         ensures ordered { IfOk result (λ waiters. IsSorted waiter_cmp waiters.items) }
@@ -428,7 +428,7 @@ impl<A: Allocator + Copy> Matcher<A> {
     /// none on it either. All nodes and edges are copied, and all places up to the greatest number.
     ///
     /// # Errors
-    /// `AllocError` where a growth was refused.
+    /// `AllocError` where an allocation failed.
     pub fn copy(&self) -> Result<Matcher<A>, AllocError>
         ensures { IfOk result (λ copy. copy ≡ self.now) }
     {

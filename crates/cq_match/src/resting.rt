@@ -145,7 +145,7 @@ fn walk_back<A: Allocator + Copy>(
 /// edges to its waiter are looked at, which are found by halving.
 ///
 /// # Errors
-/// `AllocError` where a growth was refused.
+/// `AllocError` where an allocation failed.
 pub fn part_for<A: Allocator + Copy>(
     alloc: A,
     edges: &[Edge],

@@ -168,7 +168,7 @@ impl<A: Allocator + Clone> Catalog<A> {
     /// # Errors
     /// In this order: `BadName` unless the bytes are a name that begins with an upper-case letter;
     /// `BadArity` unless the arity is 1 to 16; `Declared` where the catalog has the relation;
-    /// `CatalogFull` where it has 64; `NoMemory` where a growth was refused. The catalog stays as it
+    /// `CatalogFull` where it has 64; `NoMemory` where an allocation failed. The catalog stays as it
     /// was then.
     pub fn declare(&mut self, relation: &str, arity: usize) -> Result<(), CatalogFault>
         ensures answer { Answers CatalogFault.NoMemory (declare_fault self.old relation.now arity) tt result }
@@ -190,7 +190,7 @@ impl<A: Allocator + Clone> Catalog<A> {
     /// An equal catalog, on the same allocator.
     ///
     /// # Errors
-    /// `AllocError` where a growth was refused.
+    /// `AllocError` where an allocation failed.
     pub fn copy(&self) -> Result<Catalog<A>, AllocError>
         ensures { IfOk result (λ catalog. catalog ≡ self.now) }
     {

@@ -18,7 +18,7 @@ pub enum CatalogFault {
     /// The catalog has 64 relations.
     #[error("the catalog is full")]
     CatalogFull,
-    /// A growth was refused for want of memory.
+    /// An allocation failed.
     #[error("out of memory")]
     NoMemory,
 }
@@ -38,7 +38,7 @@ pub enum RowFault {
     /// The row that is to be deleted is not there.
     #[error("the row is not there")]
     RowAbsent,
-    /// A growth was refused for want of memory.
+    /// An allocation failed.
     #[error("out of memory")]
     NoMemory,
 }

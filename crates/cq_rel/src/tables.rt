@@ -113,8 +113,8 @@ impl<A: Allocator + Clone> Tables<A> {
     ///
     /// # Errors
     /// In this order: `UnknownRelation` where the row's relation is not declared; `Arity` where it is
-    /// declared with another arity; `RowPresent` where the tables have the row; `NoMemory` where a
-    /// growth was refused. The row is dropped then, and the tables stay as they were.
+    /// declared with another arity; `RowPresent` where the tables have the row; `NoMemory` where an
+    /// allocation failed. The row is dropped then, and the tables stay as they were.
     pub fn insert(&mut self, row: Row<A>) -> Result<(), RowFault>
         ensures answer { Answers RowFault.NoMemory (insert_fault self.old row) tt result }
         ensures ok { OnOk result (self.new ≡ with_row row self.old) }
@@ -128,7 +128,7 @@ impl<A: Allocator + Clone> Tables<A> {
     /// The tables without rows under the catalog, on the catalog's allocator.
     ///
     /// # Errors
-    /// `AllocError` where a growth was refused.
+    /// `AllocError` where an allocation failed.
     pub fn begin(catalog: Catalog<A>) -> Result<Tables<A>, AllocError>
         ensures { IfOk result (λ tables. tables ≡ (let begun : TablesRecord = record { catalog = catalog; rows = [] } in begun)) }
     {
@@ -143,7 +143,7 @@ impl<A: Allocator + Clone> Tables<A> {
     /// Equal tables, on the same allocator.
     ///
     /// # Errors
-    /// `AllocError` where a growth was refused.
+    /// `AllocError` where an allocation failed.
     pub fn copy(&self) -> Result<Tables<A>, AllocError>
         ensures { IfOk result (λ tables. tables ≡ self.now) }
     {

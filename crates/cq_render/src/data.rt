@@ -272,7 +272,7 @@ fn put_board<A: Allocator + Copy>(
 /// The board as JSON, without spaces and ends of lines: what its report tells, as data. It has the report's time.
 ///
 /// # Errors
-/// `AllocError` where a growth was refused.
+/// `AllocError` where an allocation failed.
 pub fn json<A: Allocator + Copy>(alloc: A, board: &Board<A>) -> Result<String<A>, AllocError>
     ensures { IfOk result (λ text. string_bytes text ≡ print (json_tokens (json_of board.now))) }
 {

@@ -451,7 +451,7 @@ fn waiting<'a, A: Allocator + Copy>(
 /// each line has the time of its providers, up to sorting, and where there is none, that of [`Heads::near_misses`].
 ///
 /// # Errors
-/// `AllocError` where a growth was refused.
+/// `AllocError` where an allocation failed.
 pub fn explain_named<A: Allocator + Copy>(
     alloc: A,
     board: &Board<A>,
@@ -467,7 +467,7 @@ pub fn explain_named<A: Allocator + Copy>(
 /// The same of all queries of the board that wait, in posting order.
 ///
 /// # Errors
-/// `AllocError` where a growth was refused.
+/// `AllocError` where an allocation failed.
 pub fn explain<A: Allocator + Copy>(alloc: A, board: &Board<A>) -> Result<String<A>, AllocError>
     ensures { IfOk result (λ text. ArePieces (IsTold board.now) (waiting_names board.now) (string_bytes text)) }
 {

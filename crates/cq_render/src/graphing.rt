@@ -183,7 +183,7 @@ fn put_board<A: Allocator + Copy>(
 /// the groundings.
 ///
 /// # Errors
-/// `AllocError` where a growth was refused.
+/// `AllocError` where an allocation failed.
 pub fn graph<A: Allocator + Copy>(alloc: A, board: &Board<A>) -> Result<String<A>, AllocError>
     ensures { IfOk result (λ text. string_bytes text ≡ graph board.now) }
 {

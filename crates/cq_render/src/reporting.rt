@@ -233,7 +233,7 @@ fn put_queries<A: Allocator + Copy>(
 /// the variables of one query at a time. Its time is that of sorting the edges, and of what it puts.
 ///
 /// # Errors
-/// `AllocError` where a growth was refused. The page may then have a part of the report.
+/// `AllocError` where an allocation failed. The page may then have a part of the report.
 pub fn put_report<A: Allocator + Copy>(
     alloc: A,
     board: &Board<A>,
@@ -248,7 +248,7 @@ pub fn put_report<A: Allocator + Copy>(
 /// The report on a board as one text, as [`put_report`] puts it.
 ///
 /// # Errors
-/// `AllocError` where a growth was refused.
+/// `AllocError` where an allocation failed.
 pub fn report<A: Allocator + Copy>(alloc: A, board: &Board<A>) -> Result<String<A>, AllocError>
     ensures { IfOk result (λ text. string_bytes text ≡ report board.now) }
 {

@@ -79,7 +79,7 @@ fn look_at_each<'b, A: Allocator + Copy>(
 /// Goes over a board: looks at each of its queries once, and lists its edges.
 ///
 /// # Errors
-/// `AllocError` where a growth was refused.
+/// `AllocError` where an allocation failed.
 pub(crate) fn walk<'b, A: Allocator + Copy>(
     alloc: A,
     board: &'b Board<A>,

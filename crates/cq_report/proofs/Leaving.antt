@@ -35,7 +35,7 @@ module _ (state : State) where
   IsPlayed-on (Err fault) (Ok pool) P played h = cc
   IsPlayed-on (Err fault) (Err other) P played h = tt
 
-  -- what holds of want of memory and of the fault that it ended by
+  -- what holds where memory ran out, and of the fault that it ended by
   pub IsPlayed-err : (ended : Result (Unit {0}) RunFault) (result : Result PoolRecord RunFault) (P : RunFault → Type 0) → IsPlayed ended state result → P faults.NoMemory → IfErr ended P → IfErr result P
   IsPlayed-err (Ok done) (Ok pool) P played nothing h = tt
   IsPlayed-err (Ok done) (Err fault) P played nothing h = subst P (sym played.1) nothing

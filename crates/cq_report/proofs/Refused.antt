@@ -16,7 +16,7 @@ use Rattle.cq_report.specs.Machine.{ServingRecord, after}
 pub refused_after : (serving : ServingRecord) (event : Event Edit) (refusal : StepFault Why) → answer_to pool_after why serving.opening serving.limit serving.machine event ≡ Err refusal → after serving event ≡ serving
 refused_after serving event refusal is = ap (λ answer. record serving { machine = unless_refused answer serving.machine (moved serving.machine event) }) is
 
--- what is told, where it is no want of memory
+-- what is told, where it is not out of memory
 pub told_refusal : (answer : Result Answer (StepFault Why)) (refusal : StepFault Why) → (refusal ≡ NoMemory → ⊥) → IsTold answer (Err refusal) → answer ≡ Err refusal
 told_refusal answer NoSession other is = is
 told_refusal answer Ahead other is = is

@@ -35,7 +35,7 @@ for_memory faults.Places P h = tt
 for_memory faults.Thread P h = tt
 for_memory faults.NoMemory P h = h
 
--- a fault of writing is no want of memory
+-- a fault of writing is not out of memory
 pub of_writing : (fault : RunFault) (P : Type 0) → fault ≡ faults.Write → IfMemory fault P
 of_writing fault P is = subst (λ (f : RunFault). IfMemory f P) (sym is) tt
 

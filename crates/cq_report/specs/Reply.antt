@@ -64,7 +64,7 @@ why_words RowPresent = codes "RowPresent"
 why_words RowAbsent = codes "RowAbsent"
 
 -- Why an event is refused. A session that is not there has no line, since the one session of a script is; a count that is not
--- published has none, since nobody is told of one; and want of memory has none, since it ends the run.
+-- published has none, since nobody is told of one; and out of memory has none, since it ends the run.
 abbrev pub refusal_line : StepFault Why → List ℕ
 refusal_line NoSession = []
 refusal_line Ahead = []

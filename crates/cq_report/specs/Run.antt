@@ -18,7 +18,7 @@ IfRead faults.Places P = Unit {0}
 IfRead faults.Thread P = Unit {0}
 IfRead faults.NoMemory P = Unit {0}
 
--- What is known of want of memory.
+-- What is known where memory ran out.
 abbrev pub IfMemory : RunFault → Type 0 → Type 0
 IfMemory (faults.Read turn) P = Unit {0}
 IfMemory faults.Write P = Unit {0}
@@ -34,7 +34,7 @@ IsOfRead faults.Places = ⊥
 IsOfRead faults.Thread = ⊥
 IsOfRead faults.NoMemory = ⊥
 
--- The fault is one of reading a source whole: a read's, or want of memory.
+-- The fault is one of reading a source whole: a read's, or out of memory.
 abbrev pub IsOfReading : RunFault → Type 0
 IsOfReading (faults.Read turn) = Unit {0}
 IsOfReading faults.Write = ⊥
@@ -42,7 +42,7 @@ IsOfReading faults.Places = ⊥
 IsOfReading faults.Thread = ⊥
 IsOfReading faults.NoMemory = Unit {0}
 
--- The fault is one of writing what is answered: the writer's, or want of memory.
+-- The fault is one of writing what is answered: the writer's, or out of memory.
 abbrev pub IsOfOutput : RunFault → Type 0
 IsOfOutput (faults.Read turn) = ⊥
 IsOfOutput faults.Write = Unit {0}

@@ -21,7 +21,7 @@ pub enum RunFault {
     /// A thread was not started.
     #[error("no thread")]
     Thread,
-    /// A growth was refused.
+    /// An allocation failed.
     #[error("out of memory")]
     NoMemory,
 }

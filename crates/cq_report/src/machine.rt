@@ -138,8 +138,8 @@ impl<A: Allocator + Copy> Machine<A> {
     /// Reads a line, and puts the reply to it, behind its number where replies are numbered.
     ///
     /// # Errors
-    /// `Write` where the writer failed, and a front of the reply may be put then; `NoMemory` where a growth was
-    /// refused, and nothing is put then. The machine is of no use any more.
+    /// `Write` where the writer failed, and a front of the reply may be put then; `NoMemory` where an allocation
+    /// failed, and nothing is put then. The machine is of no use any more.
     pub(crate) fn answer<W: Sink>(
         &mut self,
         line: &[u8],

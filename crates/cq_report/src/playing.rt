@@ -71,7 +71,7 @@ fn left_by<A: Allocator + Copy>(
 ///
 /// # Errors
 /// `Read` tells the number, from 1, of the read that failed, and 1,048,577 where no read failed and none came to the end;
-/// `NoMemory` says that a growth was refused. No board is left with either.
+/// `NoMemory` says that an allocation failed. No board is left with either.
 pub fn read_script<A: Allocator + Copy, R: Source>(
     alloc: A,
     reader: &mut R,

@@ -121,7 +121,7 @@ fn why_line<A: Allocator>(alloc: A, reason: Why) -> Result<String<A>, AllocError
 }
 
 /// The reply to an event that is refused. The session of a script is there, and nobody is told of
-/// anything; want of memory ends the run.
+/// anything; running out of memory ends the run.
 pub fn refusal_line<A: Allocator>(
     alloc: A,
     refusal: StepFault<Why>,

@@ -205,8 +205,8 @@ pub(crate) fn replay<A: Allocator + Copy, R: Source, W: Sink>(
 /// # Errors
 ///
 /// `Read` tells the number, from 1, of the read that failed, and 1,048,577 where no read failed and
-/// none came to the end. `Write` says that the writer failed, and `NoMemory` that a growth was
-/// refused: all lines before the one that met it have their replies then, and it has no part of its own. Lines
+/// none came to the end. `Write` says that the writer failed, and `NoMemory` that an allocation
+/// failed: all lines before the one that met it have their replies then, and it has no part of its own. Lines
 /// that a fault cut off have no reply.
 pub fn run<A: Allocator + Copy, R: Source, W: Sink>(
     alloc: A,

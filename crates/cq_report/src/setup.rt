@@ -66,7 +66,7 @@ impl<A: Allocator + Clone> Setup<A> {
     /// Takes a line of the setup, where this form was settled before it, if any, and gives the reply.
     ///
     /// # Errors
-    /// `AllocError` where a growth was refused. The setup stays as it was then.
+    /// `AllocError` where an allocation failed. The setup stays as it was then.
     pub fn set_up(
         &mut self,
         heading: Option<Form>,

@@ -14,7 +14,7 @@ use std::alloc::Allocator;
 ///
 /// # Errors
 /// `Read` tells the number, from 1, of the read that failed, and 1,048,577 where no read failed and none came to the
-/// end; `NoMemory` says that a growth was refused. What was read before is lost with either.
+/// end; `NoMemory` says that an allocation failed. What was read before is lost with either.
 pub fn read_whole<A: Allocator, R: Source>(alloc: A, source: &mut R) -> Result<Vec<u8, A>, RunFault>
     requires reads { R.reads_made source.old < 2 ^ 62 }
     requires failures { R.failures_met source.old < 2 ^ 62 }

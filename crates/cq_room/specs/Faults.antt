@@ -3,7 +3,7 @@ use Rattle.std.specs.Prelude.{◌≡◌, ℕ, ◌<◌, ◌≤◌, ◌⊎◌}
 use Rattle.cq_room.specs.declared.parts.RoomFault.{RoomFault}
 use Rattle.cq_room.specs.declared.parts.RoomFault.TheVariants.{Sessions, Places, NoMemory}
 
--- Why a room with so many sessions does not begin: their number before want of memory.
+-- Why a room with so many sessions does not begin: their number comes before memory.
 abbrev pub IsBeginFault : ℕ → RoomFault → Type 0
 IsBeginFault sessions Sessions = (sessions ≡ 0) ⊎ (16 < sessions)
 IsBeginFault sessions Places = ⊥

@@ -63,7 +63,7 @@ impl<T: Absorb<O> + Drop, O: Drop, R: Wait + Drop, A: Allocator + Copy> Copies<T
         self.writer.published()
     }
 
-    /// Adds a pending operation. It comes back where a growth was refused.
+    /// Adds a pending operation. It comes back where an allocation failed.
     pub(crate) fn append(&mut self, operation: O) -> Result<(), O>
         ensures shown { self.new.shown ≡ self.old.shown }
         ensures pending { MatchResult result (λ _. self.new.pending ≡ self.old.pending ++ operation ∷ []) (λ back. (back ≡ operation) × (self.new.pending ≡ self.old.pending)) }

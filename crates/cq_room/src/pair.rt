@@ -111,7 +111,7 @@ impl<L: Live, N: RoomName<L::Content>, R: Wait + Drop, A: Allocator + Copy> Pair
     /// The pair over two states of the same content, with an empty history and room for so many readers.
     ///
     /// # Errors
-    /// `NoMemory` where a growth was refused.
+    /// `NoMemory` where an allocation failed.
     pub(crate) fn begin(
         rt: R,
         alloc: A,

@@ -30,7 +30,7 @@ pub enum RoomFault {
     /// A session got no place among the readers.
     #[error("no place for a session")]
     Places,
-    /// A growth was refused.
+    /// An allocation failed.
     #[error("out of memory")]
     NoMemory,
 }
@@ -82,8 +82,8 @@ impl<L: Live, R: Wait + Drop, A: Allocator + Copy> Room<L, Brand, Pair<L, Brand,
     /// sessions. Later growths are the allocator's too. It takes two copies of the state.
     ///
     /// # Errors
-    /// `Sessions` where there are not 1 to 16, before anything else; `NoMemory` where a growth was
-    /// refused.
+    /// `Sessions` where there are not 1 to 16, before anything else; `NoMemory` where an allocation
+    /// failed.
     pub fn begin(
         rt: R,
         alloc: A,
@@ -145,7 +145,7 @@ impl<L: Live, R: Wait + Drop, A: Allocator + Copy> Parts<L, R, A> {
     ///
     /// # Errors
     /// `Places` where a session got no place among the readers, which never happens; `NoMemory` where
-    /// a growth was refused. The parts are dropped then.
+    /// an allocation failed. The parts are dropped then.
     pub fn open<N: RoomName<L::Content>>(
         self,
     ) -> Result<(Room<L, N, Pair<L, N, R, A>, A>, Vec<Session<L, N, A>, A>), RoomFault>

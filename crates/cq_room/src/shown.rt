@@ -100,7 +100,7 @@ impl<L: Live, N: RoomName<L::Content>> Absorb<Step<L, N>> for Shown<L, N> {
     /// Takes the edit of the step's entry into the state.
     ///
     /// # Errors
-    /// Where a growth was refused. Nothing has changed then, and the step can be taken later.
+    /// Where an allocation failed. Nothing has changed then, and the step can be taken later.
     fn absorb_first(
         &mut self,
         operation: &Step<L, N>,

@@ -72,7 +72,7 @@ impl<A: Allocator + Copy> Roster<A> {
     /// All seats, in the order in which they came.
     ///
     /// # Errors
-    /// `AllocError` where a growth was refused.
+    /// `AllocError` where an allocation failed.
     pub fn in_order(&self) -> Result<Vec<&Seat<Name<A>>, A>, AllocError>
         ensures { IfOk result (λ seats. map (λ s. s.now) seats.items ≡ self.now) }
     {
@@ -86,7 +86,7 @@ impl<A: Allocator + Copy> Roster<A> {
     /// Logarithmic expected time.
     ///
     /// # Errors
-    /// `AllocError` where a growth was refused; then nothing has changed. The same once
+    /// `AllocError` where an allocation failed; then nothing has changed. The same once
     /// 2^64 - 1 seats have come, which takes longer than any run.
     pub fn add(&mut self, name: &Name<A>, place: usize) -> Result<(), AllocError>
         requires absent { place_named name.now self.old ≡ None }
@@ -109,7 +109,7 @@ impl<A: Allocator + Copy> Roster<A> {
     /// A roster with the same seats in the same order, on the same allocator.
     ///
     /// # Errors
-    /// `AllocError` where a growth was refused.
+    /// `AllocError` where an allocation failed.
     pub fn copy(&self) -> Result<Roster<A>, AllocError>
         ensures { IfOk result (λ copy. copy ≡ self.now) }
     {

@@ -109,7 +109,7 @@ pub when_false : (b : Bool) (P Q : Type 0) → b ≡ false → MatchBool b P Q �
 when_false true P Q e h = cc
 when_false false P Q e h = h
 
--- why a relation is not declared is never want of memory
+-- why a relation is not declared is never out of memory
 fault_known : (named fits free : Bool) (there : Option ℕ)
     → (if not named then Some BadName else (if not fits then Some BadArity else elim there [ Some n ↦ Some Declared | None ↦ (if free then None else Some CatalogFull) ])) ≡ Some NoMemory → ⊥
 fault_known false fits free there e = cc

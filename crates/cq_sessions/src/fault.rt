@@ -14,7 +14,7 @@ pub(crate) enum ServeFault {
     Places,
     /// A thread was not started.
     Thread,
-    /// A growth was refused.
+    /// An allocation failed.
     NoMemory,
 }
 
@@ -27,7 +27,7 @@ impl ServeFault {
         }
     }
 
-    /// Which of two faults is answered: `Places` before `Thread`, and that before want of memory.
+    /// Which of two faults is answered: `Places` before `Thread`, and that before out of memory.
     pub(crate) fn or_before(self, other: Option<ServeFault>) -> ServeFault
         ensures one { (result ≡ self) ⊎ (other ≡ Some result) }
         ensures this { rank result ≤ rank self }

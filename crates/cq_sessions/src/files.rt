@@ -427,7 +427,7 @@ fn write_out<W: Sink>(writer: &mut W, text: &str) -> Result<(), RunFault>
 ///
 /// # Errors
 /// `Places` where a session got no place or a look was refused, which never happens; `Thread` where a thread was not started: those that
-/// were are joined; `NoMemory` where a growth was refused. Of these the first in this order is answered, and nothing is written. `Write`
+/// were are joined; `NoMemory` where an allocation failed. Of these the first in this order is answered, and nothing is written. `Write`
 /// where the writer failed: a front of the script is written then.
 pub fn run_sessions_past<
     T: Threads + Wait + Sync,

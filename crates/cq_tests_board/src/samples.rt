@@ -40,7 +40,7 @@ pub const WORKED: Setup = Setup {
     then: KRAMER_AND_JERRY,
 };
 
-/// The edit that a line of a script asks for; a line of no edit is want of memory.
+/// The edit that a line of a script asks for; a line of no edit counts as out of memory.
 pub fn edit<A: Allocator + Copy>(alloc: A, line: &[u8]) -> Result<Edit<A>, AllocError> {
     match read_command(alloc, line, Form::One) {
         Ok(CommandKind::Edit(edit)) => Ok(edit),
@@ -60,7 +60,7 @@ pub fn admit<A: Allocator + Copy>(
     told
 }
 
-/// Admits the edit of each line; a refused one is want of memory.
+/// Admits the edit of each line; a refused one counts as out of memory.
 pub fn admit_all<A: Allocator + Copy>(
     alloc: A,
     board: &mut Board<A>,
@@ -77,7 +77,7 @@ pub fn admit_all<A: Allocator + Copy>(
 /// The relations of all boards here, each with its arity.
 pub const RELATIONS: [(&str, usize); 4] = [("Flights", 2), ("Airlines", 2), ("T", 2), ("F", 1)];
 
-/// The catalog of these relations; a refused one is want of memory.
+/// The catalog of these relations; a refused one counts as out of memory.
 pub fn catalog<A: Allocator + Copy>(alloc: A) -> Result<Catalog<A>, AllocError> {
     let mut catalog = Catalog::empty(alloc);
     for (relation, arity) in RELATIONS {

@@ -319,7 +319,7 @@ fn put_about<A: Allocator + Copy>(
     }
 }
 
-/// The same by the name's text; a text of no name is want of memory.
+/// The same by the name's text; a text of no name counts as out of memory.
 fn put_of<A: Allocator + Copy>(
     alloc: A,
     board: &Board<A>,
@@ -364,7 +364,7 @@ fn put_look<A: Allocator + Copy>(
 }
 
 /// Whether the board answers to the look of the line, which stands before a colon, with the words behind it. A look of none is
-/// want of memory.
+/// out of memory.
 fn is_answer<A: Allocator + Copy>(
     alloc: A,
     board: &Board<A>,
@@ -422,7 +422,7 @@ fn put_printed<A: Allocator>(
     Ok(())
 }
 
-/// Writes the query, whether it is matched, and its groundings. A name of no query is want of memory.
+/// Writes the query, whether it is matched, and its groundings. A name of no query counts as out of memory.
 fn put_pending<A: Allocator + Copy>(
     alloc: A,
     board: &Board<A>,

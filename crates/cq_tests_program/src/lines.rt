@@ -4,7 +4,7 @@ use cq_atom::Edit;
 use cq_text::{CommandKind, Form, read_command};
 use std::alloc::{AllocError, Allocator, Global};
 
-/// The edit that a line of a script asks for; a line of no edit is want of memory.
+/// The edit that a line of a script asks for; a line of no edit counts as out of memory.
 pub fn edit<A: Allocator + Copy>(alloc: A, line: &str) -> Result<Edit<A>, AllocError> {
     match read_command(alloc, line.as_bytes(), Form::One) {
         Ok(CommandKind::Edit(edit)) => Ok(edit),

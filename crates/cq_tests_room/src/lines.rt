@@ -52,7 +52,7 @@ impl Line {
 /// The relations of a board of flights, each with its arity.
 pub const FLIGHTS: [(&str, usize); 1] = [("Flights", 2)];
 
-/// The edit that a line of a script asks for; a line of no edit is want of memory.
+/// The edit that a line of a script asks for; a line of no edit counts as out of memory.
 pub fn edit<A: Allocator + Copy>(alloc: A, line: Line) -> Result<Edit<A>, AllocError> {
     match read_command(alloc, line.text().as_bytes(), Form::One) {
         Ok(CommandKind::Edit(edit)) => Ok(edit),
@@ -69,7 +69,7 @@ pub fn edits<A: Allocator + Copy>(alloc: A, lines: &[Line]) -> Result<Vec<Edit<A
     Ok(edits)
 }
 
-/// The catalog of the relations; a refused one is want of memory.
+/// The catalog of the relations; a refused one counts as out of memory.
 fn catalog<A: Allocator + Copy>(
     alloc: A,
     relations: &[(&str, usize)],

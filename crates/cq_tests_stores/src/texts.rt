@@ -1,4 +1,4 @@
-//! Queries, rows, names and atoms of texts, for calls that are made with them. A text of none is want of memory.
+//! Queries, rows, names and atoms of texts, for calls that are made with them. A text of none counts as out of memory.
 
 use cq_atom::{Atom, Bad, Name, Query, Row, Term, Value};
 use cq_text::{Form, read_ground_atom, read_query};

@@ -1,8 +1,8 @@
 //! Rows from CSV: worked texts, each fault, failing and endless sources, and each growth refused in turn.
 
 use cq_atom::{Row, Value};
-use cq_refusing::Refusing;
 use cq_csv::{CsvFault, all_records, read_csv};
+use cq_refusing::Refusing;
 use cq_text::{Counted, print_row};
 use std::alloc::{AllocError, Allocator, Global};
 use std::io::{self, ErrorKind, Read};
@@ -213,7 +213,7 @@ fn is_worked<A: Allocator>(values: &[Value<A>]) -> bool {
     }
 }
 
-/// How many growths of reading the worked text can be refused, each of which is told as want of memory, and the text
+/// How many growths of reading the worked text can be refused, each of which is told as out of memory, and the text
 /// then is read.
 fn refusals(heap: Global) -> Option<u64> {
     for left in 0..64 {

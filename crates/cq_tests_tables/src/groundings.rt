@@ -11,7 +11,7 @@ use std::test::Fail;
 /// The body of the worked query of Jerry.
 pub const JERRY: &str = "{} R(Jerry, y) <- Flights(y, Paris), Airlines(y, United)";
 
-/// The groundings of the query of that text; a text of no query is want of memory.
+/// The groundings of the query of that text; a text of no query counts as out of memory.
 pub fn all<A: Allocator + Copy>(
     alloc: A,
     tables: &Tables<A>,

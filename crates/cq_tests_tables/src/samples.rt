@@ -24,7 +24,7 @@ pub fn travel_catalog<A: Allocator + Copy>(alloc: A) -> Result<Catalog<A>, Catal
     Ok(catalog)
 }
 
-/// Why the row of the text is not inserted; a text of no row is want of memory.
+/// Why the row of the text is not inserted; a text of no row counts as out of memory.
 pub fn insert<A: Allocator + Copy>(
     alloc: A,
     tables: &mut Tables<A>,

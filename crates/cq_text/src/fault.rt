@@ -31,7 +31,7 @@ pub enum TextFault {
         /// Where it stands, in bytes from the text's first.
         offset: usize,
     },
-    /// A growth was refused for want of memory.
+    /// An allocation failed.
     #[error("out of memory")]
     NoMemory,
 }
@@ -45,7 +45,7 @@ pub enum WholeFault {
         /// The number of the read that failed.
         turn: u32,
     },
-    /// A growth was refused for want of memory.
+    /// An allocation failed.
     #[error("out of memory")]
     NoMemory,
 }

@@ -49,8 +49,8 @@ fn number_of_field(field: &[u8]) -> Option<i64>
 /// # Errors
 ///
 /// `At` with the kind `Text` and the offset 0 where the bytes are no text, whatever their number: they
-/// are not UTF-8, have a control character of ASCII, or are more than 255. `NoMemory` where a growth
-/// was refused.
+/// are not UTF-8, have a control character of ASCII, or are more than 255. `NoMemory` where an allocation
+/// failed.
 pub fn read_field<A: Allocator>(alloc: A, field: &[u8]) -> Result<Value<A>, TextFault>
     // What is read is the value that the field stands for.
     ensures found { IfOk result (λ value. value_of_field field.now ≡ Some value) }

@@ -34,7 +34,7 @@ fn push_character<A: Allocator>(printed: &mut String<A>, character: char) -> Res
 /// In proportion to the text.
 ///
 /// # Errors
-/// `AllocError` where a growth was refused. A front of the text may have been put then.
+/// `AllocError` where an allocation failed. A front of the text may have been put then.
 pub fn push_escaped<A: Allocator>(printed: &mut String<A>, text: &str) -> Result<(), AllocError>
     ensures { OnOk result (string_bytes printed.new ≡ string_bytes printed.old ++ escaped text.now) }
 {
@@ -153,7 +153,7 @@ fn push_body<A: Allocator>(printed: &mut String<A>, body: &[Atom<A>]) -> Result<
 /// Puts a query after what is there, as `print_query` gives it: `{posts} heads <- body`. In proportion to the query.
 ///
 /// # Errors
-/// `AllocError` where a growth was refused. A front of the query may have been put then.
+/// `AllocError` where an allocation failed. A front of the query may have been put then.
 pub fn push_query<A: Allocator>(printed: &mut String<A>, query: &Query<A>) -> Result<(), AllocError>
     ensures printed { OnOk result (string_bytes printed.new ≡ string_bytes printed.old ++ printed_query query.now) }
     // In format 2 what is put is read as the query.
@@ -185,7 +185,7 @@ fn push_row<A: Allocator>(printed: &mut String<A>, row: &Row<A>) -> Result<(), A
 /// empty. The grammar gives the same query for that text.
 ///
 /// # Errors
-/// `AllocError` where a growth was refused.
+/// `AllocError` where an allocation failed.
 pub fn print_query<A: Allocator + Copy>(alloc: A, query: &Query<A>) -> Result<String<A>, AllocError>
     ensures printed { IfOk result (λ text. string_bytes text ≡ printed_query query.now) }
     // In format 2 it is read as what was printed.
@@ -201,7 +201,7 @@ pub fn print_query<A: Allocator + Copy>(alloc: A, query: &Query<A>) -> Result<St
 /// The atom as a text, as `R(1, y)`.
 ///
 /// # Errors
-/// `AllocError` where a growth was refused.
+/// `AllocError` where an allocation failed.
 pub fn print_atom<A: Allocator + Copy>(alloc: A, atom: &Atom<A>) -> Result<String<A>, AllocError>
     ensures printed { IfOk result (λ text. string_bytes text ≡ printed_atom atom.now) }
     // In format 2 it is read as what was printed.
@@ -217,7 +217,7 @@ pub fn print_atom<A: Allocator + Copy>(alloc: A, atom: &Atom<A>) -> Result<Strin
 /// The row as a text, as `R(1, "a")`.
 ///
 /// # Errors
-/// `AllocError` where a growth was refused.
+/// `AllocError` where an allocation failed.
 pub fn print_row<A: Allocator + Copy>(alloc: A, row: &Row<A>) -> Result<String<A>, AllocError>
     ensures printed { IfOk result (λ text. string_bytes text ≡ printed_row row.now) }
     // In format 2 it is read as what was printed.
@@ -233,7 +233,7 @@ pub fn print_row<A: Allocator + Copy>(alloc: A, row: &Row<A>) -> Result<String<A
 /// Puts values in brackets after what is there, as `(1, "a")`, and `()` where there are none. In proportion to the values.
 ///
 /// # Errors
-/// `AllocError` where a growth was refused. A front of the values may have been put then.
+/// `AllocError` where an allocation failed. A front of the values may have been put then.
 pub fn push_values<A: Allocator>(
     printed: &mut String<A>,
     values: &[Value<A>],
@@ -249,7 +249,7 @@ pub fn push_values<A: Allocator>(
 /// Values in brackets as a text, as `push_values` puts them.
 ///
 /// # Errors
-/// `AllocError` where a growth was refused.
+/// `AllocError` where an allocation failed.
 pub fn print_values<A: Allocator + Copy>(
     alloc: A,
     values: &[Value<A>],

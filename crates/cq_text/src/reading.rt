@@ -84,8 +84,8 @@ fn row_in<A: Allocator + Copy>(alloc: A, text: &[u8], form: Form) -> Result<Row<
 /// byte.
 ///
 /// # Errors
-/// The first fault of the text, with its kind and its offset in bytes; or `NoMemory` where a growth
-/// was refused, which may be before a later fault is seen.
+/// The first fault of the text, with its kind and its offset in bytes; or `NoMemory` where an allocation
+/// failed, which may be before a later fault is seen.
 pub fn read_command<A: Allocator + Copy>(
     alloc: A,
     text: &[u8],
@@ -112,8 +112,8 @@ pub fn read_command<A: Allocator + Copy>(
 /// The query that a text stands for, within the limits of the form: `{posts} heads <- body`. A query's text is never blank.
 ///
 /// # Errors
-/// The first fault of the text, with its kind and its offset in bytes; or `NoMemory` where a growth
-/// was refused, which may be before a later fault is seen.
+/// The first fault of the text, with its kind and its offset in bytes; or `NoMemory` where an allocation
+/// failed, which may be before a later fault is seen.
 pub fn read_query<A: Allocator + Copy>(
     alloc: A,
     text: &[u8],
@@ -139,7 +139,7 @@ pub fn read_query<A: Allocator + Copy>(
 ///
 /// # Errors
 /// The first fault of the text, with its kind and its offset in bytes: a variable is `Shape`, since a
-/// row has none. Or `NoMemory` where a growth was refused, which may be before a later fault is seen.
+/// row has none. Or `NoMemory` where an allocation failed, which may be before a later fault is seen.
 pub fn read_ground_atom<A: Allocator + Copy>(
     alloc: A,
     text: &[u8],

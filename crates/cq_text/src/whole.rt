@@ -47,7 +47,7 @@ fn read_pieces<A: Allocator, R: Source>(
 /// # Errors
 ///
 /// `Read` tells the number, from 1, of the read that failed, and 1,048,577 where no read failed and none came to the end;
-/// `NoMemory` says that a growth was refused. What was read before is lost with either.
+/// `NoMemory` says that an allocation failed. What was read before is lost with either.
 pub fn read_whole<A: Allocator, R: Source>(
     alloc: A,
     source: &mut R,

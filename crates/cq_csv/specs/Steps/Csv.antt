@@ -40,7 +40,7 @@ pub record IsBehind (text : List ℕ) (read : List CsvRecord) (reader : BytesRea
   pub source : source_of bytes_of reader ≡ Some rest
   pub reached : Reached default_config st.StartRecord text read (reader_state reader) rest
 
--- The fault is of a record, or want of memory.
+-- The fault is of a record, or out of memory.
 abbrev pub IsInRecords : CsvFault → Type 0
 IsInRecords BadName = ⊥
 IsInRecords BadArity = ⊥

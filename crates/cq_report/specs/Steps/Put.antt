@@ -15,7 +15,7 @@ abbrev pub led : {A : Type 0} → Option (String A) → List ℕ → List ℕ
 led lead [] = []
 led lead (b ∷ bs) = lead_bytes lead ++ b ∷ bs
 
--- The bytes were put behind what stands before them; or a fault came first, which is none of reading; and where it is want of memory, nothing was put.
+-- The bytes were put behind what stands before them; or a fault came first, which is none of reading; and where memory ran out, nothing was put.
 abbrev pub Put : {W A : Type 0} → (W → Option (List ℕ)) → (W → ℕ) → Output W A → Output W A → List ℕ → Result (Unit {0}) RunFault → Type 0
 Put taken failures old new bytes (Ok done) = Puts taken failures old new (led old.lead.now bytes)
 Put taken failures old new bytes (Err fault) = Breaks taken failures old new (led old.lead.now bytes) fault × (IsOfRead fault → ⊥) × IsOfOutput fault × IfMemory fault (Puts taken failures old new [])

@@ -46,7 +46,7 @@ pub fn told<T: Threads + Wait + Sync, A: Allocator + Copy + Send + Sync>(
     (result, writer.into_inner().rest.len())
 }
 
-/// The same of files that are copied first; want of memory for these too is told so.
+/// The same of files that are copied first; out of memory for these too is told so.
 pub fn told_of<T: Threads + Wait + Sync, A: Allocator + Copy + Send + Sync>(
     rt: &T,
     alloc: A,

@@ -62,7 +62,7 @@ impl Tried for Running {
     }
 }
 
-// A refused growth ends the run as want of memory, and what was written is a front of the answers.
+// A refused growth ends the run as out of memory, and what was written is a front of the answers.
 #[test]
 fn refused_growth_in_run(rt: HostRuntime) {
     assert!(rt; matches!(refusals::<Running>(rt.alloc()), Ok(33..)));
@@ -87,7 +87,7 @@ fn lengths_written(alloc: Global) -> Option<u64> {
     None
 }
 
-// All lines before the one that met want of memory have their replies, though these waited in a buffer.
+// All lines before the one that ran out of memory have their replies, though these waited in a buffer.
 #[test]
 fn replies_before_a_refused_growth(rt: HostRuntime) {
     assert!(rt; matches!(lengths_written(rt.alloc()), Some(6..)));

@@ -12,7 +12,7 @@ const LIMITS: Limits = Limits {
     journal: 9,
 };
 
-/// Admits the edit of the line; a refused one is want of memory.
+/// Admits the edit of the line; a refused one counts as out of memory.
 fn admit<A: Allocator + Copy>(
     alloc: A,
     board: &mut Board<A>,

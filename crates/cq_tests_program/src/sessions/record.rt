@@ -24,7 +24,7 @@ pub struct Record {
     pub looks: Vec<Kept>,
     /// The most entries that it has seen or heard of.
     known: u64,
-    /// Whether nothing was refused for want of memory, and no look and no front showed less than was known.
+    /// Whether nothing failed for lack of memory, and no look and no front showed less than was known.
     pub holds: bool,
 }
 

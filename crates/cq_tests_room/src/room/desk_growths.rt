@@ -98,7 +98,7 @@ fn shows<D: Desking<R, A>, S: Seated, R, A>(
     }
 }
 
-/// What comes of entering the edit of that number. Where a growth was refused, nothing has changed, and the same call then
+/// What comes of entering the edit of that number. Where an allocation failed, nothing has changed, and the same call then
 /// succeeds.
 fn enters_at_last<D: Desking<R, A>, R, A: Copy>(alloc: A, desk: &mut D, number: u64) -> Met {
     let met = desk.enters(alloc, number);

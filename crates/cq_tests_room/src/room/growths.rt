@@ -73,7 +73,7 @@ fn are_of_second<E>(journal: &[Entry<E>], entries: u64) -> bool {
     journal.len() as u64 == entries
 }
 
-/// The second session submits two edits. Where a growth was refused, the first one then submits nothing.
+/// The second session submits two edits. Where an allocation failed, the first one then submits nothing.
 struct Submitting;
 
 impl<L: Shared<A>, R: Wait + Drop, A: Allocator + Copy> Play<L, R, A> for Submitting {
@@ -118,7 +118,7 @@ fn played_over_begun<L: Shared<A>, R: Wait + Drop + Copy, A: Allocator + Copy, P
     }
 }
 
-/// Whether all is right where that was met: where a growth was refused in beginning a room or in opening it, another one
+/// Whether all is right where that was met: where an allocation failed in beginning a room or in opening it, another one
 /// then begins and is opened.
 pub fn begins_again<L: Shared<A>, R: Wait + Drop + Copy, A: Allocator + Copy>(
     rt: R,

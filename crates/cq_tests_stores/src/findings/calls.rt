@@ -61,7 +61,7 @@ fn is_put<A: Allocator + Copy>(
     Ok(at == place && visits.count() == 1)
 }
 
-/// Whether the row comes; a row that is there is want of memory.
+/// Whether the row comes; a row that is there counts as out of memory.
 fn comes<A: Allocator + Copy>(tables: &mut Tables<A>, row: &Row<A>) -> Result<bool, AllocError> {
     match tables.insert(row.copy()?) {
         Ok(()) => Ok(true),
