@@ -229,8 +229,8 @@ fn put_queries<A: Allocator + Copy>(
     put_each(alloc, &listing, page)
 }
 
-/// Puts the report on a board behind the page. Beside the page it makes a list of the queries and one of the edges, and the names of
-/// the variables of one query at a time. Its time is that of sorting the edges, and of what it puts.
+/// Puts the report on a board behind the page. What is made beside it are the lists of the names, of the queries and of the edges,
+/// and the names of the variables of one query at a time. Its time is that of sorting the edges, and of what it puts.
 ///
 /// # Errors
 /// `AllocError` where an allocation failed. The page may then have a part of the report.

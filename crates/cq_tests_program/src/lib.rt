@@ -1,6 +1,6 @@
-//! Tests of what the program is made of above boards: runs of scripts, reports and sessions (`cq_report`), and the texts
-//! that are shown of a board (`cq_render`). Whole scripts and their outputs stand in the cases. Nothing but tests is here, and
-//! no crate stands on this one.
+//! Tests of what the program is made of above boards: the texts of a board (`cq_render`), runs of scripts (`cq_report`) and
+//! sessions (`cq_sessions`). Whole scripts and their outputs stand in the cases. Nothing but tests is here, and no crate
+//! stands on this one.
 #![tactic(auto)]
 
 #[cfg(test)]
