@@ -22,8 +22,18 @@ impl<'a> Read for Pieces<'a> {
 /// Gives its pieces at so many reads, and then fails.
 #[derive(Drop)]
 pub struct Failing<'a> {
-    pub pieces: Pieces<'a>,
-    pub good: u32,
+    pieces: Pieces<'a>,
+    good: u32,
+}
+
+impl<'a> Failing<'a> {
+    /// Gives the bytes so many at a read.
+    pub fn new(bytes: &'a [u8], most: usize, good: u32) -> Failing<'a> {
+        Failing {
+            pieces: Pieces { rest: bytes, most },
+            good,
+        }
+    }
 }
 
 impl<'a> Read for Failing<'a> {
@@ -68,34 +78,20 @@ impl<'a> Read for OneLine<'a> {
     }
 }
 
-/// Gives a post and the front of a word at the first read, and fails at the second.
-#[derive(Drop)]
-pub struct CutOff(pub u8);
-
-impl Read for CutOff {
-    fn read(&mut self, buf: &mut [u8]) -> io::Result<usize> {
-        self.0 = self.0.saturating_add(1);
-        if self.0 > 1 {
-            return Err(ErrorKind::TimedOut.into());
-        }
-        let text = b"post a {} R(1) <-\npub";
-        let count = text.len().min(buf.len());
-        buf[..count].copy_from_slice(&text[..count]);
-        Ok(count)
-    }
-}
-
-/// Takes the bytes that are expected and fails at others, and counts how often it is flushed. It takes no memory.
+/// Takes the bytes that are expected, at most so many at a write, and fails at others; and counts how often it is flushed. It takes no
+/// memory.
 #[derive(Drop)]
 pub struct Expecting<'a> {
     pub rest: &'a [u8],
+    pub most: usize,
     pub flushes: u32,
 }
 
 impl<'a> Expecting<'a> {
-    pub fn new(bytes: &'a [u8]) -> Expecting<'a> {
+    pub fn new(bytes: &'a [u8], most: usize) -> Expecting<'a> {
         Expecting {
             rest: bytes,
+            most,
             flushes: 0,
         }
     }
@@ -103,7 +99,7 @@ impl<'a> Expecting<'a> {
 
 impl<'a> Write for Expecting<'a> {
     fn write(&mut self, buf: &[u8]) -> io::Result<usize> {
-        let count = self.rest.len().min(buf.len());
+        let count = self.rest.len().min(buf.len()).min(self.most);
         let (front, rest) = self.rest.split_at(count);
         if front.is_empty() || front != &buf[..count] {
             return Err(ErrorKind::WriteZero.into());
@@ -115,21 +111,6 @@ impl<'a> Write for Expecting<'a> {
     fn flush(&mut self) -> io::Result<()> {
         self.flushes = self.flushes.saturating_add(1);
         Ok(())
-    }
-}
-
-/// Passes on one byte of each write.
-#[derive(Drop)]
-pub struct Slow<'a>(pub Expecting<'a>);
-
-impl<'a> Write for Slow<'a> {
-    fn write(&mut self, buf: &[u8]) -> io::Result<usize> {
-        let count = buf.len().min(1);
-        self.0.write(&buf[..count])
-    }
-
-    fn flush(&mut self) -> io::Result<()> {
-        self.0.flush()
     }
 }
 

@@ -7,5 +7,6 @@ mod jobs;
 mod judged;
 mod left;
 mod record;
+mod rooms;
 mod seats;
 mod sixteen;

@@ -2,7 +2,7 @@
 
 use cq_board::Board;
 use cq_render::{explain, explain_named, graph, json, report};
-use cq_report::{RunFault, read_script};
+use cq_report::{Played, RunFault, read_script};
 use cq_tests_growths::{Outcome, Tried, refusals};
 use cq_text::Counted;
 use std::alloc::{AllocError, Allocator};
@@ -65,7 +65,7 @@ a waits
   a: no row for its body
 ";
 
-const TEXTS: [Text; 5] = [
+const TEXTS: &[Text] = &[
     (SUPPLIED, View::Report, REPORT),
     (SUPPLIED, View::Graph, GRAPH),
     (SUPPLIED, View::Json, JSON),
@@ -105,10 +105,14 @@ fn written<A: Allocator + Copy>(alloc: A, board: &Board<A>, view: View, wanted: 
     }
 }
 
-fn tried<A: Allocator + Copy>(alloc: A, text: Text) -> Outcome {
-    let (script, view, wanted) = text;
-    match read_script(alloc, &mut Counted::new(script)) {
-        Ok(played) => written(alloc, played.board(), view, wanted),
+/// The script read.
+fn played<A: Allocator + Copy>(alloc: A, script: &[u8]) -> Result<Played<A>, RunFault> {
+    read_script(alloc, &mut Counted::new(script))
+}
+
+fn tried<A: Allocator + Copy>(alloc: A, text: &Text) -> Outcome {
+    match played(alloc, text.0) {
+        Ok(played) => written(alloc, played.board(), text.1, text.2),
         Err(_) => Outcome::Unready,
     }
 }
@@ -119,7 +123,7 @@ struct Nth<const N: usize>;
 impl<const N: usize> Tried for Nth<N> {
     fn tried<A: Allocator + Copy>(alloc: A) -> Outcome {
         match TEXTS.get(N) {
-            Some(text) => tried(alloc, *text),
+            Some(text) => tried(alloc, text),
             None => Outcome::Wrong,
         }
     }
@@ -152,8 +156,8 @@ fn refused_growth_in_explain_named(rt: HostRuntime) {
 
 /// Whether the script leaves the board of that report.
 fn is_left<A: Allocator + Copy>(alloc: A) -> Result<bool, RunFault> {
-    let played = read_script(alloc, &mut Counted::new(SUPPLIED))?;
-    Ok(report(alloc, played.board())?.as_str() == REPORT)
+    let played = played(alloc, SUPPLIED)?;
+    Ok(is_text(alloc, played.board(), View::Report, REPORT)?)
 }
 
 /// A script read, and the board that it leaves reported on.

@@ -1,7 +1,5 @@
 //! What each of sixteen files asks for.
 
-ghost use Rattle.std.specs.Prelude.{◌≡◌, length, IfOk};
-
 use crate::lines::{posting, withdrawal};
 use std::alloc::{AllocError, Global};
 
@@ -65,31 +63,42 @@ pub fn line(alloc: Global, file: usize, number: usize) -> Result<String, AllocEr
     }
 }
 
-/// Whether that may be the refusal of what is asked for, whatever the others do.
-pub fn may_refuse(wish: Wish, reply: &str) -> bool {
+/// The one refusal of what is asked for that there may be, whatever the others do.
+fn refusal_of(wish: Wish) -> Option<&'static str> {
     match wish {
-        Wish::OwnPost | Wish::OwnWithdrawal | Wish::Publish | Wish::Show => false,
-        Wish::NoWithdrawal | Wish::Withdrawal => reply == "refused NoSuchName",
-        Wish::Post => reply == "refused NameTaken",
-        Wish::Insertion => reply == "refused RowPresent",
-        Wish::Deletion => reply == "refused RowAbsent",
+        Wish::OwnPost | Wish::OwnWithdrawal | Wish::Publish | Wish::Show => None,
+        Wish::NoWithdrawal | Wish::Withdrawal => Some("refused NoSuchName"),
+        Wish::Post => Some("refused NameTaken"),
+        Wish::Insertion => Some("refused RowPresent"),
+        Wish::Deletion => Some("refused RowAbsent"),
     }
+}
+
+/// Whether that may be the refusal of what is asked for.
+pub fn may_refuse(wish: Wish, reply: &str) -> bool {
+    match refusal_of(wish) {
+        Some(refusal) => reply == refusal,
+        None => false,
+    }
+}
+
+fn put_file(alloc: Global, text: &mut String, file: usize) -> Result<(), AllocError> {
+    for number in 0..LINES {
+        text.push_str(&line(alloc, file, number)?)?;
+        text.push_str("\n")?;
+    }
+    Ok(())
 }
 
 /// The bytes of the file.
 fn file_of(alloc: Global, file: usize) -> Result<Vec<u8>, AllocError> {
     let mut text = String::new(alloc);
-    for number in 0..LINES {
-        text.push_str(&line(alloc, file, number)?)?;
-        text.push_str("\n")?;
-    }
+    put_file(alloc, &mut text, file)?;
     Ok(text.into_bytes())
 }
 
 /// The files.
-pub fn files(alloc: Global) -> Result<Vec<Vec<u8>>, AllocError>
-    ensures { IfOk result (λ files. length files.items ≡ 16) }
-{
+pub fn files(alloc: Global) -> Result<Vec<Vec<u8>>, AllocError> {
     let mut files = Vec::new(alloc);
     for file in 0..FILES {
         files.push(file_of(alloc, file)?)?;

@@ -1,14 +1,11 @@
 //! Files whose output is the same at each run, and writers that fail.
 
 use crate::devices::Holding;
-use crate::files::served::{copies, told_of};
+use crate::files::served::{ran_copies, told};
 use cq_budget::Budget;
 use cq_report::RunFault;
-use cq_sessions::run_sessions;
-use cq_text::Counted;
 use std::alloc::Global;
 use std::sync::Wait;
-use std::test::Fail;
 use std::thread::Threads;
 
 const FLIGHTS: &[u8] = b"relation Flights 2\ninsert Flights(122, Paris)\n";
@@ -37,10 +34,16 @@ show
 # session 0 line 5 refused NoSuchName
 ";
 
+/// How a run ended, and how many of the expected bytes were not written.
+type Told = Option<(Result<(), RunFault>, usize)>;
+
+/// How all is written.
+const WELL: Told = Some((Ok(()), 0));
+
 #[test]
 fn one_file_session(rt: HostRuntime) {
-    let ended = told_of(&rt, rt.alloc(), FLIGHTS, &[TRAVEL], TRAVELLED);
-    assert!(rt; ended == (Ok(()), 0));
+    let ended = told(&rt, rt.alloc(), FLIGHTS, &[TRAVEL], TRAVELLED);
+    assert!(rt; ended == WELL);
 }
 
 /// A setup, edits behind it, of which some are refused, and a relation that comes too late.
@@ -72,8 +75,8 @@ show
 
 #[test]
 fn setup_alone(rt: HostRuntime) {
-    let ended = told_of(&rt, rt.alloc(), SETUP, &[b"", b""], SET_UP);
-    assert!(rt; ended == (Ok(()), 0));
+    let ended = told(&rt, rt.alloc(), SETUP, &[b"", b""], SET_UP);
+    assert!(rt; ended == WELL);
 }
 
 /// The last line has no line break.
@@ -113,57 +116,52 @@ show
 // A fault of text is told before that the line comes too late.
 #[test]
 fn faults_in_a_file(rt: HostRuntime) {
-    let ended = told_of(&rt, rt.alloc(), b"", &[FAULTS], FAULTS_TOLD);
-    assert!(rt; ended == (Ok(()), 0));
+    let ended = told(&rt, rt.alloc(), b"", &[FAULTS], FAULTS_TOLD);
+    assert!(rt; ended == WELL);
 }
 
 // The writer takes so many bytes of the script, and fails.
 #[test]
 fn a_device_fails(rt: HostRuntime) {
     for count in [0usize, 1, 18, 19, 100, TRAVELLED.len() - 1] {
-        let ended = told_of(&rt, rt.alloc(), FLIGHTS, &[TRAVEL], &TRAVELLED[..count]);
-        assert!(rt; ended == (Err(RunFault::Write), 0), "{count}");
+        let ended = told(&rt, rt.alloc(), FLIGHTS, &[TRAVEL], &TRAVELLED[..count]);
+        assert!(rt; ended == Some((Err(RunFault::Write), 0)), "{count}");
     }
 }
 
-// The writer takes all bytes, and fails to pass them on.
+/// How the run ends over a writer that takes all bytes and fails to pass them on, and how many it took.
+fn told_unflushed<T: Threads + Wait + Sync>(rt: &T, alloc: Global) -> Told {
+    let (ended, writer) = ran_copies(rt, alloc, FLIGHTS, &[TRAVEL], Holding { taken: 0 })?;
+    Some((ended, writer.taken))
+}
+
 #[test]
-fn a_flush_fails(rt: HostRuntime) -> Result<(), Fail> {
-    let files = copies(rt.alloc(), &[TRAVEL])?;
-    let mut writer = Counted::new(Holding { taken: 0 });
-    let ended = run_sessions(&rt, rt.alloc(), FLIGHTS, &files, &mut writer);
-    assert!(rt; ended == Err(RunFault::Write));
-    assert!(rt; writer.into_inner().taken == TRAVELLED.len());
-    Ok(())
+fn a_flush_fails(rt: HostRuntime) {
+    let ended = told_unflushed(&rt, rt.alloc());
+    assert!(rt; ended == Some((Err(RunFault::Write), TRAVELLED.len())));
 }
 
 /// More bytes than the run needs.
 const ENOUGH: usize = 4_000_000;
 
-/// How the run ends within so many bytes, how many bytes of the script are lacking then, and how many bytes did not come back.
-fn told_within<T: Threads + Wait + Sync>(
-    rt: &T,
-    alloc: Global,
-    bytes: usize,
-) -> (Result<(), RunFault>, usize, usize) {
+/// How the run ends within so many bytes, and how many bytes did not come back.
+fn told_within<T: Threads + Wait + Sync>(rt: &T, alloc: Global, bytes: usize) -> (Told, usize) {
     let heap = Budget::new(alloc, bytes);
-    let (ended, lacking) = told_of(rt, &heap, FLIGHTS, &[TRAVEL], TRAVELLED);
-    (ended, lacking, heap.out())
+    let ended = told(rt, &heap, FLIGHTS, &[TRAVEL], TRAVELLED);
+    (ended, heap.out())
 }
 
 // Each time there are some bytes more, until the run succeeds. The file is served in a thread, so growths are refused in it too.
 #[test]
 fn a_budget_refuses_growths(rt: HostRuntime) {
+    let refused = Some((Err(RunFault::NoMemory), TRAVELLED.len()));
     for bytes in (0..ENOUGH).step_by(40) {
         let ended = told_within(&rt, rt.alloc(), bytes);
-        if ended == (Ok(()), 0, 0) {
+        if ended == (WELL, 0) {
             assert!(rt; bytes > TRAVELLED.len());
             return;
         }
-        assert!(rt;
-            ended == (Err(RunFault::NoMemory), TRAVELLED.len(), 0),
-            "{bytes}"
-        );
+        assert!(rt; ended == (refused, 0), "{bytes}");
     }
     assert!(rt; false);
 }

@@ -1,6 +1,6 @@
 //! Two files whose threads are there at the same time.
 
-use crate::files::postings::{order_of, posting_files, script_in};
+use crate::files::postings::{order_told, posting_files};
 use cq_room::Gate;
 use cq_sessions::run_sessions_past;
 use cq_text::Counted;
@@ -49,31 +49,35 @@ impl Gate for Meeting {
     }
 }
 
-/// What two files leave, whose threads pass the gate.
-fn served_past<T: Threads + Wait + Sync>(rt: &T, alloc: Global, gate: &Meeting) -> Option<String> {
-    let files = posting_files(alloc, 2).ok()?;
+/// What the files leave, whose threads pass the gate; nothing where there are other than two.
+fn served_past<T: Threads + Wait + Sync>(
+    rt: &T,
+    alloc: Global,
+    files: &[Vec<u8>],
+    gate: &Meeting,
+) -> Option<Vec<u8>> {
+    if files.len() != 2 {
+        return None;
+    }
     let mut writer = Counted::new(Vec::new(alloc));
-    run_sessions_past(rt, alloc, b"", &files, &mut writer, gate).ok()?;
-    String::from_utf8(writer.into_inner()).ok()
-}
-
-/// Whether the script has an entry of each of two sessions, and their replies.
-fn is_of_two(alloc: Global, script: &str) -> bool {
-    let Some(order) = order_of(alloc, script) else {
-        return false;
-    };
-    match script_in(alloc, &order) {
-        Some(wanted) => order.len() == 2 && script == wanted.as_str(),
-        None => false,
+    match run_sessions_past(rt, alloc, b"", files, &mut writer, gate) {
+        Ok(()) => Some(writer.into_inner()),
+        Err(_) => None,
     }
 }
 
-// Neither thread is served before both have come.
+/// What two files of one posting leave, whose threads pass the gate.
+fn two_served<T: Threads + Wait + Sync>(rt: &T, alloc: Global, gate: &Meeting) -> Option<String> {
+    let files = posting_files(alloc, 2).ok()?;
+    String::from_utf8(served_past(rt, alloc, &files, gate)?).ok()
+}
+
+// Neither thread is served before both have come. The script has an entry of each of two sessions, and their replies.
 #[test]
 fn two_files_past_a_gate(rt: HostRuntime) {
     let gate = Meeting::empty();
-    match served_past(&rt, rt.alloc(), &gate) {
-        Some(script) => assert!(rt; is_of_two(rt.alloc(), &script)),
+    match two_served(&rt, rt.alloc(), &gate) {
+        Some(script) => assert!(rt; order_told(rt.alloc(), &script, 2).is_some()),
         None => assert!(rt; false),
     }
     assert!(rt; !gate.missed.load(Ordering::SeqCst));

@@ -1,99 +1,128 @@
 //! Files of one posting each, and what they leave in one order or another.
 
-ghost use Rattle.std.specs.Prelude.{◌≡◌, length, IfOk};
-
 use std::alloc::{AllocError, Global};
 
-/// The line that file k has.
-fn posting(alloc: Global, session: usize) -> Result<String, AllocError> {
-    format!(in alloc; "post q{session} {{}} R({session}) <-\n")
+/// A part of what comes of the postings, which has one text for each of these.
+#[derive(Clone, Copy)]
+enum Part {
+    /// The line that the session posts.
+    Line,
+    /// The session's entry, which has that number.
+    Entry,
+    /// The reply to the session, whose entry has that number.
+    Reply,
+    /// The reply of a replay to the entry of that number.
+    Answer,
+    /// The replies to the publish and the look behind so many entries.
+    Shown,
+    /// The session's query, as a report has it.
+    Query,
+}
+
+fn text_of(alloc: Global, part: Part, session: usize, number: usize) -> Result<String, AllocError> {
+    match part {
+        Part::Line => format!(in alloc; "post q{session} {{}} R({session}) <-\n"),
+        Part::Entry => {
+            format!(in alloc;
+                "# entry {number} session {session}\npost q{session} {{}} R({session}) <-\n"
+            )
+        }
+        Part::Reply => format!(in alloc; "# session {session} line 1 ok {number}\n"),
+        Part::Answer => format!(in alloc; "ok {number}\n"),
+        Part::Shown => format!(in alloc; "published {number}\nshow {number}\n"),
+        Part::Query => {
+            format!(in alloc;
+                "query q{session} matched\n  text {{}} R({session}) <-\n  groundings 1 ()\n    ()\n"
+            )
+        }
+    }
 }
 
 /// So many files with one line each.
-pub fn posting_files(alloc: Global, count: usize) -> Result<Vec<Vec<u8>>, AllocError>
-    ensures { IfOk result (λ files. length files.items ≡ count) }
-{
+pub fn posting_files(alloc: Global, count: usize) -> Result<Vec<Vec<u8>>, AllocError> {
     let mut files = Vec::new(alloc);
     for session in 0..count {
-        files.push(posting(alloc, session)?.into_bytes())?;
+        files.push(text_of(alloc, Part::Line, session, 0)?.into_bytes())?;
     }
     Ok(files)
 }
 
+/// The session of an entry, where the line is the comment on one.
+fn session_in(line: &str) -> Option<usize> {
+    let (_number, session) = line.strip_prefix("# entry ")?.split_once(" session ")?;
+    session.parse::<usize>().ok()
+}
+
 /// The sessions of the entries, in their order.
-pub fn order_of(alloc: Global, script: &str) -> Option<Vec<usize>> {
+fn order_of(alloc: Global, script: &str) -> Result<Vec<usize>, AllocError> {
     let mut order = Vec::new(alloc);
     for line in script.lines() {
-        if let Some(words) = line.strip_prefix("# entry ") {
-            let (_number, session) = words.split_once(" session ")?;
-            order.push(session.parse::<usize>().ok()?).ok()?;
+        if let Some(session) = session_in(line) {
+            order.push(session)?;
         }
     }
-    Some(order)
+    Ok(order)
 }
 
-fn put_entries(alloc: Global, order: &[usize], text: &mut String) -> Result<(), AllocError> {
-    for (place, session) in order.iter().enumerate() {
-        let number = place.saturating_add(1);
-        let comment = format!(in alloc; "# entry {number} session {session}\n")?;
-        text.push_str(&comment)?;
-        text.push_str(&posting(alloc, *session)?)?;
+/// The number of the session's entry; 0 where there is none.
+fn number_of(order: &[usize], session: usize) -> usize {
+    match order.iter().position(|author| *author == session) {
+        Some(place) => place.saturating_add(1),
+        None => 0,
+    }
+}
+
+/// Adds the part for each entry; for each session, in the order of their numbers, where it is the reply.
+fn put_each(
+    alloc: Global,
+    text: &mut String,
+    order: &[usize],
+    part: Part,
+) -> Result<(), AllocError> {
+    for (place, author) in order.iter().enumerate() {
+        let added = match part {
+            Part::Reply => text_of(alloc, part, place, number_of(order, place)),
+            _ => text_of(alloc, part, *author, place.saturating_add(1)),
+        };
+        text.push_str(&added?)?;
     }
     Ok(())
 }
 
-/// The number of the session's entry.
-fn number_of(order: &[usize], session: usize) -> Option<usize> {
-    let place = order.iter().position(|author| *author == session)?;
-    place.checked_add(1)
+/// Adds what the files leave over an empty SETUP, where their sessions came in that order.
+fn put_script(alloc: Global, text: &mut String, order: &[usize]) -> Result<(), AllocError> {
+    text.push_str("limits 1000 100000\n")?;
+    put_each(alloc, text, order, Part::Entry)?;
+    text.push_str("publish\nshow\n")?;
+    put_each(alloc, text, order, Part::Reply)
 }
 
-fn put_replies(alloc: Global, order: &[usize], text: &mut String) -> Option<()> {
-    for session in 0..order.len() {
-        let number = number_of(order, session)?;
-        let reply = format!(in alloc; "# session {session} line 1 ok {number}\n").ok()?;
-        text.push_str(&reply).ok()?;
+fn is_script_in(alloc: Global, script: &str, order: &[usize]) -> bool {
+    let mut text = String::new(alloc);
+    put_script(alloc, &mut text, order).is_ok() && text.as_str() == script
+}
+
+/// The order in which so many sessions came, where the script is what they leave then.
+pub fn order_told(alloc: Global, script: &str, count: usize) -> Option<Vec<usize>> {
+    let order = order_of(alloc, script).ok()?;
+    if order.len() == count && is_script_in(alloc, script, &order) {
+        Some(order)
+    } else {
+        None
     }
-    Some(())
 }
 
-/// What the files leave over an empty SETUP, where their sessions came in that order; `None` where one did not come.
-pub fn script_in(alloc: Global, order: &[usize]) -> Option<String> {
-    let mut text = String::from_str(alloc, "limits 1000 100000\n").ok()?;
-    put_entries(alloc, order, &mut text).ok()?;
-    text.push_str("publish\nshow\n").ok()?;
-    put_replies(alloc, order, &mut text)?;
-    Some(text)
+/// Adds what a replay of that script answers.
+fn put_replay(alloc: Global, text: &mut String, order: &[usize]) -> Result<(), AllocError> {
+    text.push_str("ok\n")?;
+    put_each(alloc, text, order, Part::Answer)?;
+    text.push_str(&text_of(alloc, Part::Shown, 0, order.len())?)?;
+    put_each(alloc, text, order, Part::Query)?;
+    text.push_str("end\n")
 }
 
-/// Adds the replies to so many entries.
-pub fn put_numbers(alloc: Global, count: usize, text: &mut String) -> Result<(), AllocError> {
-    for place in 0..count {
-        let number = place.saturating_add(1);
-        let reply = format!(in alloc; "ok {number}\n")?;
-        text.push_str(&reply)?;
-    }
-    Ok(())
-}
-
-fn put_queries(alloc: Global, order: &[usize], text: &mut String) -> Result<(), AllocError> {
-    for session in order {
-        let query = format!(in alloc;
-            "query q{session} matched\n  text {{}} R({session}) <-\n  groundings 1 ()\n    ()\n"
-        )?;
-        text.push_str(&query)?;
-    }
-    Ok(())
-}
-
-/// What a replay of that script answers.
-pub fn replay_in(alloc: Global, order: &[usize]) -> Result<String, AllocError> {
-    let count = order.len();
-    let mut text = String::from_str(alloc, "ok\n")?;
-    put_numbers(alloc, count, &mut text)?;
-    let shown = format!(in alloc; "published {count}\nshow {count}\n")?;
-    text.push_str(&shown)?;
-    put_queries(alloc, order, &mut text)?;
-    text.push_str("end\n")?;
-    Ok(text)
+/// Whether that is what a replay of that script answers.
+pub fn is_replay_in(alloc: Global, answers: &[u8], order: &[usize]) -> bool {
+    let mut text = String::new(alloc);
+    put_replay(alloc, &mut text, order).is_ok() && text.as_bytes() == answers
 }

@@ -2,7 +2,6 @@
 
 use crate::files::asked::{FILES, LINES, files};
 use crate::files::judged::{Finding, entries_of, judge};
-use crate::files::postings::put_numbers;
 use crate::files::served::{replayed, written};
 use std::alloc::{AllocError, Global};
 use std::sync::Wait;
@@ -10,21 +9,36 @@ use std::thread::Threads;
 
 const SETUP: &[u8] = b"relation T 1\nlimits 4096 65536\n";
 
-/// The front of what a replay answers where none of so many edits is refused.
-fn answers_of(alloc: Global, entries: usize) -> Result<String, AllocError> {
-    let mut text = String::from_str(alloc, "ok\nok\n")?;
-    put_numbers(alloc, entries, &mut text)?;
+fn put_numbers(alloc: Global, text: &mut String, count: usize) -> Result<(), AllocError> {
+    for place in 0..count {
+        let number = place.saturating_add(1);
+        text.push_str(&format!(in alloc; "ok {number}\n")?)?;
+    }
+    Ok(())
+}
+
+/// Adds the front of what a replay answers where none of so many edits is refused.
+fn put_front(alloc: Global, text: &mut String, entries: usize) -> Result<(), AllocError> {
+    text.push_str("ok\nok\n")?;
+    put_numbers(alloc, text, entries)?;
     let shown = format!(in alloc; "published {entries}\nshow {entries}\nrelation T 1 rows ")?;
-    text.push_str(&shown)?;
-    Ok(text)
+    text.push_str(&shown)
+}
+
+/// Whether the answers of a replay take all of so many edits, in order, and end with a report.
+fn are_taken(alloc: Global, answers: &[u8], entries: usize) -> bool {
+    let mut front = String::new(alloc);
+    put_front(alloc, &mut front, entries).is_ok()
+        && answers.starts_with(front.as_bytes())
+        && answers.ends_with(b"\nend\n")
 }
 
 /// Whether a replay takes all of so many edits, in order, and ends with a report.
 fn replays(alloc: Global, script: &str, entries: usize) -> bool {
-    let (Some(answers), Ok(front)) = (replayed(alloc, script), answers_of(alloc, entries)) else {
-        return false;
-    };
-    answers.starts_with(front.as_bytes()) && answers.ends_with(b"\nend\n")
+    match replayed(alloc, script) {
+        Some(answers) => are_taken(alloc, &answers, entries),
+        None => false,
+    }
 }
 
 /// What is found of the script, and how many entries it has.

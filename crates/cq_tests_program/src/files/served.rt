@@ -1,29 +1,43 @@
 //! SETUP and files served, and the script that is written replayed.
 
-ghost use Rattle.std.specs.Prelude.{◌≡◌, ◌<◌, ◌≤◌, length, IfOk};
-
 use crate::devices::Expecting;
-use cq_report::{Numbering, RunFault, run};
+use crate::runs;
+use cq_report::{Numbering, RunFault};
 use cq_sessions::run_sessions;
 use cq_text::Counted;
 use std::alloc::{AllocError, Allocator, Global};
+use std::io::Write;
 use std::sync::Wait;
 use std::thread::Threads;
 
+/// How the run ends, and the writer; nothing where there are no files or more than sixteen.
+fn ran<T: Threads + Wait + Sync, A: Allocator + Copy + Send + Sync, W: Write + Drop>(
+    rt: &T,
+    alloc: A,
+    setup: &[u8],
+    files: &[Vec<u8, A>],
+    writer: W,
+) -> Option<(Result<(), RunFault>, W)> {
+    if files.is_empty() || files.len() > 16 {
+        return None;
+    }
+    let mut writer = Counted::new(writer);
+    let ended = run_sessions(rt, alloc, setup, files, &mut writer);
+    Some((ended, writer.into_inner()))
+}
+
 /// The bytes, in a list of their own.
-pub fn copy<A: Allocator>(alloc: A, bytes: &[u8]) -> Result<Vec<u8, A>, AllocError> {
+fn copy<A: Allocator>(alloc: A, bytes: &[u8]) -> Result<Vec<u8, A>, AllocError> {
     let mut copy = Vec::new(alloc);
     copy.extend_from_slice(bytes)?;
     Ok(copy)
 }
 
 /// The files, each in a list of its own.
-pub fn copies<A: Allocator + Copy>(
+fn copies<A: Allocator + Copy>(
     alloc: A,
     files: &[&[u8]],
-) -> Result<Vec<Vec<u8, A>, A>, AllocError>
-    ensures { IfOk result (λ copies. length copies.items ≡ length files.now) }
-{
+) -> Result<Vec<Vec<u8, A>, A>, AllocError> {
     let mut copies = Vec::new(alloc);
     for file in files {
         copies.push(copy(alloc, file)?)?;
@@ -31,35 +45,31 @@ pub fn copies<A: Allocator + Copy>(
     Ok(copies)
 }
 
-/// How the run ends over a writer that takes the expected bytes and no others, and how many bytes it lacked.
-pub fn told<T: Threads + Wait + Sync, A: Allocator + Copy + Send + Sync>(
+/// The same of files that are copied first. Where memory for these is wanting, the writer comes back as it was.
+pub fn ran_copies<T: Threads + Wait + Sync, A: Allocator + Copy + Send + Sync, W: Write + Drop>(
     rt: &T,
     alloc: A,
     setup: &[u8],
-    files: &[Vec<u8, A>],
-    expected: &[u8],
-) -> (Result<(), RunFault>, usize)
-    requires { (0 < length files.now) × (length files.now ≤ 16) }
-{
-    let mut writer = Counted::new(Expecting::new(expected));
-    let result = run_sessions(rt, alloc, setup, files, &mut writer);
-    (result, writer.into_inner().rest.len())
+    files: &[&[u8]],
+    writer: W,
+) -> Option<(Result<(), RunFault>, W)> {
+    match copies(alloc, files) {
+        Ok(files) => ran(rt, alloc, setup, &files, writer),
+        Err(_) => Some((Err(RunFault::NoMemory), writer)),
+    }
 }
 
-/// The same of files that are copied first; out of memory for these too is told so.
-pub fn told_of<T: Threads + Wait + Sync, A: Allocator + Copy + Send + Sync>(
+/// How the run ends over a writer that takes the expected bytes and no others, and how many of them were not written.
+pub fn told<T: Threads + Wait + Sync, A: Allocator + Copy + Send + Sync>(
     rt: &T,
     alloc: A,
     setup: &[u8],
     files: &[&[u8]],
     expected: &[u8],
-) -> (Result<(), RunFault>, usize)
-    requires { (0 < length files.now) × (length files.now ≤ 16) }
-{
-    match copies(alloc, files) {
-        Ok(files) => told(rt, alloc, setup, &files, expected),
-        Err(_) => (Err(RunFault::NoMemory), expected.len()),
-    }
+) -> Option<(Result<(), RunFault>, usize)> {
+    let writer = Expecting::new(expected, usize::MAX);
+    let (ended, writer) = ran_copies(rt, alloc, setup, files, writer)?;
+    Some((ended, writer.rest.len()))
 }
 
 /// What the run writes; `None` where it fails.
@@ -68,18 +78,17 @@ pub fn written<T: Threads + Wait + Sync>(
     alloc: Global,
     setup: &[u8],
     files: &[Vec<u8>],
-) -> Option<String>
-    requires { (0 < length files.now) × (length files.now ≤ 16) }
-{
-    let mut writer = Counted::new(Vec::new(alloc));
-    run_sessions(rt, alloc, setup, files, &mut writer).ok()?;
-    String::from_utf8(writer.into_inner()).ok()
+) -> Option<String> {
+    match ran(rt, alloc, setup, files, Vec::new(alloc)) {
+        Some((Ok(()), text)) => String::from_utf8(text).ok(),
+        _ => None,
+    }
 }
 
 /// What a replay of the script answers.
 pub fn replayed(alloc: Global, script: &str) -> Option<Vec<u8>> {
-    let mut reader = Counted::new(script.as_bytes());
-    let mut writer = Counted::new(Vec::new(alloc));
-    run(alloc, Numbering::Plain, &mut reader, &mut writer).ok()?;
-    Some(writer.into_inner())
+    match runs::ran(alloc, Numbering::Plain, script.as_bytes(), Vec::new(alloc)) {
+        (Ok(()), answers) => Some(answers),
+        _ => None,
+    }
 }

@@ -1,6 +1,6 @@
 //! Sixteen files of one posting each.
 
-use crate::files::postings::{order_of, posting_files, replay_in, script_in};
+use crate::files::postings::{is_replay_in, order_told, posting_files};
 use crate::files::served::{replayed, written};
 use std::alloc::Global;
 use std::sync::Wait;
@@ -12,33 +12,26 @@ fn sixteen_served<T: Threads + Wait + Sync>(rt: &T, alloc: Global) -> Option<Str
     written(rt, alloc, b"", &files)
 }
 
-/// Whether that is the script of sessions that came in that order.
-fn is_script_in(alloc: Global, script: &str, order: &[usize]) -> bool {
-    match script_in(alloc, order) {
-        Some(wanted) => script == wanted.as_str(),
+/// Whether a replay answers as it has to where sessions came in that order.
+fn replays_in(alloc: Global, script: &str, order: &[usize]) -> bool {
+    match replayed(alloc, script) {
+        Some(answers) => is_replay_in(alloc, &answers, order),
         None => false,
     }
 }
 
-/// Whether a replay answers as it has to where sessions came in that order.
-fn replays_in(alloc: Global, script: &str, order: &[usize]) -> bool {
-    match (replayed(alloc, script), replay_in(alloc, order)) {
-        (Some(answers), Ok(wanted)) => answers.as_slice() == wanted.as_bytes(),
-        _ => false,
+/// Whether the script is that of sixteen sessions, and replays.
+fn is_right(alloc: Global, script: &str) -> bool {
+    match order_told(alloc, script, 16) {
+        Some(order) => replays_in(alloc, script, &order),
+        None => false,
     }
 }
 
 #[test]
 fn sixteen_files(rt: HostRuntime) {
-    let Some(script) = sixteen_served(&rt, rt.alloc()) else {
-        assert!(rt; false);
-        return;
-    };
-    let Some(order) = order_of(rt.alloc(), &script) else {
-        assert!(rt; false);
-        return;
-    };
-    assert!(rt; order.len() == 16);
-    assert!(rt; is_script_in(rt.alloc(), &script, &order));
-    assert!(rt; replays_in(rt.alloc(), &script, &order));
+    match sixteen_served(&rt, rt.alloc()) {
+        Some(script) => assert!(rt; is_right(rt.alloc(), &script)),
+        None => assert!(rt; false),
+    }
 }

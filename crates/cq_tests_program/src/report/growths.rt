@@ -3,12 +3,13 @@
 use crate::devices::{Expecting, OneLine, Pieces};
 use crate::lines::edit;
 use crate::report::reports::with_one_row;
+use crate::runs;
+use crate::runs::{Told, WELL, is_whole};
 use cq_atom::Edit;
 use cq_board::Board;
 use cq_render::report;
-use cq_report::{Numbering, RunFault, read_whole, run};
+use cq_report::{Numbering, RunFault};
 use cq_tests_growths::{ENOUGH, Outcome, Refusing, Tried, refusals};
-use cq_text::Counted;
 use std::alloc::{Allocator, Global};
 use std::io::Read;
 
@@ -41,22 +42,18 @@ end
 /// A run of the script, with numbers, each of which takes memory too.
 struct Running;
 
-/// How the run of the script that is read ends, over a writer that takes the answers alone; and how many bytes it lacked.
-fn told<A: Allocator + Copy, R: Read + Drop>(alloc: A, script: R) -> (Result<(), RunFault>, usize) {
-    let mut reader = Counted::new(script);
-    let mut writer = Counted::new(Expecting::new(ANSWERS));
-    let result = run(alloc, Numbering::Numbered, &mut reader, &mut writer);
-    (result, writer.into_inner().rest.len())
+/// How the run of the script that is read ends, over a writer that takes the answers alone.
+fn told<A: Allocator + Copy, R: Read + Drop>(alloc: A, script: R) -> Told {
+    let writer = Expecting::new(ANSWERS, usize::MAX);
+    runs::told(alloc, Numbering::Numbered, script, writer)
 }
 
 impl Tried for Running {
     fn tried<A: Allocator + Copy>(alloc: A) -> Outcome {
         match told(alloc, SCRIPT) {
-            (Ok(()), lacking) => Outcome::done_if(lacking == 0),
-            (Err(fault), _) => {
-                Outcome::refused_if(
-                    fault == RunFault::NoMemory && told(alloc, SCRIPT) == (Ok(()), 0),
-                )
+            (Ok(()), lacking, _) => Outcome::done_if(lacking == 0),
+            (Err(fault), _, _) => {
+                Outcome::refused_if(fault == RunFault::NoMemory && told(alloc, SCRIPT) == WELL)
             }
         }
     }
@@ -74,8 +71,9 @@ fn lengths_written(alloc: Global) -> Option<u64> {
     let mut lengths = 1u64;
     let mut last = ANSWERS.len();
     for growth in 0..ENOUGH {
-        let (ended, lacking) = told(&Refusing::new(alloc, growth), SCRIPT);
-        if (ended, lacking) != told(&Refusing::new(alloc, growth), OneLine(SCRIPT)) {
+        let (ended, lacking, flushes) = told(&Refusing::new(alloc, growth), SCRIPT);
+        let alone = told(&Refusing::new(alloc, growth), OneLine(SCRIPT));
+        if (ended, lacking, flushes) != alone {
             return None;
         }
         lengths = lengths.saturating_add(u64::from(lacking < last));
@@ -147,21 +145,20 @@ fn refused_growth_in_admit(rt: HostRuntime) {
 /// The script read whole.
 struct ReadingWhole;
 
-fn is_whole<A: Allocator + Copy>(alloc: A) -> Result<bool, RunFault> {
+fn is_read<A: Allocator + Copy>(alloc: A) -> Result<bool, RunFault> {
     let pieces = Pieces {
         rest: SCRIPT,
         most: 3,
     };
-    let bytes = read_whole(alloc, &mut Counted::new(pieces))?;
-    Ok(bytes.as_slice() == SCRIPT)
+    is_whole(alloc, pieces, SCRIPT)
 }
 
 impl Tried for ReadingWhole {
     fn tried<A: Allocator + Copy>(alloc: A) -> Outcome {
-        match is_whole(alloc) {
+        match is_read(alloc) {
             Ok(right) => Outcome::done_if(right),
             Err(fault) => {
-                Outcome::refused_if(fault == RunFault::NoMemory && is_whole(alloc) == Ok(true))
+                Outcome::refused_if(fault == RunFault::NoMemory && is_read(alloc) == Ok(true))
             }
         }
     }

@@ -3,9 +3,9 @@
 use std::alloc::{AllocError, Global};
 
 /// A line of the worked script.
-pub struct Line {
-    pub text: &'static [u8],
-    pub answer: &'static str,
+struct Line {
+    text: &'static [u8],
+    answer: &'static str,
     /// The fronts of the line that are answered otherwise than that they end too early: from that many bytes to that
     /// many, and the answer.
     fronts: Fronts,
@@ -59,7 +59,7 @@ end
 ";
 
 /// The worked script: the travel setup, the two worked queries, a publish and a look.
-pub const LINES: [Line; 14] = [
+const LINES: &[Line] = &[
     Line {
         text: b"relation Flights 2",
         answer: "ok\n",
@@ -132,29 +132,13 @@ pub const LINES: [Line; 14] = [
     },
 ];
 
-/// Adds what so many bytes of the line are answered.
-pub fn put_answer(
-    alloc: Global,
-    told: &mut String,
-    line: &Line,
-    count: usize,
-) -> Result<(), AllocError> {
-    if count == 0 {
-        return Ok(());
-    }
-    if count == line.text.len() {
-        return told.push_str(line.answer);
-    }
-    for (from, to, answer) in line.fronts {
-        if *from <= count && count <= *to {
-            return told.push_str(answer);
-        }
-    }
-    told.push_str(format!(in alloc; "refused Shape at {count}\n")?.as_str())
+/// The lines, for all that walk over them.
+fn lines() -> &'static [Line] {
+    LINES
 }
 
 fn put_lines(script: &mut Vec<u8>) -> Result<(), AllocError> {
-    for line in &LINES {
+    for line in lines() {
         script.extend_from_slice(line.text)?;
         script.push(b'\n')?;
     }
@@ -168,21 +152,64 @@ pub fn script(alloc: Global) -> Result<Vec<u8>, AllocError> {
     Ok(script)
 }
 
-fn put_answers(told: &mut String, bytes: usize) -> Result<(), AllocError> {
-    let mut end = 0usize;
-    for line in &LINES {
-        end = end.saturating_add(line.text.len()).saturating_add(1);
-        if end > bytes {
-            return Ok(());
-        }
-        told.push_str(line.answer)?;
+/// What so many bytes of the line are answered; nothing where that is where they end.
+fn answer_of(line: &Line, count: usize) -> Option<&'static str> {
+    if count == line.text.len() {
+        return Some(line.answer);
     }
-    Ok(())
+    for (from, to, answer) in line.fronts {
+        if *from <= count && count <= *to {
+            return Some(answer);
+        }
+    }
+    None
 }
 
-/// The answers to the whole lines of so many bytes of the script.
-pub fn answers(alloc: Global, bytes: usize) -> Result<String, AllocError> {
+/// Adds what so many bytes of the line are answered.
+fn put_front(
+    alloc: Global,
+    told: &mut String,
+    line: &Line,
+    count: usize,
+) -> Result<(), AllocError> {
+    if count == 0 {
+        return Ok(());
+    }
+    match answer_of(line, count) {
+        Some(answer) => told.push_str(answer),
+        None => told.push_str(&format!(in alloc; "refused Shape at {count}\n")?),
+    }
+}
+
+/// Adds the answers to the whole lines of so many bytes of the script. These are cut off in the line that is told, of which they
+/// have so many.
+fn put_answers(
+    told: &mut String,
+    bytes: usize,
+) -> Result<Option<(&'static Line, usize)>, AllocError> {
+    let mut left = bytes;
+    for line in lines() {
+        let count = line.text.len();
+        if left <= count {
+            return Ok(Some((line, left)));
+        }
+        told.push_str(line.answer)?;
+        left = left.saturating_sub(count).saturating_sub(1);
+    }
+    Ok(None)
+}
+
+/// Adds the answers to so many bytes of the script, where they end the script or a read fails behind them.
+fn put_told(alloc: Global, told: &mut String, bytes: usize, ended: bool) -> Result<(), AllocError> {
+    match put_answers(told, bytes)? {
+        Some((line, count)) if ended => put_front(alloc, told, line, count),
+        _ => Ok(()),
+    }
+}
+
+/// The answers to so many bytes of the script. Where these are all that there is, a line that is cut off is answered too.
+pub fn answers(alloc: Global, bytes: usize, ended: bool) -> Result<String, AllocError> {
     let mut told = String::new(alloc);
-    put_answers(&mut told, bytes)?;
+    put_told(alloc, &mut told, bytes, ended)?;
     Ok(told)
 }

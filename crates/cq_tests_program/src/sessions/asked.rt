@@ -31,17 +31,25 @@ pub fn line(alloc: Global, writer: usize, number: usize) -> Result<String, Alloc
     }
 }
 
-/// Whether that may be the reply to a writer's edit of that number, whatever the others do.
+/// Whether a writer's edit of that number may be entered, and why it may be refused, whatever the others do.
+fn may_come(number: usize) -> (bool, Option<Why>) {
+    match number % 6 {
+        0 => (true, None),
+        2 => (false, Some(Why::NameTaken)),
+        3 if number < 24 => (false, Some(Why::NoSuchName)),
+        3 => (true, None),
+        4 => (true, Some(Why::RowAbsent)),
+        _ => (true, Some(Why::RowPresent)),
+    }
+}
+
+/// Whether that may be the reply to a writer's edit of that number.
 pub fn may_be(number: usize, reply: &Reply<Why>) -> bool {
-    match (number % 6, reply) {
-        (0, Reply::Entered(_)) => true,
-        (2, Reply::Not(why)) => *why == Why::NameTaken,
-        (3, Reply::Entered(_)) => number / 6 >= 4,
-        (3, Reply::Not(why)) => number / 6 < 4 && *why == Why::NoSuchName,
-        (1 | 4 | 5, Reply::Entered(_)) => true,
-        (1 | 5, Reply::Not(why)) => *why == Why::RowPresent,
-        (4, Reply::Not(why)) => *why == Why::RowAbsent,
-        _ => false,
+    let (enters, refusal) = may_come(number);
+    match reply {
+        Reply::Entered(_) => enters,
+        Reply::Not(why) => refusal == Some(*why),
+        Reply::JournalFull => false,
     }
 }
 

@@ -1,25 +1,24 @@
-//! The boards and rooms of these tests.
+//! The boards of these tests.
 
 use cq_atom::Edit;
 use cq_board::{Board, Limits, Why};
 use cq_desk::Live;
 use cq_rel::Catalog;
-use cq_room::{Pair, Room};
-use std::alloc::Global;
+use cq_render::report;
+use std::alloc::{AllocError, Global};
 
-/// A state that takes the edits of a board, and shows one. What goes on in a room is stated over any such state, since what is known
-/// of sessions over boards themselves is large.
+/// A state that takes the edits of a board, and is told as one. What goes on in a room is stated over any such state, since what is
+/// known of sessions over boards themselves is large.
 pub trait Posted: Live<Edit = Edit, Why = Why> {
-    fn as_board(&self) -> &Board;
+    /// The report on the board.
+    fn told(&self, alloc: Global) -> Result<String, AllocError>;
 }
 
 impl Posted for Board {
-    fn as_board(&self) -> &Board {
-        self
+    fn told(&self, alloc: Global) -> Result<String, AllocError> {
+        report(alloc, self)
     }
 }
-
-pub type PostedRoom<L, N, R> = Room<L, N, Pair<L, N, R>>;
 
 pub const LIMITS: Limits = Limits {
     pool: 4_096,
@@ -29,14 +28,16 @@ pub const LIMITS: Limits = Limits {
 /// The catalog with the one relation `T` of one column.
 pub fn catalog(alloc: Global) -> Option<Catalog> {
     let mut catalog = Catalog::empty(alloc);
-    if catalog.declare("T", 1).is_err() {
-        return None;
+    match catalog.declare("T", 1) {
+        Ok(_) => Some(catalog),
+        Err(_) => None,
     }
-    Some(catalog)
 }
 
 /// A board over that catalog, without rows and queries.
 pub fn board(alloc: Global) -> Option<Board> {
-    let catalog = catalog(alloc)?;
-    Board::begin(alloc, catalog, LIMITS).ok()
+    match catalog(alloc) {
+        Some(catalog) => Board::begin(alloc, catalog, LIMITS).ok(),
+        None => None,
+    }
 }

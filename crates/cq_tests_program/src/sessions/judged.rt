@@ -43,69 +43,66 @@ fn entry_at(journal: &[Entry<Edit>], number: u64) -> Option<&Entry<Edit>> {
     journal.get(usize::try_from(place).ok()?)
 }
 
-/// Whether the reply to the writer's edit of that number is right, and what it tells of stands in the journal.
-fn stands(
+/// What a writer's replies told so far.
+#[derive(Clone, Copy)]
+struct Told {
+    /// The number of the last entry.
+    last: u64,
+    /// How many entries there were.
+    entries: usize,
+}
+
+/// What is told after the reply to the writer's edit of that number; `None` where it is wrong, or what it tells of does not stand in
+/// the journal, behind what was told before.
+fn after_reply(
     alloc: Global,
     journal: &[Entry<Edit>],
     writer: usize,
     number: usize,
     reply: &Reply<Why>,
-) -> bool {
+    told: Told,
+) -> Option<Told> {
+    if !may_be(number, reply) {
+        return None;
+    }
     let Reply::Entered(place) = reply else {
-        return may_be(number, reply);
+        return Some(told);
     };
-    let Some(entry) = entry_at(journal, *place) else {
-        return false;
-    };
-    may_be(number, reply) && is_entry(alloc, entry, writer, number) == Ok(true)
+    let entry = entry_at(journal, *place)?;
+    if *place <= told.last || is_entry(alloc, entry, writer, number) != Ok(true) {
+        return None;
+    }
+    Some(Told {
+        last: *place,
+        entries: told.entries.checked_add(1)?,
+    })
 }
 
-/// Whether all replies of the writer are right.
-fn all_stand(
+/// How many entries the writer's replies tell of; `None` where one is wrong.
+fn entered(
     alloc: Global,
     journal: &[Entry<Edit>],
     writer: usize,
     replies: &[Reply<Why>],
-) -> bool {
+) -> Option<usize> {
+    let mut told = Told {
+        last: 0,
+        entries: 0,
+    };
     for (number, reply) in replies.iter().enumerate() {
-        if !stands(alloc, journal, writer, number, reply) {
-            return false;
-        }
+        told = after_reply(alloc, journal, writer, number, reply, told)?;
     }
-    true
+    Some(told.entries)
 }
 
-/// Whether the numbers of the entries rise from reply to reply.
-fn numbers_rise(replies: &[Reply<Why>]) -> bool {
-    let mut last = 0;
-    for reply in replies {
-        if let Reply::Entered(number) = reply {
-            if *number <= last {
-                return false;
-            }
-            last = *number;
-        }
-    }
-    true
-}
-
-/// How many entries the replies tell of.
-fn entered(replies: &[Reply<Why>]) -> usize {
-    let mut count = 0usize;
-    for reply in replies {
-        if let Reply::Entered(_) = reply {
-            count = count.saturating_add(1);
-        }
-    }
-    count
+/// So many entries, from the first on.
+fn first(journal: &[Entry<Edit>], count: u64) -> Option<&[Entry<Edit>]> {
+    journal.get(..usize::try_from(count).ok()?)
 }
 
 /// Whether the look shows the board of the entries that it counts.
 fn is_shown(alloc: Global, journal: &[Entry<Edit>], kept: &Kept) -> bool {
-    let Ok(count) = usize::try_from(kept.count) else {
-        return false;
-    };
-    let Some(entries) = journal.get(..count) else {
+    let Some(entries) = first(journal, kept.count) else {
         return false;
     };
     match report_of(alloc, entries) {
@@ -133,39 +130,49 @@ fn is_whole(number: usize, record: &Record) -> bool {
     }
 }
 
-/// What is found of the session of that number.
-fn finding_of(alloc: Global, journal: &[Entry<Edit>], number: usize, record: &Record) -> Finding {
+/// How many entries the replies of the session of that number tell of.
+///
+/// # Errors
+/// What is found where it is not right.
+fn told_of(
+    alloc: Global,
+    journal: &[Entry<Edit>],
+    number: usize,
+    record: &Record,
+) -> Result<usize, Finding> {
     if !is_whole(number, record) {
-        return Finding::Session(number);
+        return Err(Finding::Session(number));
     }
-    if !numbers_rise(&record.replies) || !all_stand(alloc, journal, number, &record.replies) {
-        return Finding::Reply(number);
-    }
+    let Some(entries) = entered(alloc, journal, number, &record.replies) else {
+        return Err(Finding::Reply(number));
+    };
     if !all_shown(alloc, journal, &record.looks) {
-        return Finding::Look(number);
+        return Err(Finding::Look(number));
     }
-    Finding::Right
+    Ok(entries)
 }
 
 /// How many entries the replies of all sessions tell of.
-fn all_entered(records: &[Record]) -> usize {
-    let mut count = 0usize;
-    for record in records {
-        count = count.saturating_add(entered(&record.replies));
+///
+/// # Errors
+/// What is found of the first session that is not right.
+fn all_told_of(
+    alloc: Global,
+    journal: &[Entry<Edit>],
+    records: &[Record],
+) -> Result<usize, Finding> {
+    let mut entries = 0usize;
+    for (number, record) in records.iter().enumerate() {
+        entries = entries.saturating_add(told_of(alloc, journal, number, record)?);
     }
-    count
+    Ok(entries)
 }
 
 /// What is found of the sessions, whose records stand in the order of their numbers.
 pub fn judge(alloc: Global, journal: &[Entry<Edit>], records: &[Record]) -> Finding {
-    for (number, record) in records.iter().enumerate() {
-        let finding = finding_of(alloc, journal, number, record);
-        if finding != Finding::Right {
-            return finding;
-        }
+    match all_told_of(alloc, journal, records) {
+        Ok(entries) if records.len() == 16 && entries == journal.len() => Finding::Right,
+        Ok(_) => Finding::Entries,
+        Err(finding) => finding,
     }
-    if records.len() != 16 || all_entered(records) != journal.len() {
-        return Finding::Entries;
-    }
-    Finding::Right
 }

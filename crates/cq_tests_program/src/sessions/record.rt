@@ -1,10 +1,7 @@
 //! What a session keeps of its replies and looks.
 
-use crate::sessions::boards::Posted;
-use cq_board::{Board, Why};
-use cq_desk::{End, Reply};
-use cq_render::report;
-use cq_room::{Front, Receipt, RoomName, Session};
+use cq_board::Why;
+use cq_desk::Reply;
 use std::alloc::{AllocError, Global};
 
 /// A look that is kept: how many entries it showed, and the report on its board.
@@ -17,7 +14,8 @@ pub struct Kept {
 /// What a session was told and saw.
 #[derive(Drop)]
 pub struct Record {
-    alloc: Global,
+    /// For what is kept.
+    pub alloc: Global,
     /// The replies to its edits, in the order in which it asked for them.
     pub replies: Vec<Reply<Why>>,
     /// Some of its looks, the earliest first.
@@ -44,11 +42,16 @@ impl Record {
     }
 
     /// So many entries are known of from now on. Fewer than before are not right.
-    fn knows(&mut self, count: u64) {
+    pub fn knows(&mut self, count: u64) {
         if count < self.known {
             self.fails();
         }
         self.known = count;
+    }
+
+    /// A front of so many entries is heard of. It may be an older one.
+    pub fn hears(&mut self, count: u64) {
+        self.known = self.known.max(count);
     }
 
     /// Whether so many entries are known to have come since the last look that is kept.
@@ -59,56 +62,19 @@ impl Record {
         }
     }
 
-    /// Keeps a look.
-    fn keep(&mut self, count: u64, board: &Board) -> Result<(), AllocError> {
-        let text = report(self.alloc, board)?;
-        self.looks.push(Kept { count, text })?;
-        Ok(())
-    }
-
-    /// Looks, and keeps the look where asked to.
-    pub fn looks<L: Posted, N: RoomName<L::Content>>(
-        &mut self,
-        session: Session<L, N>,
-        keep: bool,
-    ) -> Session<L, N> {
-        match session.watch() {
-            Ok(look) => {
-                self.knows(look.count());
-                if keep && self.keep(look.count(), look.state().as_board()).is_err() {
-                    self.fails();
-                }
-                look.leave()
-            }
-            Err(session) => {
-                self.fails();
-                session
-            }
+    /// Keeps a look that is told so.
+    pub fn keeps(&mut self, count: u64, told: Result<String, AllocError>) {
+        let kept = match told {
+            Ok(text) => self.looks.push(Kept { count, text }).is_ok(),
+            Err(_) => false,
+        };
+        if !kept {
+            self.fails();
         }
     }
 
-    /// Hears a front of another session. It may be an older one.
-    pub fn hears<L: Posted, N: RoomName<L::Content>>(
-        &mut self,
-        session: &mut Session<L, N>,
-        front: &Front<L, N>,
-    ) {
-        session.hear(front);
-        self.known = self.known.max(front.count());
-    }
-
-    /// Takes the replies down, and gives the front on.
-    pub fn takes<L: Posted, N: RoomName<L::Content>>(
-        &mut self,
-        receipt: Receipt<L, N>,
-    ) -> Option<Front<L, N>> {
-        let Receipt { submitted, front } = receipt;
-        let front = front?;
-        self.knows(front.count());
-        if submitted.end != End::Published(front.count()) {
-            return None;
-        }
-        self.replies.extend_from_slice(&submitted.replies).ok()?;
-        Some(front)
+    /// Takes the replies down.
+    pub fn takes(&mut self, replies: &[Reply<Why>]) -> bool {
+        self.replies.extend_from_slice(replies).is_ok()
     }
 }

@@ -1,9 +1,10 @@
 //! What each session does in its thread.
 
 use crate::sessions::asked::{TURNS, WRITERS, edits};
-use crate::sessions::boards::{Posted, PostedRoom};
+use crate::sessions::boards::Posted;
 use crate::sessions::jobs::Job;
 use crate::sessions::record::Record;
+use crate::sessions::rooms::{Hall, Heard, Place, Seated};
 use cq_room::{Front, RoomName, Session};
 use std::alloc::Global;
 use std::sync::atomic::{AtomicUsize, Ordering};
@@ -17,13 +18,13 @@ const APART: u64 = 300;
 
 /// What sessions tell each other beside the room.
 #[derive(Drop)]
-pub struct Notice<L: Posted, N: RoomName<L::Content>> {
-    front: Mutex<Option<Front<L, N>>>,
+pub struct Notice<F: Heard> {
+    front: Mutex<Option<F>>,
     done: AtomicUsize,
 }
 
-impl<L: Posted, N: RoomName<L::Content>> Notice<L, N> {
-    pub fn empty() -> Notice<L, N> {
+impl<F: Heard> Notice<F> {
+    pub fn empty() -> Notice<F> {
         Notice {
             front: Mutex::new(None),
             done: AtomicUsize::new(0),
@@ -31,14 +32,14 @@ impl<L: Posted, N: RoomName<L::Content>> Notice<L, N> {
     }
 
     /// Puts up the front in place of the one that was there.
-    fn put_up<R: Wait>(&self, rt: &R, front: Front<L, N>) {
+    fn put_up<R: Wait>(&self, rt: &R, front: F) {
         *self.front.lock(rt) = Some(front);
     }
 
     /// A copy of the front that is put up.
-    fn read<R: Wait>(&self, rt: &R) -> Option<Front<L, N>> {
+    fn read<R: Wait>(&self, rt: &R) -> Option<F> {
         match &*self.front.lock(rt) {
-            Some(front) => Some(front.copy()),
+            Some(front) => Some(front.again()),
             None => None,
         }
     }
@@ -56,73 +57,83 @@ impl<L: Posted, N: RoomName<L::Content>> Notice<L, N> {
 
 /// What all threads share.
 #[derive(Drop)]
-pub struct Hall<'a, L: Posted, N: RoomName<L::Content>, R: Wait + Drop> {
+pub struct Around<'a, F: Heard, H, R: Wait + Drop> {
     pub rt: &'a R,
     pub alloc: Global,
-    pub room: &'a PostedRoom<L, N, R>,
-    pub notice: &'a Notice<L, N>,
+    pub hall: &'a H,
+    pub notice: &'a Notice<F>,
 }
 
-impl<'a, L: Posted, N: RoomName<L::Content>, R: Wait + Drop> Hall<'a, L, N, R> {
-    /// The front of the submit of that turn, of which there is a record then.
-    fn submits(
-        &self,
-        session: &mut Session<L, N>,
-        record: &mut Record,
-        turn: usize,
-    ) -> Option<Front<L, N>> {
-        let writer = session.number();
-        let count = 1 + turn.saturating_add(writer) % 5;
-        let asked = edits(self.alloc, writer, record.replies.len(), count).ok()?;
-        let receipt = session.submit(self.rt, self.room, asked).ok()?;
-        record.takes(receipt)
-    }
-
+impl<'a, F: Heard, H, R: Wait + Drop> Around<'a, F, H, R> {
     /// The submit of that turn, whose front is put up.
-    fn writes(&self, session: &mut Session<L, N>, record: &mut Record, turn: usize) {
-        match self.submits(session, record, turn) {
+    fn writes<S: Seated<Told = F>>(&self, session: &mut S, record: &mut Record, turn: usize)
+    where
+        H: Hall<S>,
+    {
+        let writer = session.seat();
+        let count = 1 + turn.saturating_add(writer) % 5;
+        let told = match edits(self.alloc, writer, record.replies.len(), count) {
+            Ok(asked) => self.hall.submits(session, record, asked),
+            Err(_) => None,
+        };
+        match told {
             Some(front) => self.notice.put_up(self.rt, front),
             None => record.fails(),
         }
     }
 
     /// Hears the front that is put up.
-    fn hears(&self, session: &mut Session<L, N>, record: &mut Record) {
+    fn hears<S: Seated<Told = F>>(&self, session: &mut S, record: &mut Record) {
         if let Some(front) = self.notice.read(self.rt) {
-            record.hears(session, &front);
+            session.hears(&front);
+            record.hears(front.entries());
         }
     }
 
     /// What a writer does. Each twelfth of its looks is kept.
-    fn writer(&self, mut session: Session<L, N>, record: &mut Record) -> Session<L, N> {
+    fn writer<S: Seated<Told = F>>(&self, mut session: S, record: &mut Record)
+    where
+        H: Hall<S>,
+    {
         for turn in 0..TURNS {
             self.writes(&mut session, record, turn);
             self.hears(&mut session, record);
-            session = record.looks(session, turn % 12 == 11);
+            session = session.looks(record, turn % 12 == 11);
         }
         self.notice.leave();
-        session
     }
 
     /// What a reader does until all writers have come to their end.
-    fn reader(&self, mut session: Session<L, N>, record: &mut Record) -> Session<L, N> {
+    fn reader<S: Seated<Told = F>>(&self, mut session: S, record: &mut Record) {
         for _ in 0..MOST_LOOKS {
             let over = self.notice.is_over();
             self.hears(&mut session, record);
-            let keep = record.is_due(APART);
-            session = record.looks(session, keep);
+            session = session.looks(record, record.is_due(APART));
             if over {
                 break;
             }
         }
-        session
+    }
+
+    /// The record of the session, which goes with its thread.
+    fn sits<S: Seated<Told = F>>(&self, session: S) -> Record
+    where
+        H: Hall<S>,
+    {
+        let mut record = Record::begin(self.alloc);
+        if session.seat() < WRITERS {
+            self.writer(session, &mut record);
+        } else {
+            self.reader(session, &mut record);
+        }
+        record
     }
 }
 
 /// A session that is to run in a thread.
 #[derive(Drop)]
 pub struct Seat<'a, L: Posted, N: RoomName<L::Content>, R: Wait + Drop> {
-    pub hall: &'a Hall<'a, L, N, R>,
+    pub around: &'a Around<'a, Front<L, N>, Place<'a, L, N, R>, R>,
     pub session: Session<L, N>,
 }
 
@@ -134,15 +145,8 @@ impl<
 > Job for Seat<'a, L, N, R> {
     type Told = Record;
 
-    /// The record of the session, which goes with its thread.
     fn run(self) -> Record {
-        let Seat { hall, session } = self;
-        let mut record = Record::begin(hall.alloc);
-        let _session = if session.number() < WRITERS {
-            hall.writer(session, &mut record)
-        } else {
-            hall.reader(session, &mut record)
-        };
-        record
+        let Seat { around, session } = self;
+        around.sits(session)
     }
 }

@@ -2,13 +2,15 @@
 
 ghost use Rattle.std.specs.Prelude.{◌≡◌, ◌∷◌, []};
 
-use crate::sessions::boards::{LIMITS, Posted, PostedRoom, board};
+use crate::sessions::boards::{LIMITS, Posted, board};
 use crate::sessions::jobs::run_all;
 use crate::sessions::judged::{Finding, judge};
 use crate::sessions::record::Record;
-use crate::sessions::seats::{Hall, Notice, Seat};
-use cq_board::Board;
-use cq_room::{Parts, Room, RoomName, Session, Watched};
+use crate::sessions::rooms::Place;
+use crate::sessions::seats::{Around, Notice, Seat};
+use cq_atom::Edit;
+use cq_desk::Entry;
+use cq_room::{Front, Parts, Room, RoomName, Session, Watched};
 use std::alloc::{AllocError, Global};
 use std::marker::Brand;
 use std::mem::drop;
@@ -17,12 +19,12 @@ use std::thread::Threads;
 
 /// A seat for each session.
 fn seats<'a, L: Posted, N: RoomName<L::Content>, R: Wait + Drop>(
-    hall: &'a Hall<'a, L, N, R>,
+    around: &'a Around<'a, Front<L, N>, Place<'a, L, N, R>, R>,
     sessions: Vec<Session<L, N>>,
 ) -> Result<Vec<Seat<'a, L, N, R>>, AllocError> {
-    let mut seats = Vec::new(hall.alloc);
+    let mut seats = Vec::new(around.alloc);
     for session in sessions {
-        seats.push(Seat { hall, session })?;
+        seats.push(Seat { around, session })?;
     }
     Ok(seats)
 }
@@ -35,19 +37,30 @@ fn run_in<
     T: Threads + Sync,
 >(
     threads: &T,
-    rt: &R,
     alloc: Global,
-    room: &PostedRoom<L, N, R>,
+    place: &Place<'_, L, N, R>,
     sessions: Vec<Session<L, N>>,
 ) -> Result<Vec<Record>, AllocError> {
     let notice = Notice::empty();
-    let hall = Hall {
-        rt,
+    let around = Around {
+        rt: place.rt,
         alloc,
-        room,
+        hall: place,
         notice: &notice,
     };
-    run_all(threads, seats(&hall, sessions)?)
+    run_all(threads, seats(&around, sessions)?)
+}
+
+/// What is found of the records, if there are any.
+fn found(
+    alloc: Global,
+    journal: &[Entry<Edit>],
+    records: &Result<Vec<Record>, AllocError>,
+) -> Finding {
+    match records {
+        Ok(records) => judge(alloc, journal, records),
+        Err(_) => Finding::Unready,
+    }
 }
 
 /// What is found where the room is closed.
@@ -55,45 +68,55 @@ fn closes<L: Posted, N: RoomName<L::Content>, P: Watched<L, N>>(
     rt: &P::Leave,
     alloc: Global,
     room: Room<L, N, P>,
-    records: &[Record],
+    records: &Result<Vec<Record>, AllocError>,
 ) -> Finding
 where
     P::Leave: Wait,
 {
     let desk = room.close(rt, Vec::new(alloc));
-    let finding = judge(alloc, desk.journal(), records);
+    let finding = found(alloc, desk.journal(), records);
     drop(desk);
     finding
 }
 
+/// What is found of the sessions of a room of these parts.
 fn runs<
     L: Posted + Send + Sync,
     N: RoomName<L::Content> + Send + Sync,
     R: Wait + Drop + Send + Sync,
     T: Threads + Sync,
->(threads: &T, rt: &R, alloc: Global, parts: Parts<L, R>) -> Option<Finding>
+>(threads: &T, rt: &R, alloc: Global, parts: Parts<L, R>) -> Finding
     requires book { parts.book ≡ N.book }
     requires opening { N.opening ≡ parts.opening ∷ [] }
     requires limit { N.limit ≡ parts.limit }
 {
-    let (room, sessions) = parts.open::<N>().ok()?;
-    let records = run_in(threads, rt, alloc, &room, sessions).ok()?;
-    Some(closes(rt, alloc, room, &records))
+    match parts.open::<N>() {
+        Ok((room, sessions)) => {
+            let records = run_in(threads, alloc, &Place { rt, room: &room }, sessions);
+            closes(rt, alloc, room, &records)
+        }
+        Err(_) => Finding::Unready,
+    }
 }
 
-fn opened<R: Wait + Drop>(rt: R, alloc: Global) -> Option<Parts<Board, R>> {
-    let board = board(alloc)?;
-    Room::begin(rt, alloc, board, LIMITS.journal, 16).ok()
+/// What is found of sixteen sessions of a room over the state.
+fn runs_over<L: Posted + Send + Sync, R: Wait + Drop + Copy + Send + Sync, T: Threads + Sync>(
+    threads: &T,
+    rt: R,
+    alloc: Global,
+    state: L,
+) -> Finding {
+    match Room::begin(rt, alloc, state, LIMITS.journal, 16) {
+        Ok(parts) => runs::<L, Brand, R, T>(threads, &rt, alloc, parts),
+        Err(_) => Finding::Unready,
+    }
 }
 
 #[test]
 fn sixteen_sessions(rt: HostRuntime) {
-    let handle = &rt;
-    match opened(handle, rt.alloc()) {
-        Some(parts) => {
-            let finding = runs::<Board, Brand, _, _>(&rt, &handle, rt.alloc(), parts);
-            assert!(rt; finding == Some(Finding::Right), "{finding:?}");
-        }
-        None => assert!(rt; false),
-    }
+    let finding = match board(rt.alloc()) {
+        Some(board) => runs_over(&rt, &rt, rt.alloc(), board),
+        None => Finding::Unready,
+    };
+    assert!(rt; finding == Finding::Right, "{finding:?}");
 }

@@ -1,0 +1,58 @@
+//! Runs of one script over devices, and scripts that are read whole.
+
+use crate::devices::{Expecting, Pieces};
+use cq_report::{Numbering, RunFault, read_whole, run};
+use cq_text::Counted;
+use std::alloc::{Allocator, Global};
+use std::io::{Read, Write};
+
+/// How the run of what the reader gives ends, and the writer.
+pub fn ran<A: Allocator + Copy, D: Read + Drop, W: Write + Drop>(
+    alloc: A,
+    numbering: Numbering,
+    device: D,
+    writer: W,
+) -> (Result<(), RunFault>, W) {
+    let mut reader = Counted::new(device);
+    let mut writer = Counted::new(writer);
+    let ended = run(alloc, numbering, &mut reader, &mut writer);
+    (ended, writer.into_inner())
+}
+
+/// How a run ended, how many of the expected bytes were not written, and how often the writer was flushed.
+pub type Told = (Result<(), RunFault>, usize, u32);
+
+/// How all is told and flushed once.
+pub const WELL: Told = (Ok(()), 0, 1);
+
+/// How the run of what the reader gives ends, over a writer that takes the expected bytes and no others.
+pub fn told<A: Allocator + Copy, D: Read + Drop>(
+    alloc: A,
+    numbering: Numbering,
+    device: D,
+    writer: Expecting<'_>,
+) -> Told {
+    let (ended, writer) = ran(alloc, numbering, device, writer);
+    (ended, writer.rest.len(), writer.flushes)
+}
+
+/// The same of a script that is read and answered in pieces of so many bytes at most, and whose replies have no numbers.
+pub fn told_of(alloc: Global, script: &[u8], most: usize, expected: &[u8]) -> Told {
+    let pieces = Pieces { rest: script, most };
+    told(
+        alloc,
+        Numbering::Plain,
+        pieces,
+        Expecting::new(expected, usize::MAX),
+    )
+}
+
+/// Whether what the reader gives to the end are these bytes; else why not.
+pub fn is_whole<A: Allocator, D: Read + Drop>(
+    alloc: A,
+    device: D,
+    expected: &[u8],
+) -> Result<bool, RunFault> {
+    let bytes = read_whole(alloc, &mut Counted::new(device))?;
+    Ok(bytes.as_slice() == expected)
+}
