@@ -13,6 +13,7 @@
 
 mod atom;
 mod bytes;
+mod edge;
 mod edit;
 mod fault;
 mod limits;
@@ -28,6 +29,7 @@ mod variables;
 mod word;
 
 pub use atom::Atom;
+pub use edge::Edge;
 pub use edit::{Edit, EditKind};
 pub use fault::{Bad, Part};
 pub use limits::{MAX_ARITY, MAX_ATOMS, MAX_NAME, MAX_TEXT};

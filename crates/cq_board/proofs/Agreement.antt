@@ -8,7 +8,7 @@ use Rattle.cq_atom.specs.Atom.{TermContent, AtomRecord, variable_of}
 use Rattle.cq_atom.specs.Query.{occurrences}
 use Rattle.cq_atom.specs.Valuation.{Bindings, AreValues, value_at, constant_or, term_under, under}
 use Rattle.cq_atom.specs.Unify.{Unify}
-use Rattle.cq_board.specs.Supply.{is_value}
+use Rattle.cq_board.specs.Steps.Supply.{is_value}
 use Rattle.cq_board.specs.Steps.Choices.{IsValid, AreValid}
 use Rattle.cq_board.proofs.Members.{by_bool, In}
 use Rattle.cq_board.proofs.Searches.{is_value_true, is_value_has, given_by, value_at-given_by}

@@ -10,7 +10,8 @@ use Rattle.cq_atom.specs.Value.{ValueContent, IsValue}
 use Rattle.cq_atom.specs.Atom.{TermContent, AtomRecord, RowRecord}
 use Rattle.cq_atom.specs.Valuation.{Bindings, AreValues, term_under}
 use Rattle.cq_atom.specs.Unify.{Unify}
-use Rattle.cq_board.specs.Supply.{same_value, unifies}
+use Rattle.cq_index.specs.Index.{same_value}
+use Rattle.cq_board.specs.Steps.Supply.{unifies}
 use Rattle.cq_board.specs.Near.{differ, differences, misses}
 use Rattle.cq_board.proofs.Members.{by_bool, In}
 use Rattle.cq_board.proofs.Among.{In-All}

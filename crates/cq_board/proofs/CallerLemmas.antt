@@ -1,4 +1,4 @@
--- What a caller cites of looks by names: in a good pool the query of a name is the one that stands under it. And that edges stand side by side by their waiters.
+-- What a caller cites of looks by names: in a good pool the query of a name is the one that stands under it. And that edges stand side by side by their waiters. With the test by which edges are defined, for proofs that compute edges, and what loops over lists of names meet.
 use Rattle.std.proofs.Common.{◌≡◌, ℕ, zero, suc, true, false, List, [], ◌∷◌, length, map, refl, sym, ap, ◌∙◌, arith, Some, bytes_eq}
 use Rattle.std.specs.Prelude.{nat_lt, option_map}
 use Rattle.std.specs.List.{AllByRecursion, IsDistinct, slice_get, position_or_len}
@@ -10,7 +10,9 @@ use Rattle.cq_board.specs.Edits.{is_named}
 use Rattle.cq_board.specs.Board.{is_matched_at, name_at, place_of}
 use Rattle.cq_board.specs.Named.{query_named, matched_named, groundings_named}
 use Rattle.cq_board.proofs.Members.{by_bool}
+pub use Rattle.cq_board.proofs.Pieces.{ahead_at, got_of_map, pieces_at, read_at}
 pub use Rattle.cq_board.proofs.Waiters.{edges-grouped}
+pub use Rattle.cq_board.specs.Steps.Supply.{unifies}
 
 -- a name that is none of these is not the name at a place of theirs
 other_name : (name : List ℕ) (pending : List PendingQuery) (i : ℕ) (posted : PendingQuery) → AllByRecursion (λ y. bytes_eq name y ≡ false) (map name_of pending)

@@ -5,8 +5,8 @@ use Rattle.std.specs.List.{flat_map, enumerate_from, slice_get}
 use Rattle.std.proofs.lemmas.List.{map-append, take_more}
 use Rattle.std.proofs.lemmas.Option.{slice_get_within}
 use Rattle.cq_atom.specs.Atom.{AtomRecord}
-use Rattle.cq_match.specs.declared.edge.Edge.{Edge}
-use Rattle.cq_board.specs.Supply.{unifies}
+use Rattle.cq_atom.specs.declared.edge.Edge.{Edge}
+use Rattle.cq_board.specs.Steps.Supply.{unifies}
 use Rattle.cq_board.specs.Pool.{PendingQuery}
 use Rattle.cq_board.specs.Edges.{edge_if, edges_into, edges_of}
 use Rattle.cq_board.proofs.Members.{by_bool, In, In-flat_map_gives}

@@ -6,7 +6,7 @@ use Rattle.std.proofs.Math.ListN.{length-map}
 use Rattle.std.proofs.lemmas.Bool.{eqb-true, ne_eqb, lt-ltb, cases_order}
 use Rattle.std.proofs.lemmas.List.Sums.{length-filter, sum_by-cons}
 use Rattle.std.proofs.lemmas.Map.Keys.{apart_from_distinct}
-use Rattle.cq_match.specs.declared.edge.Edge.{Edge}
+use Rattle.cq_atom.specs.declared.edge.Edge.{Edge}
 use Rattle.cq_match.specs.Graph.{leads_to, provider_count}
 use Rattle.cq_match.specs.Matched.{numbers, is_matched}
 use Rattle.cq_match.proofs.CallerLemmas.{renumbered, IsWithin, matched-reordered, matched-renamed}

@@ -10,28 +10,30 @@ use Rattle.std.proofs.lemmas.Slice.Eq.{bytes_eq-Decides}
 use denote.Ref.{Bor}
 use Rattle.std.proofs.lemmas.List.{append-nil}
 use Rattle.cq_atom.specs.Atom.{AtomRecord}
-use Rattle.cq_findings.specs.Findings.{FindingMap}
+use Rattle.cq_grounded.specs.Grounded.{GroundedMap}
 use Rattle.cq_roster.specs.Roster.{SeatRecord}
 use Rattle.cq_board.specs.Near.{misses, miss_if, misses_of}
 use Rattle.cq_board.specs.Pool.{PendingQuery}
-use Rattle.cq_board.specs.Supply.{unifies}
+use Rattle.cq_board.specs.Steps.Supply.{unifies}
 use Rattle.cq_board.specs.declared.heads.Group.{Group}
 use Rattle.cq_board.specs.Steps.Heads.{AreTold, group_at, head_if, heads_at, heads_in, heads_of, is_of, IsTold, IsToldOf, kept_under}
 use Rattle.cq_board.specs.Steps.Nearest.{HeadRecord, IsEarlier, miss_at}
-use Rattle.cq_board.specs.Steps.Stores.{pending_of}
+use Rattle.cq_board.specs.Steps.Residents.{queries_of}
+use Rattle.cq_board.specs.Steps.Stores.{StoresRecord, residents_at, pending_of}
 use Rattle.cq_board.proofs.Ends.{In-get_or}
 use Rattle.cq_board.proofs.Members.{by_bool, In, In-map, In-flat_map_gives}
 use Rattle.cq_board.proofs.Pairwise.{Pairwise, Pairwise-flat_map, enumerate-rises}
 
 -- ---- the heads of all pending queries, from the seats
 
-heads-from : (relation : List ℕ) (arity : ℕ) (m : FindingMap) (seats : List SeatRecord) (n : ℕ)
-    → flat_map (heads_at relation arity m) (enumerate_from n (map (λ s. s.place) seats)) ≡ flat_map (λ p. flat_map (head_if relation arity p.0) (enumerate_from 0 p.1.query.heads)) (enumerate_from n (pending_of seats m))
+heads-from : (relation : List ℕ) (arity : ℕ) (m : GroundedMap) (seats : List SeatRecord) (n : ℕ)
+    → flat_map (heads_at relation arity m) (enumerate_from n (map (λ s. s.place) seats)) ≡ flat_map (λ p. flat_map (head_if relation arity p.0) (enumerate_from 0 p.1.query.heads)) (enumerate_from n (queries_of (residents_at seats m)))
 heads-from relation arity m [] n = refl
 heads-from relation arity m (s ∷ seats) n = ap (λ ys. heads_at relation arity m (n, s.place) ++ ys) (heads-from relation arity m seats (n + 1))
 
-pub heads-shown : (relation : List ℕ) (arity : ℕ) (m : FindingMap) (seats : List SeatRecord) → flat_map (heads_at relation arity m) (enumerate_from 0 (map (λ s. s.place) seats)) ≡ heads_of relation arity (pending_of seats m)
-heads-shown relation arity m seats = heads-from relation arity m seats 0
+pub heads-shown : (relation : List ℕ) (arity : ℕ) (content : StoresRecord)
+    → flat_map (heads_at relation arity content.grounded) (enumerate_from 0 (map (λ s. s.place) content.seats)) ≡ heads_of relation arity (pending_of content)
+heads-shown relation arity content = heads-from relation arity content.grounded content.seats 0
 
 -- ---- those that miss
 

@@ -10,12 +10,12 @@ use Rattle.cq_atom.specs.Value.{ValueContent}
 use Rattle.cq_atom.specs.Atom.{AtomRecord, RowRecord}
 use Rattle.cq_atom.specs.Query.{QueryRecord}
 use Rattle.cq_atom.specs.Unify.{Unify}
-use Rattle.cq_match.specs.declared.edge.Edge.{Edge}
+use Rattle.cq_atom.specs.declared.edge.Edge.{Edge}
 use Rattle.cq_match.specs.Graph.{leads_to}
 use Rattle.cq_match.specs.Matched.{numbers, is_supplied, has_each_post, is_closed, sublists, is_matched}
 use Rattle.cq_ground.specs.Grounding.{AreGroundings, IsGrounding, groundings_of}
 use Rattle.cq_ground.proofs.CallerLemmas.{listed-groundings}
-use Rattle.cq_board.specs.Supply.{unifies}
+use Rattle.cq_board.specs.Steps.Supply.{unifies}
 use Rattle.cq_board.specs.Pool.{PendingQuery, PoolRecord}
 use Rattle.cq_board.specs.Edges.{edge_if, edges_into, edges_of}
 use Rattle.cq_board.specs.Board.{is_able, nodes_of, is_matched_at, all_groundings, place_of}

@@ -7,7 +7,7 @@ use Rattle.std.specs.Set.{is_member}
 use Rattle.std.proofs.lemmas.Bool.{eqb-true, eq-eqb, not-true}
 use Rattle.std.proofs.lemmas.Bool.Decides.{Decides-eqb}
 use Rattle.std.proofs.lemmas.List.Sorted.{IsPermutation-refl, IsPermutation-trans, IsPermutation-map, IsPermutation-filter_both, IsPermutation-append_right}
-use Rattle.cq_match.specs.declared.edge.Edge.{Edge}
+use Rattle.cq_atom.specs.declared.edge.Edge.{Edge}
 use Rattle.cq_match.specs.Matcher.{leaves}
 use Rattle.cq_board.specs.Steps.Residents.{Resident, places_of, edges_among, IsGraphOf}
 use Rattle.cq_board.proofs.Members.{by_bool, In, any_gives, any_has, In-map}

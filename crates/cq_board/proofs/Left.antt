@@ -6,9 +6,9 @@ use Rattle.std.proofs.lemmas.Bool.{eq-eqb}
 use Rattle.std.proofs.lemmas.Option.{same_Some}
 use Rattle.cq_atom.specs.Atom.{AtomRecord}
 use Rattle.cq_atom.specs.Query.{QueryRecord}
-use Rattle.cq_match.specs.declared.edge.Edge.{Edge}
+use Rattle.cq_atom.specs.declared.edge.Edge.{Edge}
 use Rattle.cq_match.specs.Graph.{leads_to, edges_to}
-use Rattle.cq_board.specs.Supply.{unifies}
+use Rattle.cq_board.specs.Steps.Supply.{unifies}
 use Rattle.cq_board.specs.Pool.{PendingQuery}
 use Rattle.cq_board.specs.Edges.{edge_if, edges_into, edges_of}
 use Rattle.cq_board.specs.Steps.Left.{query_at, edges_at}

@@ -11,7 +11,7 @@ use Rattle.std.proofs.lemmas.Bool.{eqb-true, eq-eqb}
 use Rattle.std.proofs.lemmas.Cmp.{nat_eq_equiv, nat_cmp_total, tied_itself}
 use Rattle.std.proofs.lemmas.Map.Entries.{lookup_from_place}
 use Rattle.cq_atom.specs.Atom.{AtomRecord}
-use Rattle.cq_match.specs.declared.edge.Edge.{Edge}
+use Rattle.cq_atom.specs.declared.edge.Edge.{Edge}
 use Rattle.cq_match.specs.Matched.{numbers}
 use Rattle.cq_match.specs.Matcher.{without, with_number, is_apart}
 use Rattle.cq_board.specs.Pool.{PendingQuery}

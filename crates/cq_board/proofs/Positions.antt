@@ -3,7 +3,7 @@ use Rattle.std.proofs.Common.{◌≡◌, ℕ, suc, ◌+◌, ◌<◌, List, [], �
 use Rattle.std.specs.List.{flat_map, enumerate_from}
 use Rattle.std.proofs.lemmas.List.{map-append}
 use Rattle.cq_atom.specs.Atom.{AtomRecord}
-use Rattle.cq_board.specs.Supply.{unifies}
+use Rattle.cq_board.specs.Steps.Supply.{unifies}
 use Rattle.cq_board.specs.Edges.{edge_if, edges_of}
 use Rattle.cq_board.specs.Steps.Residents.{Resident, queries_of, place_at, edges_from, edges_between, edges_among, renamed}
 use Rattle.cq_board.proofs.Members.{by_bool}

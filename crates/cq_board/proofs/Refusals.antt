@@ -7,20 +7,13 @@ use Rattle.cq_atom.specs.Atom.{AtomRecord, TermContent}
 use Rattle.cq_rel.specs.Tables.{Declaration, arity_in}
 use Rattle.cq_board.specs.declared.edit.Why.{Why}
 use Rattle.cq_board.specs.declared.edit.Why.TheVariants.{NotAnswer}
-use Rattle.cq_board.specs.Pool.{is_declared, is_some as declared_some}
+use Rattle.cq_board.specs.Pool.{is_declared}
 use Rattle.cq_board.specs.Edits.{first_of, answer_why, arity_why, body_why}
 use Rattle.cq_board.proofs.Places.{drop-at}
 
 -- what the catalog's answer tells of a relation
 pub declared_as : (catalog : List Declaration) (named relation : List ℕ) (o : Option ℕ) (r : Bool) → named ≡ relation → o ≡ arity_in catalog named → r ≡ is_some o → is_declared catalog relation ≡ r
-declared_as catalog named relation o r e f h = ap (is_declared catalog) (sym e) ∙ by_answer (arity_in catalog named) o f ∙ sym h
-  where
-    same : (p : Option ℕ) → declared_some p ≡ is_some p
-    same None = refl
-    same (Some n) = refl
-
-    by_answer : (p o : Option ℕ) → o ≡ p → declared_some p ≡ is_some o
-    by_answer p o f = same p ∙ ap is_some (sym f)
+declared_as catalog named relation o r e f h = ap (is_declared catalog) (sym e) ∙ (ap is_some (sym f) ∙ sym h)
 
 module _ (catalog : List Declaration) (part : Part) (atoms : List AtomRecord) (i : ℕ) (so_far : answer_why catalog part 0 atoms ≡ answer_why catalog part i (drop i atoms)) where
   pub answer_next : (a : AtomRecord) → i < length atoms → a ≡ get_or atoms i a → is_declared catalog a.relation ≡ false → answer_why catalog part 0 atoms ≡ answer_why catalog part (i + 1) (drop (i + 1) atoms)

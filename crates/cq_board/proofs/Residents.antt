@@ -7,9 +7,9 @@ use Rattle.std.proofs.lemmas.Grind.{flat_map-append}
 use Rattle.std.proofs.lemmas.List.Elements.{filter-append}
 use Rattle.std.proofs.lemmas.List.Sums.{sum_by-append}
 use Rattle.cq_atom.specs.Atom.{AtomRecord}
-use Rattle.cq_match.specs.declared.edge.Edge.{Edge}
+use Rattle.cq_atom.specs.declared.edge.Edge.{Edge}
 use Rattle.cq_match.specs.Matcher.{is_apart}
-use Rattle.cq_board.specs.Supply.{unifies}
+use Rattle.cq_board.specs.Steps.Supply.{unifies}
 use Rattle.cq_board.specs.Edges.{edge_if}
 use Rattle.cq_board.specs.Steps.Residents.{Resident, all_but, edges_from, edges_between, edges_among, edges_touching}
 use Rattle.cq_board.proofs.Members.{by_bool}

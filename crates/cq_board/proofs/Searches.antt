@@ -1,7 +1,8 @@
 -- The search finds valuations exactly where there are any.
 use Rattle.std.proofs.Common.{◌≡◌, ℕ, pos, negsuc, inl, inr, Bool, true, false, List, [], ◌∷◌, ◌++◌, map, refl, sym, ap, subst, ◌∙◌, if◌then◌else◌, Option, Some, None, bytes_eq, ◌^◌, lit<}
 use Rattle.std.specs.List.{list_any, filter_map, AllByRecursion}
-use Rattle.std.proofs.lemmas.Bool.{eqb-true, eq-eqb, ltb-true, lt-ltb}
+use Rattle.std.proofs.lemmas.Bool.{ltb-true, lt-ltb}
+use Rattle.std.proofs.lemmas.Bool.Decides.{Decides-int_eq}
 use Rattle.std.proofs.lemmas.Slice.Eq.{bytes_eq-Decides}
 use Rattle.cq_atom.specs.declared.value.Content.TheVariants.{Number, Text}
 use Rattle.cq_atom.specs.declared.term.TermKind.TheVariants.{Constant, Variable}
@@ -10,24 +11,20 @@ use Rattle.cq_atom.specs.Atom.{TermContent, AtomRecord, RowRecord, atom_of_row, 
 use Rattle.cq_atom.specs.Query.{occurrences}
 use Rattle.cq_atom.specs.Valuation.{Bindings, AreValues, value_at, constant_or, term_under, under}
 use Rattle.cq_atom.specs.Unify.{Unify}
-use Rattle.cq_board.specs.Supply.{is_value, same_value, same_constants, same_row, values_of, valuations, unifies}
+use Rattle.cq_index.specs.Index.{same_value}
+use Rattle.cq_board.specs.Steps.Supply.{is_value, same_constants, same_row, values_of, valuations, unifies}
 use Rattle.cq_board.proofs.Members.{by_bool, In, In-left, In-right, any_gives, any_has, In-filter_gives, In-filter, In-map, In-map_gives, In-flat_map, In-flat_map_gives}
 
 -- ---- values
 
 pub same_value_true : (c d : ValueContent) → same_value c d ≡ true → c ≡ d
-same_value_true (Number (pos m)) (Number (pos n)) t = ap (λ k. Number (pos k)) (eqb-true m n t)
-same_value_true (Number (pos m)) (Number (negsuc n)) t = cc
-same_value_true (Number (negsuc m)) (Number (pos n)) t = cc
-same_value_true (Number (negsuc m)) (Number (negsuc n)) t = ap (λ k. Number (negsuc k)) (eqb-true m n t)
-same_value_true (Number (pos m)) (Text t) h = cc
-same_value_true (Number (negsuc m)) (Text t) h = cc
+same_value_true (Number m) (Number n) h = ap Number ((Decides-int_eq m n).0 h)
+same_value_true (Number m) (Text t) h = cc
 same_value_true (Text s) (Number n) h = cc
 same_value_true (Text s) (Text t) h = ap Text ((bytes_eq-Decides s t).0 h)
 
 same_value_refl : (c : ValueContent) → same_value c c ≡ true
-same_value_refl (Number (pos m)) = eq-eqb m m refl
-same_value_refl (Number (negsuc m)) = eq-eqb m m refl
+same_value_refl (Number m) = (Decides-int_eq m m).1 refl
 same_value_refl (Text s) = (bytes_eq-Decides s s).1 refl
 
 pub is_value_true : (c : ValueContent) → is_value c ≡ true → IsValue c

@@ -12,13 +12,13 @@ use Rattle.std.proofs.lemmas.List.Sorted.{IsPermutation-trans, IsPermutation-map
 use Rattle.indexmap.specs.IndexSet.{insert_key}
 use Rattle.cq_atom.specs.Atom.{RowRecord}
 use Rattle.cq_roster.specs.Roster.{SeatRecord}
-use Rattle.cq_findings.specs.Findings.{FindingMap}
+use Rattle.cq_grounded.specs.Grounded.{GroundedMap}
 use Rattle.cq_links.specs.Links.{LinkMap}
-use Rattle.cq_match.specs.declared.edge.Edge.{Edge}
+use Rattle.cq_atom.specs.declared.edge.Edge.{Edge}
 use Rattle.cq_match.specs.Matcher.{MatcherRecord, leaves}
 use Rattle.cq_board.specs.Edges.{edges_of}
 use Rattle.cq_board.specs.Steps.Residents.{places_of, renamed, edge_cmp}
-use Rattle.cq_board.specs.Steps.Stores.{AreStores, able_over, residents_of, pending_of, number_of}
+use Rattle.cq_board.specs.Steps.Stores.{StoresRecord, AreStores, able_over, residents_at, residents_of, pending_of, number_of}
 use Rattle.cq_board.proofs.Leaving.{leaving-permuted, graph_provider_known}
 use Rattle.cq_board.proofs.Members.{by_bool, In, In-right, any_gives}
 use Rattle.cq_board.proofs.Pairwise.{Pairwise, Differ, distinct-differ}
@@ -109,21 +109,21 @@ pub seats-read : {X : Type 0} (xs ys : List X) (seat : X → SeatRecord) (seats 
 seats-read xs ys seat seats same read = places-read seat xs ∙ ap (λ l. map (λ (s : SeatRecord). s.place) (map seat l)) same ∙ ap (map (λ (s : SeatRecord). s.place)) read
 
 -- the places of seats are those of their residents
-places-seated : (seats : List SeatRecord) (findings : FindingMap) → map (λ (s : SeatRecord). s.place) seats ≡ places_of (residents_of seats findings)
-places-seated [] findings = refl
-places-seated (s ∷ seats) findings = ap (λ ns. s.place ∷ ns) (places-seated seats findings)
+places-seated : (seats : List SeatRecord) (grounded : GroundedMap) → map (λ (s : SeatRecord). s.place) seats ≡ places_of (residents_at seats grounded)
+places-seated [] grounded = refl
+places-seated (s ∷ seats) grounded = ap (λ ns. s.place ∷ ns) (places-seated seats grounded)
 
-module _ (seats : List SeatRecord) (findings : FindingMap) (links : LinkMap) (matcher : MatcherRecord) (rows : List RowRecord) (stores : AreStores seats findings links matcher rows) where
+module _ (content : StoresRecord) (rows : List RowRecord) (stores : AreStores content rows) where
   -- The edges by the numbers of the seats' places, sorted, are those of the pending queries.
-  pub shown-edges : (places : List ℕ) → places ≡ map (λ (s : SeatRecord). s.place) seats → (numbered shown : List Edge)
-      → (All (λ (e : Edge). Contains places e.provider) matcher.edges → IsDistinct nat_eq places → IsPermutation (map (renamed (number_of places)) matcher.edges) numbered)
-      → IsPermutation numbered shown → IsSorted edge_cmp shown → shown ≡ edges_of (pending_of seats findings)
+  pub shown-edges : (places : List ℕ) → places ≡ map (λ (s : SeatRecord). s.place) content.seats → (numbered shown : List Edge)
+      → (All (λ (e : Edge). Contains places e.provider) content.matcher.edges → IsDistinct nat_eq places → IsPermutation (map (renamed (number_of places)) content.matcher.edges) numbered)
+      → IsPermutation numbered shown → IsSorted edge_cmp shown → shown ≡ edges_of (pending_of content)
   shown-edges places are numbered shown made moved sorted =
-      let residents = residents_of seats findings in
-      let same : places ≡ places_of residents = are ∙ places-seated seats findings in
-      let distinct : IsDistinct nat_eq (places_of residents) = subst (IsDistinct nat_eq) (places-seated seats findings) stores.roster.places in
+      let residents = residents_of content in
+      let same : places ≡ places_of residents = are ∙ places-seated content.seats content.grounded in
+      let distinct : IsDistinct nat_eq (places_of residents) = subst (IsDistinct nat_eq) (places-seated content.seats content.grounded) stores.roster.places in
       let Numbered : List ℕ → Type 0 =
-      λ ns. All (λ (e : Edge). Contains ns e.provider) matcher.edges → IsDistinct nat_eq ns → IsPermutation (map (renamed (number_of ns)) matcher.edges) numbered in
-      let all = subst Numbered same made (graph_provider_known (able_over rows) residents matcher.nodes matcher.edges stores.graph) distinct in
-      numbered-edges (able_over rows) residents distinct matcher.nodes matcher.edges stores.graph shown
-      (IsPermutation-trans (map (renamed (number_of (places_of residents))) matcher.edges) numbered shown all moved) sorted
+      λ ns. All (λ (e : Edge). Contains ns e.provider) content.matcher.edges → IsDistinct nat_eq ns → IsPermutation (map (renamed (number_of ns)) content.matcher.edges) numbered in
+      let all = subst Numbered same made (graph_provider_known (able_over rows) residents content.matcher.nodes content.matcher.edges stores.graph) distinct in
+      numbered-edges (able_over rows) residents distinct content.matcher.nodes content.matcher.edges stores.graph shown
+      (IsPermutation-trans (map (renamed (number_of (places_of residents))) content.matcher.edges) numbered shown all moved) sorted

@@ -2,8 +2,8 @@
 use Rattle.std.proofs.Common.{◌≡◌, ℕ, ◌<◌, ◌⊎◌, inl, inr, Bool, true, List, [], ◌∷◌, ◌++◌, count_by, refl, sym, ap, subst, ◌∙◌, arith}
 use Rattle.std.specs.List.{flat_map, enumerate_from, slice_get}
 use Rattle.cq_atom.specs.Atom.{AtomRecord}
-use Rattle.cq_match.specs.declared.edge.Edge.{Edge}
-use Rattle.cq_board.specs.Supply.{unifies}
+use Rattle.cq_atom.specs.declared.edge.Edge.{Edge}
+use Rattle.cq_board.specs.Steps.Supply.{unifies}
 use Rattle.cq_board.specs.Edges.{edge_if}
 use Rattle.cq_board.specs.Steps.Residents.{Resident, Supplies, edges_from, edges_between, edges_touching}
 use Rattle.cq_board.proofs.Members.{by_bool, In, In-left, In-right, In-append, In-flat_map, In-flat_map_gives}

@@ -7,17 +7,17 @@ use Rattle.std.proofs.Math.ListN.{length-map}
 use Rattle.std.proofs.lemmas.List.{map-append, take_more}
 use Rattle.std.proofs.lemmas.List.FromFn.{length-enumerate_from}
 use Rattle.cq_atom.specs.Atom.{RowRecord}
-use Rattle.cq_findings.specs.Findings.{FindingRecord, FindingMap, found}
+use Rattle.cq_grounded.specs.Grounded.{GroundedRecord, GroundedMap, found}
 use Rattle.cq_links.specs.Links.{LinkMap}
 use Rattle.cq_match.specs.Matcher.{MatcherRecord}
 use Rattle.cq_roster.specs.Roster.{SeatRecord}
 use Rattle.cq_board.specs.Pool.{PendingQuery}
 use Rattle.cq_board.specs.Board.{is_able}
 use Rattle.cq_board.specs.Steps.Flags.{has_grounding}
-use Rattle.cq_board.specs.Steps.Residents.{Resident, places_of}
-use Rattle.cq_board.specs.Steps.Stores.{query_at, residents_of, pending_of, AreStores}
+use Rattle.cq_board.specs.Steps.Residents.{Resident, places_of, queries_of}
+use Rattle.cq_board.specs.Steps.Stores.{query_at, residents_at, residents_of, pending_of, StoresRecord, AreStores}
 use Rattle.cq_board.specs.Steps.Waiting.{node_in}
-use Rattle.cq_match.specs.declared.edge.Edge.{Edge}
+use Rattle.cq_atom.specs.declared.edge.Edge.{Edge}
 use Rattle.cq_match.specs.Matched.{numbers}
 use Rattle.std.specs.List.{flat_map, AllByRecursion}
 use Rattle.std.proofs.lemmas.Bool.{ne_eqb}
@@ -42,7 +42,7 @@ enumerate-append n (x ∷ xs) y =
     ap (λ ps. (n, x) ∷ ps) (enumerate-append (n + 1) xs y ∙ ap (λ (m : ℕ). enumerate_from (n + 1) xs ++ (m, y) ∷ []) at)
 
 -- one more seat, whose node is numbered with how many there are
-pub node-more : {X : Type 0} (m : FindingMap) (place : X → ℕ) (seats : List X) (i : ℕ) (x : X) (nodes : List (ℕ × ℕ × Bool)) (count : ℕ) (node : ℕ × ℕ × Bool) → i < length seats → x ≡ get_or seats i x
+pub node-more : {X : Type 0} (m : GroundedMap) (place : X → ℕ) (seats : List X) (i : ℕ) (x : X) (nodes : List (ℕ × ℕ × Bool)) (count : ℕ) (node : ℕ × ℕ × Bool) → i < length seats → x ≡ get_or seats i x
     → count ≡ length nodes → node ≡ node_in m count (place x) → nodes ≡ map (λ s. node_in m s.0 s.1) (enumerate_from 0 (map place (take i seats)))
     → nodes ++ node ∷ [] ≡ map (λ s. node_in m s.0 s.1) (enumerate_from 0 (map place (take (i + 1) seats)))
 node-more {X} m place seats i x nodes count node low here counted is so_far =
@@ -59,34 +59,34 @@ node-more {X} m place seats i x nodes count node low here counted is so_far =
     ∙ ap (map node_of) (sym (enumerate-append 0 before (place y)))
     ∙ ap (λ (ps : List ℕ). map node_of (enumerate_from 0 ps)) (sym split)
 
-module _ (seats : List SeatRecord) (m : FindingMap) (links : LinkMap) (graph : MatcherRecord) (rows : List RowRecord) (stores : AreStores seats m links graph rows) where
+module _ (content : StoresRecord) (rows : List RowRecord) (stores : AreStores content rows) where
   abbrev residents : List Resident
-  residents = residents_of seats m
+  residents = residents_of content
 
   distinct : IsDistinct nat_eq (places_of residents)
-  distinct = subst (λ (places : List ℕ). IsDistinct nat_eq places) (sym (places-seated seats m)) stores.roster.places
+  distinct = subst (λ (places : List ℕ). IsDistinct nat_eq places) (sym (places-seated content.seats content.grounded)) stores.roster.places
 
   abbrev seated : SeatRecord → Resident
-  seated s = (s.place, (record { name = s.name; query = query_at m s.place }))
+  seated s = (s.place, (record { name = s.name; query = query_at content.grounded s.place }))
 
-  able-seated : (s : SeatRecord) → In s seats → has_grounding m s.place ≡ is_able rows (seated s).1
+  able-seated : (s : SeatRecord) → In s content.seats → has_grounding content.grounded s.place ≡ is_able rows (seated s).1
   able-seated s h =
-      ap (λ (o : Option FindingRecord). option_map_or (λ f. nat_lt 0 (length f.groundings)) o Bool.false)
-      (stores.stand s.place ∙ ap (option_map (λ (q : PendingQuery). found rows q.query)) (In-lookup residents distinct (seated s) (In-map seated seats s h)))
+      ap (λ (o : Option GroundedRecord). option_map_or (λ f. nat_lt 0 (length f.groundings)) o Bool.false)
+      (stores.stand s.place ∙ ap (option_map (λ (q : PendingQuery). found rows q.query)) (In-lookup residents distinct (seated s) (In-map seated content.seats s h)))
 
   abbrev node_for : ℕ × PendingQuery → ℕ × ℕ × Bool
   node_for p = (p.0, length p.1.query.posts, is_able rows p.1)
 
-  nodes-from : (some : List SeatRecord) → ((s : SeatRecord) → In s some → In s seats) → (n : ℕ)
-      → map (λ s. node_in m s.0 s.1) (enumerate_from n (map (λ s. s.place) some)) ≡ map node_for (enumerate_from n (pending_of some m))
+  nodes-from : (some : List SeatRecord) → ((s : SeatRecord) → In s some → In s content.seats) → (n : ℕ)
+      → map (λ s. node_in content.grounded s.0 s.1) (enumerate_from n (map (λ s. s.place) some)) ≡ map node_for (enumerate_from n (queries_of (residents_at some content.grounded)))
   nodes-from [] among n = refl
   nodes-from (s ∷ some) among n =
-      ap (λ (b : Bool). (n, length (query_at m s.place).posts, b) ∷ map (λ s. node_in m s.0 s.1) (enumerate_from (n + 1) (map (λ s. s.place) some))) (able-seated s (among s (inl refl)))
+      ap (λ (b : Bool). (n, length (query_at content.grounded s.place).posts, b) ∷ map (λ s. node_in content.grounded s.0 s.1) (enumerate_from (n + 1) (map (λ s. s.place) some))) (able-seated s (among s (inl refl)))
       ∙ ap (λ ns. node_for (n, (seated s).1) ∷ ns) (nodes-from some (λ t h. among t (inr h)) (n + 1))
 
   -- the nodes that the stores have are those of the pending queries
-  pub nodes-shown : map (λ s. node_in m s.0 s.1) (enumerate_from 0 (map (λ s. s.place) seats)) ≡ map node_for (enumerate_from 0 (pending_of seats m))
-  nodes-shown = nodes-from seats (λ s h. h) 0
+  pub nodes-shown : map (λ s. node_in content.grounded s.0 s.1) (enumerate_from 0 (map (λ s. s.place) content.seats)) ≡ map node_for (enumerate_from 0 (pending_of content))
+  nodes-shown = nodes-from content.seats (λ s h. h) 0
 
 -- ---- the graph is one that has falls
 

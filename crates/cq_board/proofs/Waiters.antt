@@ -2,7 +2,7 @@
 use Rattle.std.proofs.Common.{◌≡◌, ℕ, zero, suc, ◌<◌, ◌≤◌, List, [], ◌∷◌, length, get_or, inl, inr, refl, sym, ◌∙◌, arith}
 use Rattle.std.specs.List.{flat_map, enumerate_from}
 use Rattle.std.specs.List.Sorted.{IsNonDecreasingBy}
-use Rattle.cq_match.specs.declared.edge.Edge.{Edge}
+use Rattle.cq_atom.specs.declared.edge.Edge.{Edge}
 use Rattle.cq_board.specs.Pool.{PendingQuery}
 use Rattle.cq_board.specs.Edges.{edges_into, edges_of}
 use Rattle.cq_board.proofs.Members.{In, In-flat_map_gives}

@@ -13,8 +13,8 @@ use Rattle.cq_atom.specs.Atom.{AtomRecord, RowRecord}
 use Rattle.cq_atom.specs.Query.{QueryRecord}
 use Rattle.cq_ground.specs.Grounding.{reads}
 use Rattle.cq_roster.specs.Roster.{SeatRecord}
-use Rattle.cq_findings.specs.Findings as findings
-use Rattle.cq_findings.specs.Findings.{FindingRecord, FindingMap, found}
+use Rattle.cq_grounded.specs.Grounded as grounded
+use Rattle.cq_grounded.specs.Grounded.{GroundedRecord, GroundedMap, found}
 use Rattle.cq_index.specs.Index.{is_candidate}
 use Rattle.cq_links.specs.Links.{LinkMap, Ends, ends_of, all_heads, all_posts, candidate_pairs}
 use Rattle.cq_match.specs.Matcher.{MatcherRecord}
@@ -23,7 +23,7 @@ use Rattle.cq_board.specs.declared.limits.Limits.{Limits}
 use Rattle.cq_board.specs.Pool.{PendingQuery, PoolRecord}
 use Rattle.cq_board.specs.Work.{heads_of, posts_of, candidates, named, raised}
 use Rattle.cq_board.specs.Steps.Residents.{Resident, places_of, queries_of}
-use Rattle.cq_board.specs.Steps.Stores.{residents_of, pending_of, AreStores, IsKeptIn}
+use Rattle.cq_board.specs.Steps.Stores.{residents_of, pending_of, StoresRecord, AreStores, IsKeptIn}
 use Rattle.cq_board.proofs.KeptIn.{pool_of}
 use Rattle.cq_board.proofs.Linked.{map_posted}
 use Rattle.cq_board.proofs.Upkeep.{places_posted, queries_posted}
@@ -55,53 +55,53 @@ count-flat_map test f [] = refl
 count-flat_map test f (x ∷ xs) =
     sum_by-append (λ a. cond (test a) 1 0) (f x) (flat_map f xs) ∙ ap (λ (n : ℕ). count_by test (f x) + n) (count-flat_map test f xs) ∙ sym (sum_by-cons (λ y. count_by test (f y)) x xs)
 
-module _ (seats : List SeatRecord) (m : FindingMap) (links : LinkMap) (graph : MatcherRecord) (rows : List RowRecord) (stores : AreStores seats m links graph rows) where
-  distinct : IsDistinct nat_eq (places_of (residents_of seats m))
-  distinct = subst (λ (places : List ℕ). IsDistinct nat_eq places) (sym (places-seated seats m)) stores.roster.places
+module _ (content : StoresRecord) (rows : List RowRecord) (stores : AreStores content rows) where
+  distinct : IsDistinct nat_eq (places_of (residents_of content))
+  distinct = subst (λ (places : List ℕ). IsDistinct nat_eq places) (sym (places-seated content.seats content.grounded)) stores.roster.places
 
   -- The queries that name a relation are as many in the stores as among the pending ones.
-  pub named-kept : (relation : List ℕ) → findings.named m relation ≡ named (pending_of seats m) relation
+  pub named-kept : (relation : List ℕ) → grounded.named content.grounded relation ≡ named (pending_of content) relation
   named-kept relation =
-      let test : ℕ × FindingRecord → Bool = λ e. reads e.1.query.body relation in
-      length-map (filter test (entries m)) (λ (e : ℕ × FindingRecord). e.0) ∙ length-filter test (entries m)
-      ∙ total-residents (λ q. found rows q.query) (λ f. cond (reads f.query.body relation) 1 0) m (residents_of seats m) distinct stores.stand
+      let test : ℕ × GroundedRecord → Bool = λ e. reads e.1.query.body relation in
+      length-map (filter test (entries content.grounded)) (λ (e : ℕ × GroundedRecord). e.0) ∙ length-filter test (entries content.grounded)
+      ∙ total-residents (λ q. found rows q.query) (λ f. cond (reads f.query.body relation) 1 0) content.grounded (residents_of content) distinct stores.stand
 
   -- The same of what is waited for.
-  posts-kept : (test : AtomRecord → Bool) → count_by test (all_posts links) ≡ count_by test (posts_of (pending_of seats m))
+  posts-kept : (test : AtomRecord → Bool) → count_by test (all_posts content.links) ≡ count_by test (posts_of (pending_of content))
   posts-kept test =
-      count-flat_map test (λ (e : ℕ × Ends). e.1.posts) (entries links)
-      ∙ total-residents (λ q. ends_of q.query) (λ ends. count_by test ends.posts) links (residents_of seats m) distinct stores.linked
-      ∙ sym (count-flat_map test (λ (q : PendingQuery). q.query.posts) (pending_of seats m))
+      count-flat_map test (λ (e : ℕ × Ends). e.1.posts) (entries content.links)
+      ∙ total-residents (λ q. ends_of q.query) (λ ends. count_by test ends.posts) content.links (residents_of content) distinct stores.linked
+      ∙ sym (count-flat_map test (λ (q : PendingQuery). q.query.posts) (pending_of content))
 
-  module _ (place : ℕ) (free : get m place ≡ None) (name : List ℕ) (query : QueryRecord) where
+  module _ (place : ℕ) (free : get content.grounded place ≡ None) (name : List ℕ) (query : QueryRecord) where
     abbrev newcomer : Resident
     newcomer = (place, (record { name = name; query = query }))
 
-    none : is_member nat_eq (places_of (residents_of seats m)) place ≡ Bool.false
-    none = free-resident seats m links graph rows stores place free
+    none : is_member nat_eq (places_of (residents_of content)) place ≡ Bool.false
+    none = free-resident content rows stores place free
 
     -- The same of what is offered, where one more has come.
-    heads-kept : (test : AtomRecord → Bool) → count_by test (all_heads (insert links place (ends_of query))) ≡ count_by test (heads_of (pending_of seats m) ++ query.heads)
+    heads-kept : (test : AtomRecord → Bool) → count_by test (all_heads (insert content.links place (ends_of query))) ≡ count_by test (heads_of (pending_of content) ++ query.heads)
     heads-kept test =
         let each : PendingQuery → ℕ = λ q. count_by test q.query.heads in
-        count-flat_map test (λ (e : ℕ × Ends). e.1.heads) (entries (insert links place (ends_of query)))
-        ∙ total-residents (λ q. ends_of q.query) (λ ends. count_by test ends.heads) (insert links place (ends_of query)) (residents_of seats m ++ newcomer ∷ []) (places_posted (residents_of seats m) newcomer distinct none)
-        (map_posted (λ q. ends_of q.query) links (residents_of seats m) stores.linked newcomer none)
-        ∙ ap (sum_by each) (queries_posted (residents_of seats m) newcomer)
-        ∙ sum_by_push each (pending_of seats m) newcomer.1
-        ∙ ap (λ (n : ℕ). n + count_by test query.heads) (sym (count-flat_map test (λ (q : PendingQuery). q.query.heads) (pending_of seats m)))
-        ∙ sym (sum_by-append (λ a. cond (test a) 1 0) (heads_of (pending_of seats m)) query.heads)
+        count-flat_map test (λ (e : ℕ × Ends). e.1.heads) (entries (insert content.links place (ends_of query)))
+        ∙ total-residents (λ q. ends_of q.query) (λ ends. count_by test ends.heads) (insert content.links place (ends_of query)) (residents_of content ++ newcomer ∷ []) (places_posted (residents_of content) newcomer distinct none)
+        (map_posted (λ q. ends_of q.query) content.links (residents_of content) stores.linked newcomer none)
+        ∙ ap (sum_by each) (queries_posted (residents_of content) newcomer)
+        ∙ sum_by_push each (pending_of content) newcomer.1
+        ∙ ap (λ (n : ℕ). n + count_by test query.heads) (sym (count-flat_map test (λ (q : PendingQuery). q.query.heads) (pending_of content)))
+        ∙ sym (sum_by-append (λ a. cond (test a) 1 0) (heads_of (pending_of content)) query.heads)
 
     -- The pairs that the stores test with a new query are those that it makes with the pending ones and with itself.
-    pub pairs-kept : candidate_pairs links place (ends_of query) ≡ candidates (pending_of seats m) query
+    pub pairs-kept : candidate_pairs content.links place (ends_of query) ≡ candidates (pending_of content) query
     pairs-kept = λ i. sum_by (λ post. heads-kept (is_candidate post) i) query.posts + sum_by (λ head. posts-kept (is_candidate head) i) query.heads
 
 -- ---- what is counted of an edit of a row
 
-module _ (limits : Limits) (tables : TablesRecord) (seats : List SeatRecord) (m : FindingMap) (links : LinkMap) (graph : MatcherRecord) (kept : IsKeptIn (pool_of limits tables (pending_of seats m)) seats m links graph)
-    (seen : PoolRecord) (view : pool_of limits tables (pending_of seats m) ≡ seen) where
-  named-seen : (relation : List ℕ) → findings.named m relation ≡ named seen.pending relation
-  named-seen relation = named-kept seats m links graph tables.rows kept.stores relation ∙ ap (λ (p : PoolRecord). named p.pending relation) view
+module _ (limits : Limits) (tables : TablesRecord) (content : StoresRecord) (kept : IsKeptIn (pool_of limits tables (pending_of content)) content)
+    (seen : PoolRecord) (view : pool_of limits tables (pending_of content) ≡ seen) where
+  named-seen : (relation : List ℕ) → grounded.named content.grounded relation ≡ named seen.pending relation
+  named-seen relation = named-kept content tables.rows kept.stores relation ∙ ap (λ (p : PoolRecord). named p.pending relation) view
 
-  pub visits-seen : (relation : List ℕ) (old new : ℕ) → new ≡ raised old (findings.named m relation) → new ≡ raised old (named seen.pending relation)
+  pub visits-seen : (relation : List ℕ) (old new : ℕ) → new ≡ raised old (grounded.named content.grounded relation) → new ≡ raised old (named seen.pending relation)
   visits-seen relation old new is = is ∙ ap (raised old) (named-seen relation)

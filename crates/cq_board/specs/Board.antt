@@ -4,7 +4,7 @@ use Rattle.std.specs.Prelude.{ℕ, Bool, nat_lt, List, [], ◌∷◌, map, filte
 use Rattle.std.specs.List.{flat_map, enumerate_from, slice_get, position}
 use Rattle.cq_atom.specs.Value.{ValueContent}
 use Rattle.cq_atom.specs.Atom.{AtomRecord, RowRecord}
-use Rattle.cq_match.specs.declared.edge.Edge.{Edge}
+use Rattle.cq_atom.specs.declared.edge.Edge.{Edge}
 use Rattle.cq_match.specs.Graph.{provider_count, is_crowd}
 use Rattle.cq_match.specs.Matched.{is_matched}
 use Rattle.cq_ground.specs.Grounding.{groundings_of}
@@ -52,12 +52,7 @@ pub record BoardRecord : Type 0 where
   pub groundings : List (List (List ValueContent))
 
 abbrev pub board_of : PoolRecord → BoardRecord
-board_of pool = record {
-  edges = edges_of pool.pending;
-  crowded = crowded_of pool.pending;
-  matched = matched_of pool;
-  groundings = all_groundings pool;
-}
+board_of pool = record { edges = edges_of pool.pending; crowded = crowded_of pool.pending; matched = matched_of pool; groundings = all_groundings pool }
 
 -- The name at a place, where there is one.
 abbrev pub name_at : List PendingQuery → ℕ → Option (List ℕ)

@@ -29,8 +29,7 @@ first_of None other = other
 -- The first of these atoms that is over a database relation, whatever its arity.
 abbrev pub answer_why : List Declaration → Part → ℕ → List AtomRecord → Option Why
 answer_why catalog part place [] = None
-answer_why catalog part place (a ∷ atoms) =
-    if is_declared catalog a.relation then Some (NotAnswer part place) else answer_why catalog part (place + 1) atoms
+answer_why catalog part place (a ∷ atoms) = if is_declared catalog a.relation then Some (NotAnswer part place) else answer_why catalog part (place + 1) atoms
 
 -- Why the catalog has no place for one atom: its relation is looked at before its arity.
 abbrev pub arity_why : Option ℕ → ℕ → ℕ → Option Why
@@ -44,8 +43,7 @@ body_why catalog place (a ∷ atoms) = first_of (arity_why (arity_in catalog a.r
 
 -- Why the query does not fit the catalog: all postconditions, then all heads, then the body.
 abbrev pub query_why : List Declaration → QueryRecord → Option Why
-query_why catalog query =
-    first_of (answer_why catalog Posts 0 query.posts) (first_of (answer_why catalog Heads 0 query.heads) (body_why catalog 0 query.body))
+query_why catalog query = first_of (answer_why catalog Posts 0 query.posts) (first_of (answer_why catalog Heads 0 query.heads) (body_why catalog 0 query.body))
 
 -- Why an edit of rows is refused: a row's relation, then its arity, then whether it is there.
 abbrev pub row_why : TablesRecord → RowRecord → Option Why → Option Why
@@ -53,8 +51,7 @@ row_why tables row present = first_of (arity_why (arity_in tables.catalog row.re
 
 -- Why the pool refuses the edit: the first test that holds.
 abbrev pub why : PoolRecord → Edit → Option Why
-why pool (Post name query) =
-    if nat_le pool.limits.pool (length pool.pending) then Some PoolFull else (if is_taken name pool.pending then Some NameTaken else query_why pool.tables.catalog query)
+why pool (Post name query) = if nat_le pool.limits.pool (length pool.pending) then Some PoolFull else (if is_taken name pool.pending then Some NameTaken else query_why pool.tables.catalog query)
 why pool (Withdraw name) = if is_taken name pool.pending then None else Some NoSuchName
 why pool (Insert row) = row_why pool.tables row (if has_row pool.tables row then Some RowPresent else None)
 why pool (Delete row) = row_why pool.tables row (if has_row pool.tables row then None else Some RowAbsent)

@@ -1,4 +1,3 @@
-pub mod Supply
 pub mod Pool
 pub mod Edges
 pub mod Edits
@@ -10,4 +9,5 @@ pub mod Waiting
 pub mod Choice
 pub mod Scratch
 pub mod Work
+pub mod Journal
 pub mod Steps

@@ -9,7 +9,8 @@ use Rattle.std.specs.declared.cmp.Ordering.{Ordering}
 use Rattle.cq_atom.specs.declared.term.TermKind.TheVariants.{Constant, Variable}
 use Rattle.cq_atom.specs.Atom.{TermContent, AtomRecord}
 use Rattle.cq_board.specs.declared.near.NearMiss.{NearMiss}
-use Rattle.cq_board.specs.Supply.{same_value, unifies}
+use Rattle.cq_index.specs.Index.{same_value}
+use Rattle.cq_board.specs.Steps.Supply.{unifies}
 use Rattle.cq_board.specs.Pool.{PendingQuery}
 use Rattle.cq_board.specs.Board.{name_at, name_or_none}
 use Rattle.cq_board.specs.Named.{query_named}

@@ -1,6 +1,6 @@
 -- Pools: pending queries, and the tables that their bodies read.
 -- (the pool of pending entangled queries: Gupta et al., SIGMOD 2011; limits and order: this project's profile)
-use Rattle.std.specs.Prelude.{◌≡◌, ◌≤◌, ℕ, Bool, not, List, [], length, map, IsTrue, Option, Some, None}
+use Rattle.std.specs.Prelude.{◌≡◌, ◌≤◌, ℕ, Bool, not, List, [], length, map, IsTrue, Some, is_some}
 use Rattle.std.specs.List.{All, IsDistinct}
 use Rattle.std.specs.Str.{bytes_eq}
 use Rattle.cq_atom.specs.Atom.{AtomRecord}
@@ -26,10 +26,6 @@ opening_pool catalog limits = record { limits = limits; tables = record { catalo
 -- The name under which a query is pending.
 abbrev pub name_of : PendingQuery → List ℕ
 name_of query = query.name
-
-abbrev pub is_some : {A : Type 0} → Option A → Bool
-is_some None = Bool.false
-is_some (Some x) = Bool.true
 
 -- The relation is one of the database.
 abbrev pub is_declared : List Declaration → List ℕ → Bool

@@ -1,4 +1,5 @@
 -- What the private steps of the code are stated with; no part of what a reader must believe.
+pub mod Supply
 pub mod Runs
 pub mod Choices
 pub mod Residents
@@ -10,3 +11,4 @@ pub mod Linear
 pub mod Nearest
 pub mod Heads
 pub mod Left
+pub mod Laws

@@ -6,7 +6,7 @@ use Rattle.cq_atom.specs.Atom.{AtomRecord}
 use Rattle.cq_atom.specs.Query.{QueryRecord}
 use Rattle.cq_ground.specs.Grounding.{reads}
 use Rattle.cq_index.specs.Index.{is_candidate}
-use Rattle.cq_match.specs.declared.edge.Edge.{Edge}
+use Rattle.cq_atom.specs.declared.edge.Edge.{Edge}
 use Rattle.cq_atom.specs.declared.edit.EditKind.TheVariants.{Post, Withdraw, Insert, Delete}
 use Rattle.cq_board.specs.declared.edit.Why.{Why}
 use Rattle.cq_board.specs.Pool.{PendingQuery, PoolRecord}
@@ -37,36 +37,34 @@ candidates pending query = pairs query.posts (heads_of pending ++ query.heads) +
 abbrev pub named : List PendingQuery → List ℕ → ℕ
 named pending relation = count_by (λ p. reads p.query.body relation) pending
 
--- A count that has gone up by so much, or to the greatest number and no further.
+-- A 64-bit count that has gone up by so much, or to the greatest number and no further.
 abbrev pub raised : ℕ → ℕ → ℕ
 raised count more = min (count + more) (2 ^ 64 - 1)
 
--- What a count is after an edit: a refused edit leaves it as it was.
-abbrev pub if_accepted : Option Why → ℕ → ℕ → ℕ
-if_accepted None before after = after
-if_accepted (Some reason) before after = before
+-- What an edit counts: nothing where it is refused.
+abbrev pub if_accepted : Option Why → ℕ → ℕ
+if_accepted None count = count
+if_accepted (Some reason) count = 0
 
--- The tests after an accepted edit: those of a query that comes, and none where one goes, or a row comes or goes.
-abbrev pub tests_done : List PendingQuery → Edit → ℕ → ℕ
-tests_done pending (Post name query) tests = raised tests (candidates pending query)
-tests_done pending (Withdraw name) tests = tests
-tests_done pending (Insert row) tests = tests
-tests_done pending (Delete row) tests = tests
+-- The tests of an accepted edit: those of a query that comes, and none where one goes, or a row comes or goes.
+abbrev pub tests_made : List PendingQuery → Edit → ℕ
+tests_made pending (Post name query) = candidates pending query
+tests_made pending _ = 0
 
--- The visits after an accepted edit: one of a query that comes, none where one goes, and one of each query that names the relation of a row that comes or goes.
-abbrev pub visits_done : List PendingQuery → Edit → ℕ → ℕ
-visits_done pending (Post name query) visits = raised visits 1
-visits_done pending (Withdraw name) visits = visits
-visits_done pending (Insert row) visits = raised visits (named pending row.relation)
-visits_done pending (Delete row) visits = raised visits (named pending row.relation)
+-- The visits of an accepted edit: one of a query that comes, none where one goes, and one of each query that names the relation of a row that comes or goes.
+abbrev pub visits_made : List PendingQuery → Edit → ℕ
+visits_made pending (Post name query) = 1
+visits_made pending (Withdraw name) = 0
+visits_made pending (Insert row) = named pending row.relation
+visits_made pending (Delete row) = named pending row.relation
 
--- The tests after an edit.
-abbrev pub tests_after : PoolRecord → Edit → ℕ → ℕ
-tests_after pool edit tests = if_accepted (why pool edit) tests (tests_done pool.pending edit tests)
+-- How many tests an edit takes.
+abbrev pub tests_of : PoolRecord → Edit → ℕ
+tests_of pool edit = if_accepted (why pool edit) (tests_made pool.pending edit)
 
--- The visits after an edit.
-abbrev pub visits_after : PoolRecord → Edit → ℕ → ℕ
-visits_after pool edit visits = if_accepted (why pool edit) visits (visits_done pool.pending edit visits)
+-- How many visits an edit takes.
+abbrev pub visits_of : PoolRecord → Edit → ℕ
+visits_of pool edit = if_accepted (why pool edit) (visits_made pool.pending edit)
 
 -- ---- changes
 
@@ -82,13 +80,12 @@ loses_provider before after edge = is_matched_at before edge.provider && not (is
 abbrev pub lost : PoolRecord → PoolRecord → ℕ
 lost before after = count_by (loses_provider before after) (edges_of before.pending)
 
--- The changes after an accepted edit: one of each edge that loses its matched provider where a query or a row goes, and none where one comes.
-abbrev pub changes_done : PoolRecord → Edit → ℕ → ℕ
-changes_done pool (Post name query) changes = changes
-changes_done pool (Withdraw name) changes = raised changes (lost pool (edited pool (Withdraw name)))
-changes_done pool (Insert row) changes = changes
-changes_done pool (Delete row) changes = raised changes (lost pool (edited pool (Delete row)))
+-- The changes of an accepted edit: one of each edge that loses its matched provider where a query or a row goes, and none where one comes.
+abbrev pub changes_made : PoolRecord → Edit → ℕ
+changes_made pool (Withdraw name) = lost pool (edited pool (Withdraw name))
+changes_made pool (Delete row) = lost pool (edited pool (Delete row))
+changes_made pool _ = 0
 
--- The changes after an edit.
-abbrev pub changes_after : PoolRecord → Edit → ℕ → ℕ
-changes_after pool edit changes = if_accepted (why pool edit) changes (changes_done pool edit changes)
+-- How many changes an edit makes.
+abbrev pub changes_of : PoolRecord → Edit → ℕ
+changes_of pool edit = if_accepted (why pool edit) (changes_made pool edit)

@@ -6,7 +6,7 @@ ghost use Rattle.cq_atom.specs.declared.edit.EditKind.TheVariants.{Post, Withdra
 ghost use Rattle.cq_board.specs.Pool.{IsPool, opening_pool};
 ghost use Rattle.cq_board.specs.Edits.{why, edited, pool_after};
 ghost use Rattle.cq_board.specs.Board.{name_at};
-ghost use Rattle.cq_board.specs.Work.{candidates, changes_after, changes_done, lost, named, raised, tests_after, tests_done, visits_after, visits_done};
+ghost use Rattle.cq_board.specs.Work.{candidates, changes_made, changes_of, lost, named, raised, tests_made, tests_of, visits_made, visits_of};
 ghost use Rattle.cq_board.specs.Steps.Stores.{pending_of, AreStores};
 ghost use Rattle.cq_board.specs.Views.{Admits};
 
@@ -14,7 +14,7 @@ use crate::edit::Why;
 use crate::limits::Limits;
 use crate::refusal::{insert_why, post_why, refusal};
 use crate::row_change;
-use crate::stores::{self, Stores};
+use crate::stores::Stores;
 use crate::work::Work;
 use cq_atom::{Edit, EditKind, Name, Query, Row};
 use cq_rel::{Catalog, Tables};
@@ -37,9 +37,9 @@ impl<A: Allocator> Model for Board<A> {
 
     ghost Value = { PoolRecord };
 
-    ghost view = { λ b. record { limits = b.limits; tables = b.tables; pending = pending_of b.stores.roster b.stores.findings } };
+    ghost view = { λ b. record { limits = b.limits; tables = b.tables; pending = pending_of b.stores } };
 
-    ghost invariant = { λ b. IsKeptIn (record { limits = b.limits; tables = b.tables; pending = pending_of b.stores.roster b.stores.findings }) b.stores.roster b.stores.findings b.stores.links b.stores.matcher };
+    ghost invariant = { λ b. IsKeptIn (record { limits = b.limits; tables = b.tables; pending = pending_of b.stores }) b.stores };
 }
 
 // By hand, so that who lets a board go calls this, and does not take its stores apart.
@@ -70,7 +70,7 @@ impl<A: Allocator + Copy> Board<A> {
             alloc,
             limits,
             tables,
-            stores: stores::begin(alloc),
+            stores: Stores::begin(alloc),
         })
     }
 
@@ -100,10 +100,11 @@ impl<A: Allocator + Copy> Board<A> {
         ensures answer { Admits (why self.old edit.now) result }
         ensures ok { OnOk result (self.new ≡ pool_after self.old edit.now) }
         ensures err { OnErr result (self.new ≡ self.old) }
-        ensures tests { OnOk result (work.new.tests ≡ tests_after self.old edit.now work.old.tests) }
-        ensures visits { OnOk result (work.new.visits ≡ visits_after self.old edit.now work.old.visits) }
-        ensures changes { OnOk result (work.new.changes ≡ changes_after self.old edit.now work.old.changes) }
+        ensures tests { OnOk result (work.new.tests ≡ raised work.old.tests (tests_of self.old edit.now)) }
+        ensures visits { OnOk result (work.new.visits ≡ raised work.old.visits (visits_of self.old edit.now)) }
+        ensures changes { OnOk result (work.new.changes ≡ raised work.old.changes (changes_of self.old edit.now)) }
     {
+        work.rests();
         if let Some(why) = self.why(edit) {
             return Ok(Some(why));
         }
@@ -116,10 +117,11 @@ impl<A: Allocator + Copy> Board<A> {
         requires { why self.old edit.now ≡ None }
         ensures ok { OnOk result (self.new ≡ edited self.old edit.now) }
         ensures err { OnErr result (self.new ≡ self.old) }
-        ensures tests { OnOk result (work.new.tests ≡ tests_done self.old.pending edit.now work.old.tests) }
-        ensures visits { OnOk result (work.new.visits ≡ visits_done self.old.pending edit.now work.old.visits) }
-        ensures changes { OnOk result (work.new.changes ≡ changes_done self.old edit.now work.old.changes) }
+        ensures tests { OnOk result (work.new.tests ≡ raised work.old.tests (tests_made self.old.pending edit.now)) }
+        ensures visits { OnOk result (work.new.visits ≡ raised work.old.visits (visits_made self.old.pending edit.now)) }
+        ensures changes { OnOk result (work.new.changes ≡ raised work.old.changes (changes_made self.old edit.now)) }
     {
+        work.rests();
         match edit {
             EditKind::Post { name, query } => self.post(name, query, work),
             EditKind::Withdraw { name } => {
@@ -147,7 +149,7 @@ impl<A: Allocator + Copy> Board<A> {
         ensures { IfOk result (λ board. board ≡ self.now) }
     {
         let tables = self.tables.copy()?;
-        let stores = stores::copy(&self.stores)?;
+        let stores = self.stores.copy()?;
         Ok(Board {
             alloc: self.alloc,
             limits: self.limits,
@@ -170,7 +172,7 @@ impl<A: Allocator + Copy> Board<A> {
         ensures visits { OnOk result (work.new.visits ≡ raised work.old.visits 1) }
         ensures changes { work.new.changes ≡ work.old.changes }
     {
-        stores::post(&mut self.stores, &self.tables, name, query, work)
+        self.stores.post(&self.tables, name, query, work)
     }
 
     /// Takes the query of that name out.
@@ -180,7 +182,7 @@ impl<A: Allocator + Copy> Board<A> {
         ensures visits { work.new.visits ≡ work.old.visits }
         ensures changes { work.new.changes ≡ raised work.old.changes (lost self.old (edited self.old (Withdraw name.now))) }
     {
-        stores::withdraw(&mut self.stores, name, &mut work.changes);
+        self.stores.withdraw(name, &mut work.changes);
     }
 
     /// Adds a copy of the row, where nothing speaks against it.
@@ -240,7 +242,7 @@ impl<A: Allocator + Copy> Board<A> {
         ensures value { result ≡ length self.now.pending }
         ensures valid { IsPool self.now }
     {
-        self.stores.roster.len()
+        self.stores.len()
     }
 
     /// The name of the query at that place in posting order, from 0. A name that was withdrawn and
@@ -248,7 +250,8 @@ impl<A: Allocator + Copy> Board<A> {
     pub fn name_at(&self, place: usize) -> Option<&Name<A>>
         ensures { option_copied result ≡ name_at self.now.pending place }
     {
-        match self.stores.roster.nth(place) {
+        let stores = self.stores();
+        match stores.roster.nth(place) {
             Some(seat) => Some(&seat.name),
             None => None,
         }
@@ -256,8 +259,8 @@ impl<A: Allocator + Copy> Board<A> {
 
     /// What is kept of the pending queries.
     pub(crate) fn stores(&self) -> &Stores<A>
-        ensures pending { pending_of result.now.roster result.now.findings ≡ self.now.pending }
-        ensures kept { AreStores result.now.roster result.now.findings result.now.links result.now.matcher self.now.tables.rows }
+        ensures pending { pending_of result.now ≡ self.now.pending }
+        ensures kept { AreStores result.now self.now.tables.rows }
     {
         &self.stores
     }

@@ -13,7 +13,7 @@ use crate::board::Board;
 use crate::linear::is_linear;
 use crate::near::{Head, NearMiss, named, nearest_of};
 use cq_atom::{Atom, Name};
-use cq_findings::Findings;
+use cq_grounded::GroundedQueries;
 use cq_roster::Seat;
 use std::alloc::{AllocError, Allocator, Global};
 use std::collections::HashMap;
@@ -139,14 +139,14 @@ fn put_heads<'a, A: Allocator + Copy>(
 fn put_heads_at<'a, A: Allocator + Copy>(
     alloc: A,
     groups: &mut Groups<'a, A>,
-    findings: &'a Findings<A>,
+    grounded: &'a GroundedQueries<A>,
     number: usize,
     place: usize,
 ) -> Result<(), AllocError>
-    ensures heads { OnOk result ((relation : List ℕ) (arity : ℕ) → kept_under groups.new relation arity ≡ kept_under groups.old relation arity ++ heads_at relation arity findings.now (number, place)) }
+    ensures heads { OnOk result ((relation : List ℕ) (arity : ℕ) → kept_under groups.new relation arity ≡ kept_under groups.old relation arity ++ heads_at relation arity grounded.now (number, place)) }
     ensures told { OnOk result (AreTold groups.old → AreTold groups.new) }
 {
-    match findings.query(place) {
+    match grounded.query(place) {
         Some(query) => put_heads(alloc, groups, number, query.heads()),
         None => Ok(()),
     }
@@ -155,15 +155,15 @@ fn put_heads_at<'a, A: Allocator + Copy>(
 /// The heads of the queries at the places of the seats.
 fn groups_of<'a, A: Allocator + Copy>(
     alloc: A,
-    findings: &'a Findings<A>,
+    grounded: &'a GroundedQueries<A>,
     seats: &[&Seat<Name<A>>],
 ) -> Result<Groups<'a, A>, AllocError>
-    ensures heads { IfOk result (λ groups. (relation : List ℕ) (arity : ℕ) → kept_under groups relation arity ≡ flat_map (heads_at relation arity findings.now) (enumerate_from 0 (map (λ s. s.now.place) seats.now))) }
+    ensures heads { IfOk result (λ groups. (relation : List ℕ) (arity : ℕ) → kept_under groups relation arity ≡ flat_map (heads_at relation arity grounded.now) (enumerate_from 0 (map (λ s. s.now.place) seats.now))) }
     ensures told { IfOk result (λ groups. AreTold groups) }
 {
     let mut groups = HashMap::new(alloc);
     for number in 0..seats.len() {
-        put_heads_at(alloc, &mut groups, findings, number, seats[number].place)?;
+        put_heads_at(alloc, &mut groups, grounded, number, seats[number].place)?;
     }
     Ok(groups)
 }
@@ -216,7 +216,7 @@ impl<A: Allocator + Copy> Board<A> {
     {
         let stores = self.stores();
         let seats = stores.roster.in_order()?;
-        groups_of(self.allocator(), &stores.findings, &seats)
+        groups_of(self.allocator(), &stores.grounded, &seats)
     }
 
     /// The heads of the pending queries, by relation and arity: what [`Heads::near_misses`] looks at. One pass over the heads

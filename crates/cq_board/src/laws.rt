@@ -3,7 +3,7 @@
 ghost use Rattle.std.specs.Prelude.{◌↔◌, IsTrue};
 ghost use Rattle.cq_atom.specs.Atom.{AtomRecord};
 ghost use Rattle.cq_atom.specs.Unify.{Unify};
-ghost use Rattle.cq_board.specs.Supply.{unifies};
+ghost use Rattle.cq_board.specs.Steps.Supply.{unifies};
 ghost use Rattle.cq_board.specs.Pool.{PoolRecord, IsPool};
 ghost use Rattle.cq_atom.specs.Edit.{Edit};
 ghost use Rattle.cq_board.specs.Edits.{pool_after};

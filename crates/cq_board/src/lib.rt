@@ -11,17 +11,23 @@
 //! are defined is true exactly where a head unifies with a postcondition (`unifies_is_unify`), and the
 //! pool after an edit of a good pool is good (`pools_stay_good`).
 //!
+//! A board is a state that takes edits, so a desk, a floor and a room may stand over one (`cq_desk`). Over
+//! a board `working_board` and `published_board` say of a floor's two states that their edges, crowded
+//! postconditions, matched queries and groundings are those from scratch.
+//!
 //! Not here: the order in which edits came, and how a board is printed.
 #![tactic(auto)]
 
 mod board;
 mod choice;
 mod edit;
+mod floors;
 mod heads;
 mod laws;
 mod limits;
 mod linear;
 mod link;
+mod live;
 mod near;
 mod pending;
 mod refusal;
@@ -37,6 +43,7 @@ mod work;
 pub use board::Board;
 pub use choice::Choice;
 pub use edit::Why;
+pub use floors::{published_board, working_board};
 pub use heads::Heads;
 pub use laws::{pools_stay_good, unifies_is_unify};
 pub use limits::Limits;
@@ -44,5 +51,5 @@ pub use link::{Crowd, Link};
 pub use near::NearMiss;
 pub use pending::{Pending, PendingView};
 pub use scratch::ScratchFault;
-pub use waiting::Wait;
+pub use waiting::Waiter;
 pub use work::Work;

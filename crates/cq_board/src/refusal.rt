@@ -4,9 +4,8 @@ ghost use Rattle.std.specs.Prelude.{◌≡◌, if◌then◌else◌, Some, None};
 ghost use Rattle.cq_atom.specs.declared.edit.EditKind.TheVariants.{Post};
 ghost use Rattle.cq_board.specs.declared.edit.Why.TheVariants.{RowPresent, RowAbsent};
 ghost use Rattle.cq_board.specs.Pool.{PoolRecord};
-ghost use Rattle.cq_board.specs.Edits.{is_taken, answer_why, arity_why, body_why, query_why, row_why, why};
+ghost use Rattle.cq_board.specs.Edits.{answer_why, arity_why, body_why, query_why, row_why, why};
 ghost use Rattle.cq_board.specs.Steps.Stores.{pending_of};
-ghost use Rattle.cq_findings.specs.Findings.{FindingMap};
 ghost use Rattle.cq_rel.specs.Tables.{arity_in, has_row};
 
 use crate::edit::Why;
@@ -14,15 +13,7 @@ use crate::limits::Limits;
 use crate::stores::Stores;
 use cq_atom::{Atom, Edit, EditKind, Name, Part, Query, Row};
 use cq_rel::{Catalog, Tables};
-use cq_roster::Roster;
 use std::alloc::Allocator;
-
-/// Whether a query is pending under the name.
-fn is_taken<A: Allocator + Copy>(name: &Name<A>, roster: &Roster<A>) -> bool
-    ensures { (findings : FindingMap) → result ≡ is_taken name.now (pending_of roster.now findings) }
-{
-    roster.place_of(name).is_some()
-}
 
 fn answer_why<A: Allocator>(catalog: &Catalog<A>, part: Part, atoms: &[Atom<A>]) -> Option<Why>
     ensures { result ≡ answer_why catalog.now part 0 atoms.now }
@@ -105,12 +96,12 @@ pub(crate) fn post_why<A: Allocator + Copy>(
     name: &Name<A>,
     query: &Query<A>,
 ) -> Option<Why>
-    ensures { let pool : PoolRecord = record { limits = limits; tables = tables.now; pending = pending_of stores.now.roster stores.now.findings } in result ≡ why pool (Post name.now query.now) }
+    ensures { let pool : PoolRecord = record { limits = limits; tables = tables.now; pending = pending_of stores.now } in result ≡ why pool (Post name.now query.now) }
 {
-    if stores.roster.len() >= limits.pool {
+    if stores.len() >= limits.pool {
         return Some(Why::PoolFull);
     }
-    if is_taken(name, &stores.roster) {
+    if stores.is_taken(name) {
         return Some(Why::NameTaken);
     }
     query_why(tables.catalog(), query)
@@ -123,11 +114,11 @@ pub(crate) fn refusal<A: Allocator + Copy>(
     stores: &Stores<A>,
     edit: &Edit<A>,
 ) -> Option<Why>
-    ensures { let pool : PoolRecord = record { limits = limits; tables = tables.now; pending = pending_of stores.now.roster stores.now.findings } in result ≡ why pool edit.now }
+    ensures { let pool : PoolRecord = record { limits = limits; tables = tables.now; pending = pending_of stores.now } in result ≡ why pool edit.now }
 {
     match edit {
         EditKind::Post { name, query } => post_why(limits, tables, stores, name, query),
-        EditKind::Withdraw { name } if is_taken(name, &stores.roster) => None,
+        EditKind::Withdraw { name } if stores.is_taken(name) => None,
         EditKind::Withdraw { .. } => Some(Why::NoSuchName),
         EditKind::Insert { row } => insert_why(tables, row),
         EditKind::Delete { row } => delete_why(tables, row),

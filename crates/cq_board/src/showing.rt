@@ -10,8 +10,8 @@ ghost use Rattle.cq_board.specs.Steps.Residents.{renamed, edge_cmp};
 ghost use Rattle.cq_board.specs.Steps.Stores.{pending_of, AreStores, number_of};
 
 use crate::stores::Stores;
-use cq_atom::Name;
-use cq_match::{Edge, Matcher};
+use cq_atom::{Edge, Name};
+use cq_match::Matcher;
 use cq_roster::Seat;
 use indexmap::IndexSet;
 use std::alloc::{AllocError, Allocator};
@@ -127,7 +127,7 @@ pub(crate) fn edges_by_place<A: Allocator + Copy>(
     alloc: A,
     stores: &Stores<A>,
 ) -> Result<Vec<Edge, A>, AllocError>
-    ensures { (rows : List RowRecord) → AreStores stores.now.roster stores.now.findings stores.now.links stores.now.matcher rows → IfOk result (λ edges. edges.items ≡ edges_of (pending_of stores.now.roster stores.now.findings)) }
+    ensures { (rows : List RowRecord) → AreStores stores.now rows → IfOk result (λ edges. edges.items ≡ edges_of (pending_of stores.now)) }
 {
     let seats = stores.roster.in_order()?;
     let places = places_of(alloc, &seats)?;

@@ -1,6 +1,6 @@
 //! The four stores that a board keeps beside its rows.
 //!
-//! A query has one place in all of them: `findings` picks it. What takes memory comes first, and what was done before a
+//! A query has one place in all of them: `grounded` picks it. What takes memory comes first, and what was done before a
 //! refused growth is taken back by calls that cannot fail.
 
 ghost use Rattle.std.specs.Prelude.{◌≡◌, ◌<◌, ℕ, Bool, true, false, ◌+◌, ◌++◌, ◌∷◌, [], None, OnOk, OnErr, IfOk, List, length, count_by, filter, nat_eq, not};
@@ -9,11 +9,11 @@ ghost use Rattle.std.specs.List.{All, Any, Contains};
 ghost use Rattle.std.specs.Option.{option_map};
 ghost use Rattle.std.specs.Set.{is_member};
 ghost use Rattle.cq_atom.specs.Atom.{RowRecord};
-ghost use Rattle.cq_match.specs.declared.edge.Edge.{Edge};
+ghost use Rattle.cq_atom.specs.declared.edge.Edge.{Edge};
 ghost use Rattle.cq_match.specs.Matched.{numbers, is_matched};
-ghost use Rattle.cq_match.specs.Matcher.{nothing, has_node, without, with_number, is_apart};
+ghost use Rattle.cq_match.specs.Matcher.{has_node, without, with_number, is_apart};
 ghost use Rattle.cq_roster.specs.Roster.{seat_of, place_named, is_taken_place};
-ghost use Rattle.cq_findings.specs.Findings.{FindingMap};
+ghost use Rattle.cq_grounded.specs.Grounded.{GroundedMap};
 ghost use Rattle.cq_links.specs.Links.{ends_of, candidate_pairs};
 ghost use Rattle.cq_atom.specs.declared.edit.EditKind.TheVariants.{Withdraw};
 ghost use Rattle.cq_board.specs.Pool.{PendingQuery, PoolRecord};
@@ -21,16 +21,17 @@ ghost use Rattle.cq_board.specs.Edits.{edited, is_named, is_taken};
 ghost use Rattle.cq_board.specs.Work.{candidates, lost, raised};
 ghost use Rattle.cq_board.specs.Board.{is_able};
 ghost use Rattle.cq_board.specs.Steps.Flags.{has_grounding};
-ghost use Rattle.cq_board.specs.Steps.Stores.{pending_of, AreStores, AddsLinks};
+ghost use Rattle.cq_board.specs.Steps.Stores.{no_stores, pending_of, AreStores, AddsLinks};
 
 use crate::work::Work;
-use cq_atom::{Meter, Name, Query};
-use cq_findings::Findings;
+use cq_atom::{Edge, Meter, Name, Query};
+use cq_grounded::GroundedQueries;
 use cq_links::Links;
-use cq_match::{Edge, Matcher};
+use cq_match::Matcher;
 use cq_rel::Tables;
 use cq_roster::Roster;
 use std::alloc::{AllocError, Allocator};
+use std::marker::Model;
 
 /// What is kept of the pending queries.
 #[derive(Drop)]
@@ -38,52 +39,33 @@ pub(crate) struct Stores<A: Allocator> {
     /// Their names in posting order, each with its place.
     pub(crate) roster: Roster<A>,
     /// At each place the query, with its groundings.
-    pub(crate) findings: Findings<A>,
+    pub(crate) grounded: GroundedQueries<A>,
     /// At each place the query's atoms, by which edges are found.
     pub(crate) links: Links<A>,
     /// The graph whose nodes are the places, and who is matched.
     pub(crate) matcher: Matcher<A>,
 }
 
-/// Stores without queries.
-pub(crate) fn begin<A: Allocator + Copy>(alloc: A) -> Stores<A>
-    ensures roster { result.roster ≡ [] }
-    ensures findings { result.findings ≡ map.empty }
-    ensures links { result.links ≡ map.empty }
-    ensures matcher { result.matcher ≡ nothing }
-{
-    Stores {
-        roster: Roster::begin(alloc),
-        findings: Findings::begin(alloc),
-        links: Links::begin(alloc),
-        matcher: Matcher::begin(alloc),
-    }
-}
+impl<A: Allocator> Model for Stores<A> {
+    ghost use Rattle.std.specs.FinMap.{code};
+    ghost use Rattle.std.specs.Coded.{codes};
+    ghost use Rattle.cq_board.specs.Steps.Stores.{StoresRecord};
 
-/// Stores of equal content.
-pub(crate) fn copy<A: Allocator + Copy>(stores: &Stores<A>) -> Result<Stores<A>, AllocError>
-    ensures roster { IfOk result (λ copy. copy.roster ≡ stores.now.roster) }
-    ensures findings { IfOk result (λ copy. copy.findings ≡ stores.now.findings) }
-    ensures links { IfOk result (λ copy. copy.links ≡ stores.now.links) }
-    ensures matcher { IfOk result (λ copy. copy.matcher ≡ stores.now.matcher) }
-{
-    let roster = stores.roster.copy()?;
-    let findings = stores.findings.copy()?;
-    let links = stores.links.copy()?;
-    let matcher = stores.matcher.copy()?;
-    Ok(Stores {
-        roster,
-        findings,
-        links,
-        matcher,
-    })
+    ghost Value = { StoresRecord };
+
+    ghost coded = { Prim.hlevel (codes, code) };
+
+    ghost view = { λ s. record { seats = s.roster; grounded = s.grounded; links = s.links; matcher = s.matcher } };
 }
 
 /// Whether a query stands at the place that has a grounding.
-pub(crate) fn has_grounding<A: Allocator + Copy>(findings: &Findings<A>, place: usize) -> bool
-    ensures { result ≡ has_grounding findings.now place }
+pub(crate) fn has_grounding<A: Allocator + Copy>(
+    grounded: &GroundedQueries<A>,
+    place: usize,
+) -> bool
+    ensures { result ≡ has_grounding grounded.now place }
 {
-    match findings.groundings(place) {
+    match grounded.groundings(place) {
         Some(groundings) => groundings.count() > 0,
         None => false,
     }
@@ -132,7 +114,7 @@ fn link<A: Allocator + Copy>(
     tests: &mut Meter,
 ) -> Result<(), AllocError>
     requires absent { place_named name.now roster.old ≡ None }
-    requires stores { (rows : List RowRecord) × (findings : FindingMap) × AreStores roster.old findings links.old matcher.old rows × (map.get findings place ≡ None) × (able ≡ is_able rows (record { name = name.now; query = query.now })) }
+    requires stores { (rows : List RowRecord) × (grounded : GroundedMap) × AreStores (record { seats = roster.old; grounded = grounded; links = links.old; matcher = matcher.old }) rows × (map.get grounded place ≡ None) × (able ≡ is_able rows (record { name = name.now; query = query.now })) }
     ensures seated { OnOk result (roster.new ≡ roster.old ++ seat_of name.now place ∷ []) }
     ensures linked { OnOk result (links.new ≡ map.insert links.old place (ends_of query.now)) }
     ensures node { OnOk result (with_number place matcher.new.nodes ≡ (place, length query.now.posts, able) ∷ []) }
@@ -160,71 +142,107 @@ fn link<A: Allocator + Copy>(
     seated
 }
 
-/// Puts the query in under the name, which no other has, with its groundings over the tables, or changes nothing.
-pub(crate) fn post<A: Allocator + Copy>(
-    stores: &mut Stores<A>,
-    tables: &Tables<A>,
-    name: &Name<A>,
-    query: &Query<A>,
-    work: &mut Work,
-) -> Result<(), AllocError>
-    requires stores { AreStores stores.old.roster stores.old.findings stores.old.links stores.old.matcher tables.now.rows }
-    requires absent { is_taken name.now (pending_of stores.old.roster stores.old.findings) ≡ false }
-    ensures stores { OnOk result (AreStores stores.new.roster stores.new.findings stores.new.links stores.new.matcher tables.now.rows) }
-    ensures posted { let posted : PendingQuery = record { name = name.now; query = query.now } in
-        OnOk result (pending_of stores.new.roster stores.new.findings ≡ pending_of stores.old.roster stores.old.findings ++ posted ∷ []) }
-    ensures err_roster { OnErr result (stores.new.roster ≡ stores.old.roster) }
-    ensures err_findings { OnErr result (stores.new.findings ≡ stores.old.findings) }
-    ensures err_links { OnErr result (stores.new.links ≡ stores.old.links) }
-    ensures err_matcher { OnErr result (stores.new.matcher ≡ stores.old.matcher) }
-    ensures tests { OnOk result (work.new.tests ≡ raised work.old.tests (candidates (pending_of stores.old.roster stores.old.findings) query.now)) }
-    ensures visits { OnOk result (work.new.visits ≡ raised work.old.visits 1) }
-    ensures changes { work.new.changes ≡ work.old.changes }
-{
-    let place = stores.findings.add(query, tables, &mut work.visits)?;
-    let able = has_grounding(&stores.findings, place);
-    let linked = link(
-        &mut stores.links,
-        &mut stores.roster,
-        &mut stores.matcher,
-        name,
-        query,
-        place,
-        able,
-        &mut work.tests,
-    );
-    if linked.is_err() {
-        stores.findings.remove(place);
-    }
-    linked
-}
-
 /// Takes the atoms of the query at the place out. Takes no memory.
-fn unlink<A: Allocator + Copy>(links: &mut Links<A>, findings: &Findings<A>, place: usize)
-    requires linked { map.get links.old place ≡ option_map (λ f. ends_of f.query) (map.get findings.now place) }
+fn unlink<A: Allocator + Copy>(links: &mut Links<A>, grounded: &GroundedQueries<A>, place: usize)
+    requires linked { map.get links.old place ≡ option_map (λ f. ends_of f.query) (map.get grounded.now place) }
     ensures { links.new ≡ map.remove links.old place }
 {
-    if let Some(query) = findings.query(place) {
+    if let Some(query) = grounded.query(place) {
         links.remove(place, query);
     }
 }
 
-/// Takes the query of the name out, where there is one. Takes no memory.
-pub(crate) fn withdraw<A: Allocator + Copy>(
-    stores: &mut Stores<A>,
-    name: &Name<A>,
-    changes: &mut Meter,
-)
-    requires { (rows : List RowRecord) × AreStores stores.old.roster stores.old.findings stores.old.links stores.old.matcher rows }
-    ensures stores { (rows : List RowRecord) → AreStores stores.old.roster stores.old.findings stores.old.links stores.old.matcher rows → AreStores stores.new.roster stores.new.findings stores.new.links stores.new.matcher rows }
-    ensures left { (rows : List RowRecord) → AreStores stores.old.roster stores.old.findings stores.old.links stores.old.matcher rows → pending_of stores.new.roster stores.new.findings ≡ filter (λ other. not (is_named name.now other)) (pending_of stores.old.roster stores.old.findings) }
-    ensures changes { (pool : PoolRecord) → pending_of stores.old.roster stores.old.findings ≡ pool.pending → AreStores stores.old.roster stores.old.findings stores.old.links stores.old.matcher pool.tables.rows → changes.new ≡ raised changes.old (lost pool (edited pool (Withdraw name.now))) }
-{
-    let _counted = changes.count();
-    let Some(place) = stores.roster.remove(name) else {
-        return;
-    };
-    stores.matcher.remove(place, changes);
-    unlink(&mut stores.links, &stores.findings, place);
-    stores.findings.remove(place);
+impl<A: Allocator + Copy> Stores<A> {
+    /// Stores without queries.
+    pub(crate) fn begin(alloc: A) -> Stores<A>
+        ensures { result ≡ no_stores }
+    {
+        Stores {
+            roster: Roster::begin(alloc),
+            grounded: GroundedQueries::begin(alloc),
+            links: Links::begin(alloc),
+            matcher: Matcher::begin(alloc),
+        }
+    }
+
+    /// Stores of equal content.
+    pub(crate) fn copy(&self) -> Result<Stores<A>, AllocError>
+        ensures { IfOk result (λ copy. copy ≡ self.now) }
+    {
+        let roster = self.roster.copy()?;
+        let grounded = self.grounded.copy()?;
+        let links = self.links.copy()?;
+        let matcher = self.matcher.copy()?;
+        Ok(Stores {
+            roster,
+            grounded,
+            links,
+            matcher,
+        })
+    }
+
+    /// How many queries are pending.
+    pub(crate) fn len(&self) -> usize
+        ensures { result ≡ length (pending_of self.now) }
+    {
+        self.roster.len()
+    }
+
+    /// Whether a query is pending under the name.
+    pub(crate) fn is_taken(&self, name: &Name<A>) -> bool
+        ensures { result ≡ is_taken name.now (pending_of self.now) }
+    {
+        self.roster.place_of(name).is_some()
+    }
+
+    /// Puts the query in under the name, which no other has, with its groundings over the tables, or changes nothing.
+    pub(crate) fn post(
+        &mut self,
+        tables: &Tables<A>,
+        name: &Name<A>,
+        query: &Query<A>,
+        work: &mut Work,
+    ) -> Result<(), AllocError>
+        requires stores { AreStores self.old tables.now.rows }
+        requires absent { is_taken name.now (pending_of self.old) ≡ false }
+        ensures stores { OnOk result (AreStores self.new tables.now.rows) }
+        ensures posted { let posted : PendingQuery = record { name = name.now; query = query.now } in OnOk result (pending_of self.new ≡ pending_of self.old ++ posted ∷ []) }
+        ensures err { OnErr result (self.new ≡ self.old) }
+        ensures tests { OnOk result (work.new.tests ≡ raised work.old.tests (candidates (pending_of self.old) query.now)) }
+        ensures visits { OnOk result (work.new.visits ≡ raised work.old.visits 1) }
+        ensures changes { work.new.changes ≡ work.old.changes }
+    {
+        let place = self.grounded.add(query, tables, &mut work.visits)?;
+        let able = has_grounding(&self.grounded, place);
+        let linked = link(
+            &mut self.links,
+            &mut self.roster,
+            &mut self.matcher,
+            name,
+            query,
+            place,
+            able,
+            &mut work.tests,
+        );
+        if linked.is_err() {
+            self.grounded.remove(place);
+        }
+        linked
+    }
+
+    /// Takes the query of the name out, where there is one. Takes no memory.
+    pub(crate) fn withdraw(&mut self, name: &Name<A>, changes: &mut Meter)
+        requires { (rows : List RowRecord) × AreStores self.old rows }
+        ensures stores { (rows : List RowRecord) → AreStores self.old rows → AreStores self.new rows }
+        ensures left { (rows : List RowRecord) → AreStores self.old rows → pending_of self.new ≡ filter (λ other. not (is_named name.now other)) (pending_of self.old) }
+        ensures changes { (pool : PoolRecord) → pending_of self.old ≡ pool.pending → AreStores self.old pool.tables.rows → changes.new ≡ raised changes.old (lost pool (edited pool (Withdraw name.now))) }
+    {
+        let _counted = changes.count();
+        let Some(place) = self.roster.remove(name) else {
+            return;
+        };
+        self.matcher.remove(place, changes);
+        unlink(&mut self.links, &self.grounded, place);
+        self.grounded.remove(place);
+    }
 }

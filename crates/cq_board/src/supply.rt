@@ -1,7 +1,7 @@
 //! Which head supplies which postcondition.
 
 ghost use Rattle.std.specs.Prelude.{◌≡◌, ◌+◌, min};
-ghost use Rattle.cq_board.specs.Supply.{unifies};
+ghost use Rattle.cq_board.specs.Steps.Supply.{unifies};
 
 use cq_atom::{Atom, Meter, unify};
 use std::alloc::Allocator;

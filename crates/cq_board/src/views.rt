@@ -14,9 +14,9 @@ use crate::board::Board;
 use crate::link::{Crowd, Link};
 use crate::pending::PendingView;
 use crate::showing::edges_by_place;
-use cq_atom::{Name, Query};
+use cq_atom::{Edge, Name, Query};
 use cq_ground::Groundings;
-use cq_match::{Edge, Matcher, is_crowd};
+use cq_match::{Matcher, is_crowd};
 use cq_roster::Seat;
 use std::alloc::{AllocError, Allocator};
 
@@ -151,7 +151,7 @@ impl<A: Allocator + Copy> Board<A> {
         ensures { option_copied result ≡ query_named name.now self.now.pending }
     {
         let stores = self.stores();
-        stores.findings.query(stores.roster.place_of(name)?)
+        stores.grounded.query(stores.roster.place_of(name)?)
     }
 
     /// Whether the pending query of that name is matched. `None` where no query of that name is
@@ -168,7 +168,7 @@ impl<A: Allocator + Copy> Board<A> {
         ensures { option_copied result ≡ groundings_named name.now self.now }
     {
         let stores = self.stores();
-        stores.findings.groundings(stores.roster.place_of(name)?)
+        stores.grounded.groundings(stores.roster.place_of(name)?)
     }
 
     /// What the board has of the pending query of that name: what [`query`](Board::query), [`is_matched`](Board::is_matched)
@@ -183,8 +183,8 @@ impl<A: Allocator + Copy> Board<A> {
         let matched = stores.matcher.is_matched(place);
         // A query stands at the place of each name.
         let (Some(query), Some(groundings)) = (
-            stores.findings.query(place),
-            stores.findings.groundings(place),
+            stores.grounded.query(place),
+            stores.grounded.groundings(place),
         ) else {
             unreachable!()
         };
@@ -203,7 +203,8 @@ impl<A: Allocator + Copy> Board<A> {
     pub fn names(&self) -> Result<Vec<&Name<A>, A>, AllocError>
         ensures { IfOk result (λ names. map (λ name. name.now) names.items ≡ map name_of self.now.pending) }
     {
-        let seats = self.stores().roster.in_order()?;
+        let stores = self.stores();
+        let seats = stores.roster.in_order()?;
         names_of(self.allocator(), &seats)
     }
 

@@ -17,14 +17,14 @@ use crate::board::Board;
 use crate::stores::has_grounding;
 use crate::views::name_of;
 use cq_atom::Name;
-use cq_findings::Findings;
+use cq_grounded::GroundedQueries;
 use cq_match::{Fall, Reason, falling, part_for};
 use cq_roster::Seat;
 use std::alloc::{AllocError, Allocator};
 
 /// A query that waits, over what holds its name.
 #[derive(Clone, Copy, Drop)]
-pub struct Wait<N> {
+pub struct Waiter<N> {
     /// The name of the query.
     pub name: N,
     /// Why it waits.
@@ -33,30 +33,30 @@ pub struct Wait<N> {
 
 /// The node of the query at the place, under that number.
 fn node_in<A: Allocator + Copy>(
-    findings: &Findings<A>,
+    grounded: &GroundedQueries<A>,
     number: usize,
     place: usize,
 ) -> (usize, u8, bool)
-    ensures { result ≡ node_in findings.now number place }
+    ensures { result ≡ node_in grounded.now number place }
 {
-    let posts = match findings.query(place) {
+    let posts = match grounded.query(place) {
         Some(query) => query.posts().len() as u8,
         None => 0,
     };
-    (number, posts, has_grounding(findings, place))
+    (number, posts, has_grounding(grounded, place))
 }
 
 /// The nodes of the queries at the places of the seats, by their numbers.
 fn nodes_in<A: Allocator + Copy>(
     alloc: A,
-    findings: &Findings<A>,
+    grounded: &GroundedQueries<A>,
     seats: &[&Seat<Name<A>>],
 ) -> Result<Vec<(usize, u8, bool), A>, AllocError>
-    ensures { IfOk result (λ nodes. nodes.items ≡ map (λ s. node_in findings.now s.0 s.1) (enumerate_from 0 (map (λ s. s.now.place) seats.now))) }
+    ensures { IfOk result (λ nodes. nodes.items ≡ map (λ s. node_in grounded.now s.0 s.1) (enumerate_from 0 (map (λ s. s.now.place) seats.now))) }
 {
     let mut nodes = Vec::new(alloc);
     for seat in seats {
-        nodes.push(node_in(findings, nodes.len(), seat.place))?;
+        nodes.push(node_in(grounded, nodes.len(), seat.place))?;
     }
     Ok(nodes)
 }
@@ -75,13 +75,13 @@ fn named<'a, A: Allocator>(
     alloc: A,
     names: &[&'a Name<A>],
     falls: &[Fall],
-) -> Result<Vec<Wait<&'a Name<A>>, A>, AllocError>
+) -> Result<Vec<Waiter<&'a Name<A>>, A>, AllocError>
     requires { All (λ fall. fall.node < length names.now) falls.now }
     ensures { (pending : List PendingQuery) → map (λ name. name.now) names.now ≡ map name_of pending → IfOk result (λ waits. map (wait_read (λ name. name.now)) waits.items ≡ map (wait_named pending) falls.now) }
 {
     let mut waits = Vec::new(alloc);
     for fall in falls {
-        waits.push(Wait {
+        waits.push(Waiter {
             name: name_of(names, fall.node),
             reason: fall.reason,
         })?;
@@ -96,7 +96,7 @@ impl<A: Allocator + Copy> Board<A> {
     {
         let stores = self.stores();
         let seats = stores.roster.in_order()?;
-        nodes_in(self.allocator(), &stores.findings, &seats)
+        nodes_in(self.allocator(), &stores.grounded, &seats)
     }
 
     /// The queries that are not matched, by their numbers in posting order, each with the reason why it falls, as
@@ -146,7 +146,7 @@ impl<A: Allocator + Copy> Board<A> {
     }
 
     /// The same by the names of the queries.
-    fn waits_of(&self, number: usize) -> Result<Vec<Wait<&Name<A>>, A>, AllocError>
+    fn waits_of(&self, number: usize) -> Result<Vec<Waiter<&Name<A>>, A>, AllocError>
         ensures { IfOk result (λ waits. IsUnmatched (nodes_of self.now) (edges_of self.now.pending) number → IsReason self.now number (map (wait_read (λ name. name.now)) waits.items)) }
     {
         let names = self.names()?;
@@ -160,7 +160,10 @@ impl<A: Allocator + Copy> Board<A> {
     ///
     /// # Errors
     /// `AllocError` where an allocation failed.
-    pub fn why_waiting(&self, name: &Name<A>) -> Result<Option<Vec<Wait<&Name<A>>, A>>, AllocError>
+    pub fn why_waiting(
+        &self,
+        name: &Name<A>,
+    ) -> Result<Option<Vec<Waiter<&Name<A>>, A>>, AllocError>
         ensures none { IfOk result (λ told. is_some told ≡ is_waiting name.now self.now) }
         ensures reason { IfOk result (λ told. (number : ℕ) → place_of name.now self.now.pending ≡ Some number → IfSome told (λ waits. IsReason self.now number (map (wait_read (λ name. name.now)) waits.items))) }
     {

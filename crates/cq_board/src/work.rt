@@ -1,6 +1,7 @@
 //! Counted work.
 
 ghost use Rattle.std.specs.Prelude.{◌≡◌};
+ghost use Rattle.cq_board.specs.Work.{raised};
 
 use cq_atom::Meter;
 
@@ -28,5 +29,15 @@ impl Work {
             visits: Meter::new(),
             changes: Meter::new(),
         }
+    }
+    /// A count that goes up by nothing stays as it is, since it is a 64-bit number.
+    pub(crate) fn rests(&self)
+        ensures tests { raised self.now.tests 0 ≡ self.now.tests }
+        ensures visits { raised self.now.visits 0 ≡ self.now.visits }
+        ensures changes { raised self.now.changes 0 ≡ self.now.changes }
+    {
+        let _tests = self.tests.count();
+        let _visits = self.visits.count();
+        let _changes = self.changes.count();
     }
 }

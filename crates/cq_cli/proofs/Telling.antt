@@ -1,28 +1,49 @@
 -- What is said of a board that a script leaves.
-use Rattle.std.proofs.Common.{◌≡◌, ℕ, ◌+◌, List, Option, subst, arith, inl, inr}
+use Rattle.std.proofs.Common.{◌≡◌, ℕ, ◌+◌, List, Option, refl, sym, subst, arith, inl, inr}
 use Rattle.std.specs.Prelude.{◌↔◌, ◌⊎◌, Result, Ok, Err, IfOk, IfErr, IfSome, MatchResult}
-use Rattle.std.proofs.lemmas.Result.{IfOk-weaker}
 use Rattle.std.proofs.lemmas.Option.{IfSome_then}
 use Rattle.cq_board.specs.Choice.{ChoiceRecord, IsCoordinating}
 use Rattle.cq_board.specs.Pool.{PoolRecord}
 use Rattle.cq_report.specs.declared.fault.RunFault.{RunFault}
 use Rattle.cq_report.specs.declared.fault.RunFault.TheVariants as runs
-use Rattle.cq_report.specs.Run.{IfRead, IsOfRun, failures_of}
-use Rattle.cq_text.specs.Device.{FailedAtTurn}
+use Rattle.cq_report.specs.Run.{IfRead, IsOfRead, fault_of_reading, failures_of}
+use Rattle.cq_devices.specs.declared.fault.WholeFault.{WholeFault}
+use Rattle.cq_devices.specs.declared.fault.WholeFault.TheVariants as reads
+use Rattle.cq_devices.specs.Device.{FailedAtTurn, IfAtTurn, IsAtTurn}
 use Rattle.cq_report.specs.Lines.{lines_of}
 use Rattle.cq_report.specs.Reading.{Reading}
 use Rattle.cq_report.specs.Output.{AreReadings, pool_left}
+use Rattle.cq_cli.specs.declared.choices.ChoiceFault.{ChoiceFault}
+use Rattle.cq_cli.specs.declared.choices.ChoiceFault.TheVariants as choices
+use Rattle.cq_cli.specs.declared.fault.AnswerFault.{AnswerFault}
+use Rattle.cq_cli.specs.declared.fault.AnswerFault.TheVariants as answers
 use Rattle.cq_cli.specs.declared.status.Status.{Status}
-use Rattle.cq_cli.specs.declared.status.Status.TheVariants.{Done, Failed, NotSo}
-use Rattle.cq_cli.specs.Status.{DeviceFailed, ended}
+use Rattle.cq_cli.specs.declared.rows.RowsFault.{RowsFault}
+use Rattle.cq_cli.specs.declared.rows.RowsFault.TheVariants as rows
+use Rattle.cq_cli.specs.declared.status.Status.TheVariants.{Done, Failed, Usage, NoMemory, BadRecord, NotSo}
+use Rattle.cq_cli.specs.Status.{IsRefused, ended, status_of_choices, status_of_rows, status_of_run}
+use Rattle.cq_cli.specs.Devices.{DeviceCounts, EndsRun, LeavesRefused, ReportsFailures, ReportsWriting}
+use Rattle.cq_cli.specs.Rows.{MatchFault, IsOfReader}
+use Rattle.cq_cli.specs.Rows as rows_failures
 use Rattle.cq_cli.specs.Choices.{StandForChoices}
+use Rattle.cq_cli.specs.Steps.Answers.{fault_of_answer}
 
 -- what is said of choices on the board is said of them on the pool that the lines leave
-pub said_of_left : (r : Result Status RunFault) (left : Option (List ℕ)) (board : PoolRecord) (choices : List ChoiceRecord) → IfSome left (λ input. (readings : List Reading) → AreReadings (lines_of input) readings → board ≡ pool_left readings)
-    → IfOk r (λ status. (status ≡ Done) ↔ IsCoordinating board choices)
-    → IfOk r (λ status. IfSome left (λ input. (readings : List Reading) → AreReadings (lines_of input) readings → (status ≡ Done) ↔ IsCoordinating (pool_left readings) choices))
-said_of_left r left board choices is said =
-    IfOk-weaker r _ _ (λ status so. IfSome_then left is (λ input played readings are. subst (λ (pool : PoolRecord). (status ≡ Done) ↔ IsCoordinating pool choices) (played readings are) so)) said
+pub said_of_left : (status : Status) (left : Option (List ℕ)) (board : PoolRecord) (choices : List ChoiceRecord) → IfSome left (λ input. (readings : List Reading) → AreReadings (lines_of input) readings → board ≡ pool_left readings)
+    → (status ≡ Done) ↔ IsCoordinating board choices
+    → IfSome left (λ input. (readings : List Reading) → AreReadings (lines_of input) readings → (status ≡ Done) ↔ IsCoordinating (pool_left readings) choices)
+said_of_left status left board choices is so = IfSome_then left is (λ input played readings are. subst (λ (pool : PoolRecord). (status ≡ Done) ↔ IsCoordinating pool choices) (played readings are) so)
+
+-- it ended by a fault of reading the script
+pub read_ends : {X : Type 0} (before after : DeviceCounts) (fault : WholeFault) → IfAtTurn fault (λ turn. FailedAtTurn turn before.reads after.reads before.read_failures after.read_failures) → ((IsAtTurn fault → ⊥) → after.read_failures ≡ before.read_failures)
+    → after.write_failures ≡ before.write_failures → EndsRun {X = X} before after (Err (fault_of_reading fault))
+read_ends before after (reads.Read turn) at unread same = record { turn = at; read_failures = unread; write_failures = omega (arith, same) }
+read_ends before after reads.NoMemory at unread same = record { turn = tt; read_failures = unread; write_failures = omega (arith, same) }
+
+-- it ended by a fault of an answer, which is none of reading
+pub answer_ends : {X : Type 0} (before after : DeviceCounts) (fault : AnswerFault) → after.read_failures ≡ before.read_failures → after.write_failures ≡ before.write_failures + failures_of (fault_of_answer fault) → EndsRun {X = X} before after (Err (fault_of_answer fault))
+answer_ends before after answers.Write same writes = record { turn = tt; read_failures = λ _. same; write_failures = writes }
+answer_ends before after answers.NoMemory same writes = record { turn = tt; read_failures = λ _. same; write_failures = writes }
 
 -- what holds whether a run failed or not holds where it failed
 pub where_failed : (r : Result Status RunFault) {P : Type 0} → P → IfErr r (λ fault. P)
@@ -35,13 +56,66 @@ pub said_of_words : (left : Option (List ℕ)) (words : List (List ℕ)) (choice
     → IfSome left (λ input. (readings : List Reading) → AreReadings (lines_of input) readings → (chosen : List ChoiceRecord) × StandForChoices words chosen × Says (pool_left readings) chosen)
 said_of_words left words choices Says stand said = IfSome_then left said (λ input says readings are. (choices, stand, says readings are))
 
--- what ends as a device that failed had one that did
-pub ended_failed : (r : Result Status RunFault) (reads reads' met met' wrote wrote' : ℕ) → IfOk r (λ status. (status ≡ Done) ⊎ (status ≡ NotSo)) → IfErr r IsOfRun
-    → IfErr r (λ fault. IfRead fault (λ turn. FailedAtTurn turn reads reads' met met')) → MatchResult r (λ _. wrote' ≡ wrote) (λ fault. wrote' ≡ wrote + failures_of fault) → ended r ≡ Failed → DeviceFailed reads reads' met met' wrote wrote'
-ended_failed (Ok status) reads reads' met met' wrote wrote' (inl e) kind turn writes failed = absurd cc
-ended_failed (Ok status) reads reads' met met' wrote wrote' (inr e) kind turn writes failed = absurd cc
-ended_failed (Err (runs.Read n)) reads reads' met met' wrote wrote' either kind turn writes failed = inr (n, turn)
-ended_failed (Err runs.Write) reads reads' met met' wrote wrote' either kind turn writes failed = inl (omega (arith, writes))
-ended_failed (Err runs.Places) reads reads' met met' wrote wrote' either kind turn writes failed = absurd kind
-ended_failed (Err runs.Thread) reads reads' met met' wrote wrote' either kind turn writes failed = absurd kind
-ended_failed (Err runs.NoMemory) reads reads' met met' wrote wrote' either kind turn writes failed = absurd cc
+-- no device failed
+pub none_failed : (before after : DeviceCounts) (status : Status) → (status ≡ Failed → ⊥) → after.read_failures ≡ before.read_failures → after.write_failures ≡ before.write_failures → ReportsFailures before after status
+none_failed before after status other reads writes = record {
+  read = λ rises. absurd (omega (arith, rises, reads));
+  write = λ rises. absurd (omega (arith, rises, writes));
+  failed = λ is. absurd (other is);
+}
+
+-- the status after a fault of a run reports it
+pub run_reported : (before after : DeviceCounts) (fault : RunFault) → IfRead fault (λ turn. FailedAtTurn turn before.reads after.reads before.read_failures after.read_failures) → ((IsOfRead fault → ⊥) → after.read_failures ≡ before.read_failures)
+    → after.write_failures ≡ before.write_failures + failures_of fault → ReportsFailures before after (status_of_run fault)
+run_reported before after (runs.Read n) turn reads writes = record { read = λ _. refl; write = λ _. refl; failed = λ _. inr (n, turn) }
+run_reported before after runs.Write turn reads writes = record { read = λ _. refl; write = λ _. refl; failed = λ _. inl (omega (arith, writes)) }
+run_reported before after runs.NoMemory turn reads writes = none_failed before after NoMemory (λ is. cc) (reads (λ no. no)) (omega (arith, writes))
+
+told_no_failure : (status : Status) → (status ≡ Done) ⊎ (status ≡ NotSo) → status ≡ Failed → ⊥
+told_no_failure status (inl e) is = cc
+told_no_failure status (inr e) is = cc
+
+pub ended_reported : (before after : DeviceCounts) (r : Result Status RunFault) → IfOk r (λ status. (status ≡ Done) ⊎ (status ≡ NotSo)) → EndsRun before after r → ReportsFailures before after (ended r)
+ended_reported before after (Ok status) either ends = none_failed before after status (told_no_failure status either) ends.read_failures ends.write_failures
+ended_reported before after (Err fault) either ends = run_reported before after fault ends.turn ends.read_failures ends.write_failures
+
+-- a sink's failures alone are reported
+pub sink_reported : (before after : DeviceCounts) (status : Status) → after.read_failures ≡ before.read_failures → ReportsWriting before.write_failures after.write_failures status → ReportsFailures before after status
+sink_reported before after status same told = record {
+  read = λ rises. absurd (omega (arith, rises, same));
+  write = told.write;
+  failed = λ is. inl (told.failed is);
+}
+
+-- words that are no choices are no failure
+pub choices_reported : (now : DeviceCounts) (fault : ChoiceFault) → ReportsFailures now now (status_of_choices fault)
+choices_reported now (choices.Bad word) = none_failed now now Usage (λ is. cc) refl refl
+choices_reported now choices.NoMemory = none_failed now now NoMemory (λ is. cc) refl refl
+
+-- what was not refused owes nothing
+pub not_refused : {R W : Type 0} (source source' : R) (sink sink' : W) (status : Status) → (IsRefused status → ⊥) → LeavesRefused source source' sink sink' status
+not_refused source source' sink sink' status other = record {
+  refused = λ is. absurd (other is);
+  unread = λ is. absurd (other (subst IsRefused (sym is) tt));
+}
+
+pub run_not_refused : (fault : RunFault) → IsRefused (status_of_run fault) → ⊥
+run_not_refused (runs.Read n) is = is
+run_not_refused runs.Write is = is
+run_not_refused runs.NoMemory is = is
+
+pub ended_not_refused : (r : Result Status RunFault) → IfOk r (λ status. (status ≡ Done) ⊎ (status ≡ NotSo)) → IsRefused (ended r) → ⊥
+ended_not_refused (Ok status) (inl e) is = subst IsRefused e is
+ended_not_refused (Ok status) (inr e) is = subst IsRefused e is
+ended_not_refused (Err fault) either is = run_not_refused fault is
+
+-- the status after a fault of rows reports it
+pub rows_reported : (before after : DeviceCounts) (words writer of_record of_memory : Type 0) (fault : RowsFault) → MatchFault fault words (λ turn. FailedAtTurn turn before.reads after.reads before.read_failures after.read_failures) writer of_record of_memory
+    → ((IsOfReader fault → ⊥) → after.read_failures ≡ before.read_failures) → after.write_failures ≡ before.write_failures + rows_failures.failures_of fault → ReportsFailures before after (status_of_rows fault)
+rows_reported before after words writer of_record of_memory (rows.Read n) h reads writes = record { read = λ _. refl; write = λ _. refl; failed = λ _. inr (n, h) }
+rows_reported before after words writer of_record of_memory rows.Write h reads writes = record { read = λ _. refl; write = λ _. refl; failed = λ _. inl (omega (arith, writes)) }
+rows_reported before after words writer of_record of_memory rows.BadName h reads writes = none_failed before after Usage (λ is. cc) (reads (λ no. no)) (omega (arith, writes))
+rows_reported before after words writer of_record of_memory rows.BadArity h reads writes = none_failed before after Usage (λ is. cc) (reads (λ no. no)) (omega (arith, writes))
+rows_reported before after words writer of_record of_memory (rows.Width index arity) h reads writes = none_failed before after BadRecord (λ is. cc) (reads (λ no. no)) (omega (arith, writes))
+rows_reported before after words writer of_record of_memory (rows.Text index) h reads writes = none_failed before after BadRecord (λ is. cc) (reads (λ no. no)) (omega (arith, writes))
+rows_reported before after words writer of_record of_memory rows.NoMemory h reads writes = none_failed before after NoMemory (λ is. cc) (reads (λ no. no)) (omega (arith, writes))

@@ -1,7 +1,7 @@
 -- Insert lines from CSV. (this project's profile)
 use Rattle.std.specs.Prelude.{◌≡◌, ◌==◌, ℕ, Bool, ◌++◌, ◌+◌, ◌-◌, List, [], ◌∷◌, codes, map, Option, Some, None, Result, Ok, Err, nat_le, ◌&&◌, if◌then◌else◌, flat_map}
 use Rattle.std.specs.Io.KnownBytes.{Appends}
-use Rattle.cq_text.specs.Device.{TakesFront}
+use Rattle.cq_devices.specs.Device.{TakesFront}
 use Rattle.cq_atom.specs.Text.{is_relation_name}
 use Rattle.cq_atom.specs.Atom.{RowRecord}
 use Rattle.cq_text.specs.Print.{printed_row}

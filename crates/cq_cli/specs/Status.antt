@@ -1,12 +1,16 @@
 -- How the program ends. (this project's profile)
-use Rattle.std.specs.Prelude.{◌<◌, ℕ, ◌⊎◌, Result, Ok, Err}
-use Rattle.cq_text.specs.Device.{FailedAtTurn}
+use Rattle.std.specs.Prelude.{ℕ, Result, Ok, Err}
+use Rattle.cq_devices.specs.declared.fault.WholeFault.{WholeFault}
+use Rattle.cq_devices.specs.declared.fault.WholeFault.TheVariants as reads
 use Rattle.cq_report.specs.declared.fault.RunFault.{RunFault}
 use Rattle.cq_report.specs.declared.fault.RunFault.TheVariants as runs
+use Rattle.cq_sessions.specs.declared.fault.SessionsFault.{SessionsFault}
+use Rattle.cq_sessions.specs.declared.fault.SessionsFault.TheVariants as sessions
 use Rattle.cq_cli.specs.declared.rows.RowsFault.{RowsFault}
 use Rattle.cq_cli.specs.declared.rows.RowsFault.TheVariants as rows
-use Rattle.cq_cli.specs.declared.sessions.SessionsFault.{SessionsFault}
-use Rattle.cq_cli.specs.declared.sessions.SessionsFault.TheVariants as sessions
+use Rattle.cq_cli.specs.declared.sessions.FileFault.TheVariants as file
+use Rattle.cq_cli.specs.declared.sessions.FilesFault.{FilesFault}
+use Rattle.cq_cli.specs.declared.sessions.FilesFault.TheVariants as files
 use Rattle.cq_cli.specs.declared.choices.ChoiceFault.{ChoiceFault}
 use Rattle.cq_cli.specs.declared.choices.ChoiceFault.TheVariants as choices
 use Rattle.cq_cli.specs.declared.status.Status.{Status}
@@ -26,17 +30,27 @@ code_of NotSo = 5
 abbrev pub status_of_run : RunFault → Status
 status_of_run (runs.Read turn) = Failed
 status_of_run runs.Write = Failed
-status_of_run runs.Places = Unserved
-status_of_run runs.Thread = Unserved
 status_of_run runs.NoMemory = NoMemory
 
--- No file and too many are a fault of usage; a file that does not open or whose reading fails is none of the standard devices.
+-- A file whose reading fails is none of the standard devices.
+abbrev pub status_of_reading : WholeFault → Status
+status_of_reading (reads.Read turn) = Unserved
+status_of_reading reads.NoMemory = NoMemory
+
+-- A fault of writing is a device that failed; sessions without a place or a thread were not served.
 abbrev pub status_of_sessions : SessionsFault → Status
-status_of_sessions sessions.NoFile = Usage
-status_of_sessions sessions.TooMany = Usage
-status_of_sessions (sessions.Open path) = Unserved
-status_of_sessions (sessions.Run (runs.Read turn)) = Unserved
-status_of_sessions (sessions.Run fault) = status_of_run fault
+status_of_sessions sessions.Write = Failed
+status_of_sessions sessions.Places = Unserved
+status_of_sessions sessions.Thread = Unserved
+status_of_sessions sessions.NoMemory = NoMemory
+
+-- No file and too many are a fault of usage; a file that does not open is none of the standard devices.
+abbrev pub status_of_files : FilesFault → Status
+status_of_files files.NoFile = Usage
+status_of_files files.TooMany = Usage
+status_of_files (files.File (file.Open path)) = Unserved
+status_of_files (files.File (file.Read fault)) = status_of_reading fault
+status_of_files (files.Run fault) = status_of_sessions fault
 
 -- A relation's name and an arity are words, so they are a fault of usage; a record at fault is neither.
 abbrev pub status_of_rows : RowsFault → Status
@@ -57,12 +71,6 @@ status_of_choices choices.NoMemory = NoMemory
 abbrev pub ended : Result Status RunFault → Status
 ended (Ok status) = status
 ended (Err fault) = status_of_run fault
-
--- The writer failed, or the reader did at some read or gave no end.
-abbrev pub DeviceFailed : (reads reads' read_failures read_failures' write_failures write_failures' : ℕ) → Type 0
-DeviceFailed reads reads' read_failures read_failures' write_failures write_failures' =
-    (write_failures < write_failures')
-    ⊎ ((turn : ℕ) × FailedAtTurn turn reads reads' read_failures read_failures')
 
 -- What was asked for was refused before anything of it was written: for its words, for a record of CSV, or for what sessions want.
 abbrev pub IsRefused : Status → Type 0

@@ -1,8 +1,8 @@
 //! What the program does with its words.
 
 ghost use Rattle.std.specs.Prelude.{◌≡◌, ◌<◌, ◌^◌};
-ghost use Rattle.cq_cli.specs.declared.status.Status.{Status};
-ghost use Rattle.cq_cli.specs.Status.{DeviceFailed, IsRefused};
+ghost use Rattle.cq_cli.specs.Status.{IsRefused};
+ghost use Rattle.cq_cli.specs.Devices.{counts, HaveRoom, LeavesRefused, ReportsFailures, ReportsWriting};
 
 use crate::explaining::answer_explained;
 use crate::rows::write_rows;
@@ -14,8 +14,8 @@ use crate::writing::{tell, tell_fault, write_text};
 use clap::Error;
 use clap::error::ErrorKind;
 use cq_budget::Budget;
+use cq_devices::{Sink, Source};
 use cq_report::{Numbering, RunFault, run};
-use cq_text::{Sink, Source};
 use std::alloc::{Allocator, Global};
 use std::convert::AsStr;
 use std::fs::Files;
@@ -32,8 +32,7 @@ fn answer_words<W: Sink, E: Sink>(
 ) -> Status
     requires sink { W.write_failures sink.old < 2 ^ 62 }
     requires errors { E.write_failures errors.old < 2 ^ 62 }
-    ensures write { W.write_failures sink.old < W.write_failures sink.new → result ≡ Status.Failed }
-    ensures failed { result ≡ Status.Failed → W.write_failures sink.old < W.write_failures sink.new }
+    ensures failures { ReportsWriting (W.write_failures sink.old) (W.write_failures sink.new) result }
     ensures refused { IsRefused result → (sink.new ≡ sink.old) }
 {
     let text = format!(in alloc; "{error}");
@@ -61,15 +60,10 @@ fn answer_replay<A: Allocator + Copy, R: Source, W: Sink, E: Sink>(
     sink: &mut W,
     errors: &mut E,
 ) -> Status
-    requires reads { R.reads_made source.old < 2 ^ 62 }
-    requires read_failures { R.failures_met source.old < 2 ^ 62 }
-    requires sink { W.write_failures sink.old < 2 ^ 62 }
+    requires devices { HaveRoom (counts R.reads_made R.failures_met W.write_failures source.old sink.old) }
     requires errors { E.write_failures errors.old < 2 ^ 62 }
-    ensures read { R.failures_met source.old < R.failures_met source.new → result ≡ Status.Failed }
-    ensures write { W.write_failures sink.old < W.write_failures sink.new → result ≡ Status.Failed }
-    ensures failed { result ≡ Status.Failed → DeviceFailed (R.reads_made source.old) (R.reads_made source.new) (R.failures_met source.old) (R.failures_met source.new) (W.write_failures sink.old) (W.write_failures sink.new) }
-    ensures refused { IsRefused result → (sink.new ≡ sink.old) }
-    ensures unread { result ≡ Status.Usage → source.new ≡ source.old }
+    ensures failures { ReportsFailures (counts R.reads_made R.failures_met W.write_failures source.old sink.old) (counts R.reads_made R.failures_met W.write_failures source.new sink.new) result }
+    ensures refused { LeavesRefused source.old source.new sink.old sink.new result }
 {
     let Err(fault) = run(heap, numbering, source, sink) else {
         return Status::Done;
@@ -88,15 +82,10 @@ fn answer_rows<A: Allocator + Copy, R: Source, W: Sink, E: Sink>(
     sink: &mut W,
     errors: &mut E,
 ) -> Status
-    requires reads { R.reads_made source.old < 2 ^ 62 }
-    requires read_failures { R.failures_met source.old < 2 ^ 62 }
-    requires sink { W.write_failures sink.old < 2 ^ 62 }
+    requires devices { HaveRoom (counts R.reads_made R.failures_met W.write_failures source.old sink.old) }
     requires errors { E.write_failures errors.old < 2 ^ 62 }
-    ensures read { R.failures_met source.old < R.failures_met source.new → result ≡ Status.Failed }
-    ensures write { W.write_failures sink.old < W.write_failures sink.new → result ≡ Status.Failed }
-    ensures failed { result ≡ Status.Failed → DeviceFailed (R.reads_made source.old) (R.reads_made source.new) (R.failures_met source.old) (R.failures_met source.new) (W.write_failures sink.old) (W.write_failures sink.new) }
-    ensures refused { IsRefused result → (sink.new ≡ sink.old) }
-    ensures unread { result ≡ Status.Usage → source.new ≡ source.old }
+    ensures failures { ReportsFailures (counts R.reads_made R.failures_met W.write_failures source.old sink.old) (counts R.reads_made R.failures_met W.write_failures source.new sink.new) result }
+    ensures refused { LeavesRefused source.old source.new sink.old sink.new result }
 {
     let Err(fault) = write_rows(heap, alloc, relation, arity, source, sink) else {
         return Status::Done;
@@ -122,15 +111,14 @@ fn answer_sessions<
 ) -> Status
     requires sink { W.write_failures sink.old < 2 ^ 62 }
     requires errors { E.write_failures errors.old < 2 ^ 62 }
-    ensures write { W.write_failures sink.old < W.write_failures sink.new → result ≡ Status.Failed }
-    ensures failed { result ≡ Status.Failed → W.write_failures sink.old < W.write_failures sink.new }
+    ensures failures { ReportsWriting (W.write_failures sink.old) (W.write_failures sink.new) result }
     ensures refused { IsRefused result → (sink.new ≡ sink.old) }
 {
     let Err(fault) = serve_files(host, host, heap, setup, files, sink) else {
         return Status::Done;
     };
     tell_fault(alloc, &fault, errors);
-    Status::of_sessions(fault)
+    Status::of_files(fault)
 }
 
 /// Does a task.
@@ -149,15 +137,10 @@ fn answer_task<
     sink: &mut W,
     errors: &mut E,
 ) -> Status
-    requires reads { R.reads_made source.old < 2 ^ 62 }
-    requires read_failures { R.failures_met source.old < 2 ^ 62 }
-    requires sink { W.write_failures sink.old < 2 ^ 62 }
+    requires devices { HaveRoom (counts R.reads_made R.failures_met W.write_failures source.old sink.old) }
     requires errors { E.write_failures errors.old < 2 ^ 62 }
-    ensures read { R.failures_met source.old < R.failures_met source.new → result ≡ Status.Failed }
-    ensures write { W.write_failures sink.old < W.write_failures sink.new → result ≡ Status.Failed }
-    ensures failed { result ≡ Status.Failed → DeviceFailed (R.reads_made source.old) (R.reads_made source.new) (R.failures_met source.old) (R.failures_met source.new) (W.write_failures sink.old) (W.write_failures sink.new) }
-    ensures refused { IsRefused result → (sink.new ≡ sink.old) }
-    ensures unread { result ≡ Status.Usage → source.new ≡ source.old }
+    ensures failures { ReportsFailures (counts R.reads_made R.failures_met W.write_failures source.old sink.old) (counts R.reads_made R.failures_met W.write_failures source.new sink.new) result }
+    ensures refused { LeavesRefused source.old source.new sink.old sink.new result }
 {
     match task {
         Task::Replay { numbering } => {
@@ -192,15 +175,10 @@ fn answer_wanted<
     sink: &mut W,
     errors: &mut E,
 ) -> Status
-    requires reads { R.reads_made source.old < 2 ^ 62 }
-    requires read_failures { R.failures_met source.old < 2 ^ 62 }
-    requires sink { W.write_failures sink.old < 2 ^ 62 }
+    requires devices { HaveRoom (counts R.reads_made R.failures_met W.write_failures source.old sink.old) }
     requires errors { E.write_failures errors.old < 2 ^ 62 }
-    ensures read { R.failures_met source.old < R.failures_met source.new → result ≡ Status.Failed }
-    ensures write { W.write_failures sink.old < W.write_failures sink.new → result ≡ Status.Failed }
-    ensures failed { result ≡ Status.Failed → DeviceFailed (R.reads_made source.old) (R.reads_made source.new) (R.failures_met source.old) (R.failures_met source.new) (W.write_failures sink.old) (W.write_failures sink.new) }
-    ensures refused { IsRefused result → (sink.new ≡ sink.old) }
-    ensures unread { result ≡ Status.Usage → source.new ≡ source.old }
+    ensures failures { ReportsFailures (counts R.reads_made R.failures_met W.write_failures source.old sink.old) (counts R.reads_made R.failures_met W.write_failures source.new sink.new) result }
+    ensures refused { LeavesRefused source.old source.new sink.old sink.new result }
 {
     let task = &wanted.task;
     let Some(bytes) = wanted.memory else {
@@ -228,19 +206,14 @@ pub(crate) fn answer<
     sink: &mut W,
     errors: &mut E,
 ) -> Status
-    requires reads { R.reads_made source.old < 2 ^ 62 }
-    requires read_failures { R.failures_met source.old < 2 ^ 62 }
-    requires sink { W.write_failures sink.old < 2 ^ 62 }
+    requires devices { HaveRoom (counts R.reads_made R.failures_met W.write_failures source.old sink.old) }
     requires errors { E.write_failures errors.old < 2 ^ 62 }
 
     // Where a read failed, or a write to the sink, of help too, the status tells it, and it tells nothing else.
-    ensures read { R.failures_met source.old < R.failures_met source.new → result ≡ Status.Failed }
-    ensures write { W.write_failures sink.old < W.write_failures sink.new → result ≡ Status.Failed }
-    ensures failed { result ≡ Status.Failed → DeviceFailed (R.reads_made source.old) (R.reads_made source.new) (R.failures_met source.old) (R.failures_met source.new) (W.write_failures sink.old) (W.write_failures sink.new) }
+    ensures failures { ReportsFailures (counts R.reads_made R.failures_met W.write_failures source.old sink.old) (counts R.reads_made R.failures_met W.write_failures source.new sink.new) result }
 
     // Words that ask for nothing and records at fault have nothing written to the sink, and such words nothing read.
-    ensures refused { IsRefused result → (sink.new ≡ sink.old) }
-    ensures unread { result ≡ Status.Usage → source.new ≡ source.old }
+    ensures refused { LeavesRefused source.old source.new sink.old sink.new result }
 {
     match read_words(alloc, words) {
         Err(error) => answer_words(alloc, &error, sink, errors),

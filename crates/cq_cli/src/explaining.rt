@@ -1,26 +1,27 @@
 //! Why queries of the board that a script leaves wait.
 
-ghost use Rattle.std.specs.Prelude.{◌≡◌, ◌<◌, ◌+◌, ◌^◌, ◌⊎◌, ◌++◌, ◌∷◌, [], List, map, string_bytes, IfOk, IfErr, IfSome, OnOk, MatchResult};
+ghost use Rattle.std.specs.Prelude.{◌≡◌, ◌<◌, ◌+◌, ◌^◌, ◌⊎◌, ◌++◌, ◌∷◌, [], List, map, string_bytes, IfOk, IfErr, IfSome, OnOk, OnErr, MatchResult};
 ghost use Rattle.std.specs.Option.{is_some};
 ghost use Rattle.std.specs.Io.KnownBytes.{Appends};
 ghost use Rattle.cq_report.specs.Lines.{lines_of};
 ghost use Rattle.cq_report.specs.Reading.{Reading};
 ghost use Rattle.cq_report.specs.Output.{AreReadings, pool_left};
-ghost use Rattle.cq_report.specs.Run.{IfRead, IsOfOutput, IsOfRead, IsOfRun, failures_of};
-ghost use Rattle.cq_text.specs.Device.{FailedAtTurn};
+ghost use Rattle.cq_report.specs.Run.{failures_of};
 ghost use Rattle.cq_render.specs.Explain.{state_of};
 ghost use Rattle.cq_cli.specs.declared.status.Status.{Status};
-ghost use Rattle.cq_cli.specs.Status.{DeviceFailed, IsRefused};
+ghost use Rattle.cq_cli.specs.Devices.{counts, EndsRun, HaveRoom, LeavesRefused, ReportsFailures};
+ghost use Rattle.cq_cli.specs.Steps.Answers.{fault_of_answer};
 ghost use Rattle.cq_cli.specs.Explained.{absent_line, absent_lines, absent_names, IsExplained, IsWritten, status_of_absent};
 
+use crate::fault::AnswerFault;
 use crate::status::Status;
-use crate::views::{end_with, write_lines};
-use crate::writing::tell;
+use crate::views::end_with;
+use crate::writing::{tell, write_text};
 use cq_atom::{Bad, Name};
 use cq_board::Board;
+use cq_devices::{Sink, Source};
 use cq_render::{explain, explain_named};
 use cq_report::{RunFault, read_script};
-use cq_text::{Sink, Source};
 use std::alloc::{AllocError, Allocator, Global};
 
 /// What is told of these names; of all queries that wait where there is none.
@@ -97,13 +98,12 @@ fn tell_absent<A: Allocator + Copy, E: Sink>(
     board: &Board<A>,
     names: &[&str],
     errors: &mut E,
-) -> Result<Status, RunFault>
+) -> Result<Status, AllocError>
     requires { E.write_failures errors.old < 2 ^ 62 }
     ensures told { OnOk result (E.write_failures errors.new ≡ E.write_failures errors.old → Appends (E.taken errors.old) (E.taken errors.new) (absent_lines board.now (map (λ name. name.now) names.now))) }
     ensures status { IfOk result (λ status. status ≡ status_of_absent (absent_names board.now (map (λ name. name.now) names.now))) }
     ensures either { IfOk result (λ status. (status ≡ Status.Done) ⊎ (status ≡ Status.NotSo)) }
-    ensures kind { IfErr result (λ fault. fault ≡ RunFault.NoMemory) }
-    ensures errors { IfErr result (λ _. errors.new ≡ errors.old) }
+    ensures errors { OnErr result (errors.new ≡ errors.old) }
 {
     let mut lines = String::new(heap);
     put_absent(heap, board, names, &mut lines)?;
@@ -120,14 +120,14 @@ fn write_told<A: Allocator + Copy, W: Sink>(
     board: &Board<A>,
     names: &[&str],
     sink: &mut W,
-) -> Result<(), RunFault>
+) -> Result<(), AnswerFault>
     requires { W.write_failures sink.old < 2 ^ 62 }
     ensures ok { OnOk result (IsWritten board.now (map (λ name. name.now) names.now) (W.taken sink.old) (W.taken sink.new)) }
-    ensures kind { IfErr result IsOfOutput }
-    ensures failures { MatchResult result (λ _. W.write_failures sink.new ≡ W.write_failures sink.old) (λ fault. W.write_failures sink.new ≡ W.write_failures sink.old + failures_of fault) }
+    ensures failures { MatchResult result (λ _. W.write_failures sink.new ≡ W.write_failures sink.old) (λ fault. W.write_failures sink.new ≡ W.write_failures sink.old + failures_of (fault_of_answer fault)) }
 {
     let text = text_of(heap, board, names)?;
-    write_lines(sink, &text)
+    write_text(sink, &text)?;
+    Ok(())
 }
 
 /// Writes what is told of the names, and tells those under which no query is pending.
@@ -137,19 +137,18 @@ fn write_explained<A: Allocator + Copy, W: Sink, E: Sink>(
     names: &[&str],
     sink: &mut W,
     errors: &mut E,
-) -> Result<Status, RunFault>
+) -> Result<Status, AnswerFault>
     requires sink { W.write_failures sink.old < 2 ^ 62 }
     requires errors { E.write_failures errors.old < 2 ^ 62 }
     ensures ok { OnOk result (IsWritten board.now (map (λ name. name.now) names.now) (W.taken sink.old) (W.taken sink.new)) }
     ensures absent { OnOk result (E.write_failures errors.new ≡ E.write_failures errors.old → Appends (E.taken errors.old) (E.taken errors.new) (absent_lines board.now (map (λ name. name.now) names.now))) }
     ensures status { IfOk result (λ status. status ≡ status_of_absent (absent_names board.now (map (λ name. name.now) names.now))) }
     ensures either { IfOk result (λ status. (status ≡ Status.Done) ⊎ (status ≡ Status.NotSo)) }
-    ensures kind { IfErr result IsOfOutput }
-    ensures errors { IfErr result (λ _. errors.new ≡ errors.old) }
-    ensures failures { MatchResult result (λ _. W.write_failures sink.new ≡ W.write_failures sink.old) (λ fault. W.write_failures sink.new ≡ W.write_failures sink.old + failures_of fault) }
+    ensures errors { OnErr result (errors.new ≡ errors.old) }
+    ensures failures { MatchResult result (λ _. W.write_failures sink.new ≡ W.write_failures sink.old) (λ fault. W.write_failures sink.new ≡ W.write_failures sink.old + failures_of (fault_of_answer fault)) }
 {
     write_told(heap, board, names, sink)?;
-    tell_absent(heap, board, names, errors)
+    Ok(tell_absent(heap, board, names, errors)?)
 }
 
 /// Reads the script that the source gives, and writes why queries of the board that it leaves wait.
@@ -160,22 +159,17 @@ fn show_explained<A: Allocator + Copy, R: Source, W: Sink, E: Sink>(
     sink: &mut W,
     errors: &mut E,
 ) -> Result<Status, RunFault>
-    requires reads { R.reads_made source.old < 2 ^ 62 }
-    requires read_failures { R.failures_met source.old < 2 ^ 62 }
-    requires sink { W.write_failures sink.old < 2 ^ 62 }
+    requires devices { HaveRoom (counts R.reads_made R.failures_met W.write_failures source.old sink.old) }
     requires errors { E.write_failures errors.old < 2 ^ 62 }
     ensures told { OnOk result (IfSome (R.left source.old) (λ input. (readings : List Reading) → AreReadings (lines_of input) readings → IsWritten (pool_left readings) (map (λ name. name.now) names.now) (W.taken sink.old) (W.taken sink.new))) }
     ensures absent { OnOk result (E.write_failures errors.new ≡ E.write_failures errors.old → IfSome (R.left source.old) (λ input. (readings : List Reading) → AreReadings (lines_of input) readings → Appends (E.taken errors.old) (E.taken errors.new) (absent_lines (pool_left readings) (map (λ name. name.now) names.now)))) }
     ensures status { IfOk result (λ status. IfSome (R.left source.old) (λ input. (readings : List Reading) → AreReadings (lines_of input) readings → status ≡ status_of_absent (absent_names (pool_left readings) (map (λ name. name.now) names.now)))) }
     ensures either { IfOk result (λ status. (status ≡ Status.Done) ⊎ (status ≡ Status.NotSo)) }
-    ensures kind { IfErr result IsOfRun }
-    ensures errors { IfErr result (λ _. errors.new ≡ errors.old) }
-    ensures turn { IfErr result (λ fault. IfRead fault (λ turn. FailedAtTurn turn (R.reads_made source.old) (R.reads_made source.new) (R.failures_met source.old) (R.failures_met source.new))) }
-    ensures read_failures { MatchResult result (λ _. R.failures_met source.new ≡ R.failures_met source.old) (λ fault. (IsOfRead fault → ⊥) → R.failures_met source.new ≡ R.failures_met source.old) }
-    ensures write_failures { MatchResult result (λ _. W.write_failures sink.new ≡ W.write_failures sink.old) (λ fault. W.write_failures sink.new ≡ W.write_failures sink.old + failures_of fault) }
+    ensures errors { OnErr result (errors.new ≡ errors.old) }
+    ensures failures { EndsRun (counts R.reads_made R.failures_met W.write_failures source.old sink.old) (counts R.reads_made R.failures_met W.write_failures source.new sink.new) result }
 {
     let script = read_script(heap, source)?;
-    write_explained(heap, script.board(), names, sink, errors)
+    Ok(write_explained(heap, script.board(), names, sink, errors)?)
 }
 
 /// The same, or tells a fault.
@@ -187,18 +181,13 @@ pub(crate) fn answer_explained<A: Allocator + Copy, R: Source, W: Sink, E: Sink>
     sink: &mut W,
     errors: &mut E,
 ) -> Status
-    requires reads { R.reads_made source.old < 2 ^ 62 }
-    requires read_failures { R.failures_met source.old < 2 ^ 62 }
-    requires sink { W.write_failures sink.old < 2 ^ 62 }
+    requires devices { HaveRoom (counts R.reads_made R.failures_met W.write_failures source.old sink.old) }
     requires errors { E.write_failures errors.old < 2 ^ 62 }
     ensures told { (result ≡ Status.Done) ⊎ (result ≡ Status.NotSo) → IfSome (R.left source.old) (λ input. (readings : List Reading) → AreReadings (lines_of input) readings → IsWritten (pool_left readings) (map (λ name. name.now) names.now) (W.taken sink.old) (W.taken sink.new)) }
     ensures absent { (result ≡ Status.Done) ⊎ (result ≡ Status.NotSo) → E.write_failures errors.new ≡ E.write_failures errors.old → IfSome (R.left source.old) (λ input. (readings : List Reading) → AreReadings (lines_of input) readings → Appends (E.taken errors.old) (E.taken errors.new) (absent_lines (pool_left readings) (map (λ name. name.now) names.now))) }
     ensures status { (result ≡ Status.Done) ⊎ (result ≡ Status.NotSo) → IfSome (R.left source.old) (λ input. (readings : List Reading) → AreReadings (lines_of input) readings → result ≡ status_of_absent (absent_names (pool_left readings) (map (λ name. name.now) names.now))) }
-    ensures read { R.failures_met source.old < R.failures_met source.new → result ≡ Status.Failed }
-    ensures write { W.write_failures sink.old < W.write_failures sink.new → result ≡ Status.Failed }
-    ensures failed { result ≡ Status.Failed → DeviceFailed (R.reads_made source.old) (R.reads_made source.new) (R.failures_met source.old) (R.failures_met source.new) (W.write_failures sink.old) (W.write_failures sink.new) }
-    ensures refused { IsRefused result → (sink.new ≡ sink.old) }
-    ensures unread { result ≡ Status.Usage → source.new ≡ source.old }
+    ensures failures { ReportsFailures (counts R.reads_made R.failures_met W.write_failures source.old sink.old) (counts R.reads_made R.failures_met W.write_failures source.new sink.new) result }
+    ensures refused { LeavesRefused source.old source.new sink.old sink.new result }
 {
     let shown = show_explained(heap, names, source, sink, errors);
     end_with(alloc, shown, errors)

@@ -8,6 +8,7 @@
 mod answering;
 mod choices;
 mod explaining;
+mod fault;
 mod rows;
 mod sessions;
 mod status;
@@ -18,7 +19,7 @@ mod writing;
 use crate::answering::answer;
 use crate::status::Status;
 use crate::writing::tell;
-use cq_text::Counted;
+use cq_devices::Counted;
 use std::env;
 use std::env::Env;
 use std::io::ErrorKind;

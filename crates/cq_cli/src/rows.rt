@@ -1,14 +1,16 @@
 //! Insert lines from CSV.
 
 ghost use Rattle.std.specs.Prelude.{◌≡◌, ◌<◌, ◌≤◌, ◌+◌, ◌^◌, ◌++◌, codes, string_bytes, IfOk, OnOk, IfErr, IfSome, MatchResult, Ok, Err};
-ghost use Rattle.cq_text.specs.Device.{FailedAtTurn};
+ghost use Rattle.cq_devices.specs.Device.{FailedAtTurn};
 ghost use Rattle.cq_cli.specs.declared.rows.RowsFault.{RowsFault};
+ghost use Rattle.cq_cli.specs.Devices.{counts, HaveRoom};
 ghost use Rattle.cq_cli.specs.Rows.{arity_of, wanted_arity, insert_line, rows_output, rows_answer, told, MatchFault, IsOfReader, IsOfWriter, failures_of, WroteLines, WroteFront};
 
 use crate::writing::write_text;
 use cq_atom::{Row, is_relation_text};
 use cq_csv::{CsvFault, read_csv};
-use cq_text::{MAX_READS, Sink, Source, print_row};
+use cq_devices::{MAX_READS, Sink, Source};
+use cq_text::print_row;
 use std::alloc::{AllocError, Allocator, Global};
 use thiserror::Error;
 
@@ -170,9 +172,7 @@ pub(crate) fn write_rows<A: Allocator + Copy, R: Source, W: Sink>(
     source: &mut R,
     sink: &mut W,
 ) -> Result<(), RowsFault>
-    requires reads { R.reads_made source.old < 2 ^ 62 }
-    requires read_failures { R.failures_met source.old < 2 ^ 62 }
-    requires sink { W.write_failures sink.old < 2 ^ 62 }
+    requires devices { HaveRoom (counts R.reads_made R.failures_met W.write_failures source.old sink.old) }
 
     // The words are looked at before anything is read, the relation's name first.
     ensures words { IfErr (wanted_arity relation.now arity.now) (λ fault. (result ≡ Err fault) × (source.new ≡ source.old)) }

@@ -1,12 +1,14 @@
 //! How the program ends.
 
 ghost use Rattle.std.specs.Prelude.{◌≡◌};
-ghost use Rattle.cq_cli.specs.Status.{code_of, status_of_run, status_of_choices, status_of_rows, status_of_sessions};
+ghost use Rattle.cq_cli.specs.Status.{code_of, status_of_run, status_of_choices, status_of_files, status_of_reading, status_of_rows, status_of_sessions};
 
 use crate::choices::ChoiceFault;
 use crate::rows::RowsFault;
-use crate::sessions::SessionsFault;
+use crate::sessions::{FileFault, FilesFault};
+use cq_devices::WholeFault;
 use cq_report::RunFault;
+use cq_sessions::SessionsFault;
 
 /// How the program ends.
 #[derive(Clone, Copy, Debug, PartialEq, Eq)]
@@ -49,21 +51,40 @@ impl Status {
     {
         match fault {
             RunFault::Read { turn: _ } | RunFault::Write => Status::Failed,
-            RunFault::Places | RunFault::Thread => Status::Unserved,
             RunFault::NoMemory => Status::NoMemory,
         }
     }
 
-    /// How the program ends after sessions that ended so.
-    pub(crate) fn of_sessions(fault: SessionsFault<'_>) -> Status
-        ensures { result ≡ status_of_sessions fault.entry }
+    /// How the program ends after a file that was not read whole.
+    fn of_reading(fault: WholeFault) -> Status
+        ensures { result ≡ status_of_reading fault }
     {
         match fault {
-            SessionsFault::NoFile | SessionsFault::TooMany => Status::Usage,
-            SessionsFault::Open { path: _ } | SessionsFault::Run(RunFault::Read { turn: _ }) => {
-                Status::Unserved
-            }
-            SessionsFault::Run(fault) => Status::of_run(fault),
+            WholeFault::Read { turn: _ } => Status::Unserved,
+            WholeFault::NoMemory => Status::NoMemory,
+        }
+    }
+
+    /// How the program ends after sessions that ended so.
+    fn of_sessions(fault: SessionsFault) -> Status
+        ensures { result ≡ status_of_sessions fault }
+    {
+        match fault {
+            SessionsFault::Write => Status::Failed,
+            SessionsFault::Places | SessionsFault::Thread => Status::Unserved,
+            SessionsFault::NoMemory => Status::NoMemory,
+        }
+    }
+
+    /// How the program ends after files that were served so.
+    pub(crate) fn of_files(fault: FilesFault<'_>) -> Status
+        ensures { result ≡ status_of_files fault.entry }
+    {
+        match fault {
+            FilesFault::NoFile | FilesFault::TooMany => Status::Usage,
+            FilesFault::File(FileFault::Open { path: _ }) => Status::Unserved,
+            FilesFault::File(FileFault::Read(fault)) => Status::of_reading(fault),
+            FilesFault::Run(fault) => Status::of_sessions(fault),
         }
     }
 

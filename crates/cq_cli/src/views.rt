@@ -6,20 +6,22 @@ ghost use Rattle.cq_board.specs.Choice.{IsCoordinating};
 ghost use Rattle.cq_report.specs.Lines.{lines_of};
 ghost use Rattle.cq_report.specs.Reading.{Reading};
 ghost use Rattle.cq_report.specs.Output.{AreReadings, pool_left};
-ghost use Rattle.cq_report.specs.Run.{IfRead, IsOfOutput, IsOfRead, IsOfRun, failures_of};
-ghost use Rattle.cq_text.specs.Device.{FailedAtTurn};
+ghost use Rattle.cq_report.specs.Run.{failures_of};
 ghost use Rattle.cq_cli.specs.declared.status.Status.{Status};
-ghost use Rattle.cq_cli.specs.Status.{DeviceFailed, IsRefused, ended};
+ghost use Rattle.cq_cli.specs.Status.{ended};
+ghost use Rattle.cq_cli.specs.Devices.{counts, EndsRun, HaveRoom, LeavesRefused, ReportsFailures};
 ghost use Rattle.cq_cli.specs.Views.{viewed};
+ghost use Rattle.cq_cli.specs.Steps.Answers.{fault_of_answer};
 ghost use Rattle.cq_cli.specs.Choices.{AreCoordinating, AreNotCoordinating, StandForNone};
 
 use crate::choices::read_choices;
+use crate::fault::AnswerFault;
 use crate::status::Status;
 use crate::writing::{tell_fault, write_text};
 use cq_board::{Board, Choice};
+use cq_devices::{Failed, Sink, Source};
 use cq_render::{graph, json};
 use cq_report::{RunFault, read_script};
-use cq_text::{Sink, Source};
 use std::alloc::{AllocError, Allocator, Global};
 
 /// What is told of a board.
@@ -49,27 +51,14 @@ fn text_of<A: Allocator + Copy>(
 fn put<W: Sink, A: Allocator>(
     sink: &mut W,
     text: Result<String<A>, AllocError>,
-) -> Result<(), RunFault>
+) -> Result<(), AnswerFault>
     requires { W.write_failures sink.old < 2 ^ 62 }
     ensures ok { (bytes : List ℕ) → IfOk text (λ text. string_bytes text ≡ bytes) → OnOk result (Appends (W.taken sink.old) (W.taken sink.new) bytes) }
-    ensures kind { IfErr result IsOfOutput }
-    ensures failures { MatchResult result (λ _. W.write_failures sink.new ≡ W.write_failures sink.old) (λ fault. W.write_failures sink.new ≡ W.write_failures sink.old + failures_of fault) }
+    ensures failures { MatchResult result (λ _. W.write_failures sink.new ≡ W.write_failures sink.old) (λ fault. W.write_failures sink.new ≡ W.write_failures sink.old + failures_of (fault_of_answer fault)) }
 {
     let text = text?;
-    write_lines(sink, &text)
-}
-
-/// Writes a text of whole lines.
-pub(crate) fn write_lines<W: Sink>(sink: &mut W, line: &str) -> Result<(), RunFault>
-    requires { W.write_failures sink.old < 2 ^ 62 }
-    ensures ok { OnOk result (Appends (W.taken sink.old) (W.taken sink.new) line.now) }
-    ensures kind { IfErr result IsOfOutput }
-    ensures failures { MatchResult result (λ _. W.write_failures sink.new ≡ W.write_failures sink.old) (λ fault. W.write_failures sink.new ≡ W.write_failures sink.old + failures_of fault) }
-{
-    match write_text(sink, line) {
-        Ok(()) => Ok(()),
-        Err(_) => Err(RunFault::Write),
-    }
+    write_text(sink, &text)?;
+    Ok(())
 }
 
 /// Tells of the board what is asked of it.
@@ -78,12 +67,11 @@ fn write_view<A: Allocator + Copy, W: Sink>(
     board: &Board<A>,
     view: View,
     sink: &mut W,
-) -> Result<Status, RunFault>
+) -> Result<Status, AnswerFault>
     requires { W.write_failures sink.old < 2 ^ 62 }
     ensures ok { OnOk result (Appends (W.taken sink.old) (W.taken sink.new) (viewed view board.now)) }
     ensures done { IfOk result (λ status. status ≡ Status.Done) }
-    ensures kind { IfErr result IsOfOutput }
-    ensures failures { MatchResult result (λ _. W.write_failures sink.new ≡ W.write_failures sink.old) (λ fault. W.write_failures sink.new ≡ W.write_failures sink.old + failures_of fault) }
+    ensures failures { MatchResult result (λ _. W.write_failures sink.new ≡ W.write_failures sink.old) (λ fault. W.write_failures sink.new ≡ W.write_failures sink.old + failures_of (fault_of_answer fault)) }
 {
     put(sink, text_of(heap, board, view))?;
     Ok(Status::Done)
@@ -94,20 +82,19 @@ fn write_choice<W: Sink, A: Allocator + Copy>(
     board: &Board<A>,
     choices: &[Choice<A>],
     sink: &mut W,
-) -> Result<Status, RunFault>
+) -> Result<Status, Failed>
     requires { W.write_failures sink.old < 2 ^ 62 }
     ensures done { IfOk result (λ status. (status ≡ Status.Done) ↔ IsCoordinating board.now choices.now) }
     ensures said { IfOk result (λ status. status ≡ Status.Done → Appends (W.taken sink.old) (W.taken sink.new) (codes "coordinating\n")) }
     ensures denied { IfOk result (λ status. status ≡ Status.NotSo → Appends (W.taken sink.old) (W.taken sink.new) (codes "not coordinating\n")) }
     ensures either { IfOk result (λ status. (status ≡ Status.Done) ⊎ (status ≡ Status.NotSo)) }
-    ensures kind { IfErr result IsOfOutput }
-    ensures failures { MatchResult result (λ _. W.write_failures sink.new ≡ W.write_failures sink.old) (λ fault. W.write_failures sink.new ≡ W.write_failures sink.old + failures_of fault) }
+    ensures failures { MatchResult result (λ _. W.write_failures sink.new ≡ W.write_failures sink.old) (λ _. W.write_failures sink.new ≡ W.write_failures sink.old + 1) }
 {
     if board.check_choice(choices) {
-        write_lines(sink, "coordinating\n")?;
+        write_text(sink, "coordinating\n")?;
         return Ok(Status::Done);
     }
-    write_lines(sink, "not coordinating\n")?;
+    write_text(sink, "not coordinating\n")?;
     Ok(Status::NotSo)
 }
 
@@ -137,18 +124,13 @@ fn show_view<A: Allocator + Copy, R: Source, W: Sink>(
     source: &mut R,
     sink: &mut W,
 ) -> Result<Status, RunFault>
-    requires reads { R.reads_made source.old < 2 ^ 62 }
-    requires read_failures { R.failures_met source.old < 2 ^ 62 }
-    requires sink { W.write_failures sink.old < 2 ^ 62 }
+    requires devices { HaveRoom (counts R.reads_made R.failures_met W.write_failures source.old sink.old) }
     ensures told { OnOk result (IfSome (R.left source.old) (λ input. (readings : List Reading) → AreReadings (lines_of input) readings → Appends (W.taken sink.old) (W.taken sink.new) (viewed view (pool_left readings)))) }
     ensures done { IfOk result (λ status. status ≡ Status.Done) }
-    ensures kind { IfErr result IsOfRun }
-    ensures turn { IfErr result (λ fault. IfRead fault (λ turn. FailedAtTurn turn (R.reads_made source.old) (R.reads_made source.new) (R.failures_met source.old) (R.failures_met source.new))) }
-    ensures read_failures { MatchResult result (λ _. R.failures_met source.new ≡ R.failures_met source.old) (λ fault. (IsOfRead fault → ⊥) → R.failures_met source.new ≡ R.failures_met source.old) }
-    ensures write_failures { MatchResult result (λ _. W.write_failures sink.new ≡ W.write_failures sink.old) (λ fault. W.write_failures sink.new ≡ W.write_failures sink.old + failures_of fault) }
+    ensures failures { EndsRun (counts R.reads_made R.failures_met W.write_failures source.old sink.old) (counts R.reads_made R.failures_met W.write_failures source.new sink.new) result }
 {
     let script = read_script(heap, source)?;
-    write_view(heap, script.board(), view, sink)
+    Ok(write_view(heap, script.board(), view, sink)?)
 }
 
 /// Reads the script that the source gives, and says whether the choices coordinate on the board that it leaves.
@@ -158,20 +140,15 @@ fn show_choice<A: Allocator + Copy, R: Source, W: Sink>(
     source: &mut R,
     sink: &mut W,
 ) -> Result<Status, RunFault>
-    requires reads { R.reads_made source.old < 2 ^ 62 }
-    requires read_failures { R.failures_met source.old < 2 ^ 62 }
-    requires sink { W.write_failures sink.old < 2 ^ 62 }
+    requires devices { HaveRoom (counts R.reads_made R.failures_met W.write_failures source.old sink.old) }
     ensures so { IfOk result (λ status. IfSome (R.left source.old) (λ input. (readings : List Reading) → AreReadings (lines_of input) readings → (status ≡ Status.Done) ↔ IsCoordinating (pool_left readings) choices.now)) }
     ensures said { IfOk result (λ status. status ≡ Status.Done → Appends (W.taken sink.old) (W.taken sink.new) (codes "coordinating\n")) }
     ensures denied { IfOk result (λ status. status ≡ Status.NotSo → Appends (W.taken sink.old) (W.taken sink.new) (codes "not coordinating\n")) }
     ensures either { IfOk result (λ status. (status ≡ Status.Done) ⊎ (status ≡ Status.NotSo)) }
-    ensures kind { IfErr result IsOfRun }
-    ensures turn { IfErr result (λ fault. IfRead fault (λ turn. FailedAtTurn turn (R.reads_made source.old) (R.reads_made source.new) (R.failures_met source.old) (R.failures_met source.new))) }
-    ensures read_failures { MatchResult result (λ _. R.failures_met source.new ≡ R.failures_met source.old) (λ fault. (IsOfRead fault → ⊥) → R.failures_met source.new ≡ R.failures_met source.old) }
-    ensures write_failures { MatchResult result (λ _. W.write_failures sink.new ≡ W.write_failures sink.old) (λ fault. W.write_failures sink.new ≡ W.write_failures sink.old + failures_of fault) }
+    ensures failures { EndsRun (counts R.reads_made R.failures_met W.write_failures source.old sink.old) (counts R.reads_made R.failures_met W.write_failures source.new sink.new) result }
 {
     let script = read_script(heap, source)?;
-    write_choice(script.board(), choices, sink)
+    Ok(write_choice(script.board(), choices, sink)?)
 }
 
 /// Reads the script that the source gives, and tells of the board that it leaves what is asked of it, or tells a fault.
@@ -183,16 +160,11 @@ pub(crate) fn answer_view<A: Allocator + Copy, R: Source, W: Sink, E: Sink>(
     sink: &mut W,
     errors: &mut E,
 ) -> Status
-    requires reads { R.reads_made source.old < 2 ^ 62 }
-    requires read_failures { R.failures_met source.old < 2 ^ 62 }
-    requires sink { W.write_failures sink.old < 2 ^ 62 }
+    requires devices { HaveRoom (counts R.reads_made R.failures_met W.write_failures source.old sink.old) }
     requires errors { E.write_failures errors.old < 2 ^ 62 }
     ensures told { result ≡ Status.Done → IfSome (R.left source.old) (λ input. (readings : List Reading) → AreReadings (lines_of input) readings → Appends (W.taken sink.old) (W.taken sink.new) (viewed view (pool_left readings))) }
-    ensures read { R.failures_met source.old < R.failures_met source.new → result ≡ Status.Failed }
-    ensures write { W.write_failures sink.old < W.write_failures sink.new → result ≡ Status.Failed }
-    ensures failed { result ≡ Status.Failed → DeviceFailed (R.reads_made source.old) (R.reads_made source.new) (R.failures_met source.old) (R.failures_met source.new) (W.write_failures sink.old) (W.write_failures sink.new) }
-    ensures refused { IsRefused result → (sink.new ≡ sink.old) }
-    ensures unread { result ≡ Status.Usage → source.new ≡ source.old }
+    ensures failures { ReportsFailures (counts R.reads_made R.failures_met W.write_failures source.old sink.old) (counts R.reads_made R.failures_met W.write_failures source.new sink.new) result }
+    ensures refused { LeavesRefused source.old source.new sink.old sink.new result }
 {
     let shown = show_view(heap, view, source, sink);
     end_with(alloc, shown, errors)
@@ -207,20 +179,15 @@ fn say_choice<A: Allocator + Copy, R: Source, W: Sink, E: Sink>(
     sink: &mut W,
     errors: &mut E,
 ) -> Status
-    requires reads { R.reads_made source.old < 2 ^ 62 }
-    requires read_failures { R.failures_met source.old < 2 ^ 62 }
-    requires sink { W.write_failures sink.old < 2 ^ 62 }
+    requires devices { HaveRoom (counts R.reads_made R.failures_met W.write_failures source.old sink.old) }
     requires errors { E.write_failures errors.old < 2 ^ 62 }
     ensures so { result ≡ Status.Done → IfSome (R.left source.old) (λ input. (readings : List Reading) → AreReadings (lines_of input) readings → IsCoordinating (pool_left readings) choices.now) }
     ensures not_so { result ≡ Status.NotSo → IfSome (R.left source.old) (λ input. (readings : List Reading) → AreReadings (lines_of input) readings → IsCoordinating (pool_left readings) choices.now → ⊥) }
     ensures usage { result ≢ Status.Usage }
     ensures said { result ≡ Status.Done → Appends (W.taken sink.old) (W.taken sink.new) (codes "coordinating\n") }
     ensures denied { result ≡ Status.NotSo → Appends (W.taken sink.old) (W.taken sink.new) (codes "not coordinating\n") }
-    ensures read { R.failures_met source.old < R.failures_met source.new → result ≡ Status.Failed }
-    ensures write { W.write_failures sink.old < W.write_failures sink.new → result ≡ Status.Failed }
-    ensures failed { result ≡ Status.Failed → DeviceFailed (R.reads_made source.old) (R.reads_made source.new) (R.failures_met source.old) (R.failures_met source.new) (W.write_failures sink.old) (W.write_failures sink.new) }
-    ensures refused { IsRefused result → (sink.new ≡ sink.old) }
-    ensures unread { result ≡ Status.Usage → source.new ≡ source.old }
+    ensures failures { ReportsFailures (counts R.reads_made R.failures_met W.write_failures source.old sink.old) (counts R.reads_made R.failures_met W.write_failures source.new sink.new) result }
+    ensures refused { LeavesRefused source.old source.new sink.old sink.new result }
 {
     let shown = show_choice(heap, choices, source, sink);
     end_with(alloc, shown, errors)
@@ -235,20 +202,15 @@ pub(crate) fn answer_choice<A: Allocator + Copy, R: Source, W: Sink, E: Sink>(
     sink: &mut W,
     errors: &mut E,
 ) -> Status
-    requires reads { R.reads_made source.old < 2 ^ 62 }
-    requires read_failures { R.failures_met source.old < 2 ^ 62 }
-    requires sink { W.write_failures sink.old < 2 ^ 62 }
+    requires devices { HaveRoom (counts R.reads_made R.failures_met W.write_failures source.old sink.old) }
     requires errors { E.write_failures errors.old < 2 ^ 62 }
     ensures so { result ≡ Status.Done → IfSome (R.left source.old) (λ input. (readings : List Reading) → AreReadings (lines_of input) readings → AreCoordinating (pool_left readings) (map (λ word. word.now) words.now)) }
     ensures not_so { result ≡ Status.NotSo → IfSome (R.left source.old) (λ input. (readings : List Reading) → AreReadings (lines_of input) readings → AreNotCoordinating (pool_left readings) (map (λ word. word.now) words.now)) }
     ensures bad { result ≡ Status.Usage → StandForNone (map (λ word. word.now) words.now) }
     ensures said { result ≡ Status.Done → Appends (W.taken sink.old) (W.taken sink.new) (codes "coordinating\n") }
     ensures denied { result ≡ Status.NotSo → Appends (W.taken sink.old) (W.taken sink.new) (codes "not coordinating\n") }
-    ensures read { R.failures_met source.old < R.failures_met source.new → result ≡ Status.Failed }
-    ensures write { W.write_failures sink.old < W.write_failures sink.new → result ≡ Status.Failed }
-    ensures failed { result ≡ Status.Failed → DeviceFailed (R.reads_made source.old) (R.reads_made source.new) (R.failures_met source.old) (R.failures_met source.new) (W.write_failures sink.old) (W.write_failures sink.new) }
-    ensures refused { IsRefused result → (sink.new ≡ sink.old) }
-    ensures unread { result ≡ Status.Usage → source.new ≡ source.old }
+    ensures failures { ReportsFailures (counts R.reads_made R.failures_met W.write_failures source.old sink.old) (counts R.reads_made R.failures_met W.write_failures source.new sink.new) result }
+    ensures refused { LeavesRefused source.old source.new sink.old sink.new result }
 {
     match read_choices(heap, words) {
         Ok(choices) => say_choice(alloc, heap, &choices, source, sink, errors),

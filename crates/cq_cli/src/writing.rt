@@ -2,9 +2,9 @@
 
 ghost use Rattle.std.specs.Prelude.{◌≡◌, ◌<◌, ◌+◌, ◌^◌, OnOk, OnErr, MatchResult};
 ghost use Rattle.std.specs.Io.KnownBytes.{Appends};
-ghost use Rattle.cq_text.specs.Device.{TakesFront};
+ghost use Rattle.cq_devices.specs.Device.{TakesFront};
 
-use cq_text::{Failed, Sink, write_all};
+use cq_devices::{Failed, Sink, write_all};
 use std::alloc::Global;
 use std::fmt::Display;
 

@@ -12,7 +12,7 @@ use Rattle.csv.specs.declared.parser.State.TheVariants as st
 use Rattle.cq_atom.specs.Answer.{Answers}
 use Rattle.cq_atom.specs.Atom.{RowRecord}
 use Rattle.cq_atom.specs.declared.fault.Bad.{Bad}
-use Rattle.cq_text.specs.Device.{ReadWhole}
+use Rattle.cq_devices.specs.Device.{ReadWhole}
 use Rattle.cq_csv.specs.declared.fault.CsvFault.{CsvFault}
 use Rattle.cq_csv.specs.declared.fault.CsvFault.TheVariants.{BadName, BadArity, Device, Width, Text, NoMemory}
 use Rattle.cq_csv.specs.Csv.{CsvRecord, IfOfRecord, first_of, is_field, record_fault, records_fault}

@@ -2,14 +2,14 @@
 
 ghost use Rattle.std.specs.Prelude.{◌≡◌, ◌<◌, ◌≤◌, ◌+◌, ◌^◌, None, Some, map, IfOk, IfErr, IfSome, MatchResult};
 ghost use Rattle.std.specs.Io.KnownBytes.{IsAtEnd};
-ghost use Rattle.cq_text.specs.Limits.{max_reads};
-ghost use Rattle.cq_text.specs.Device.{FailedAtTurn, ReadWhole};
+ghost use Rattle.cq_devices.specs.Limits.{max_reads};
+ghost use Rattle.cq_devices.specs.Device.{FailedAtTurn, ReadWhole};
 ghost use Rattle.cq_csv.specs.Csv.{IfOfCall, IfOfDevice, IfOfRecord, IsOfDevice, call_fault, csv_records, records_fault, row_of_record};
 
 use crate::fault::CsvFault;
 use crate::records::rows_of;
 use cq_atom::{MAX_ARITY, Row, is_relation_text};
-use cq_text::{Source, WholeFault, read_whole};
+use cq_devices::{Source, WholeFault, read_whole};
 use std::alloc::{Allocator, Global};
 
 /// All bytes that the source has left.

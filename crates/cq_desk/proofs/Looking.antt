@@ -7,9 +7,10 @@ use Rattle.cq_desk.specs.Plain.{AreWithin}
 use Rattle.cq_desk.specs.declared.event.Event.{Event}
 use Rattle.cq_desk.specs.declared.event.Event.TheVariants.{Enter, Publish, Look, Hear}
 use Rattle.cq_desk.specs.declared.event.Answer.{Answer}
-use Rattle.cq_desk.specs.declared.event.Answer.TheVariants.{Looked, Heard}
+use Rattle.cq_desk.specs.declared.event.Answer.TheVariants.{Replied, Published, Looked, Heard}
 use Rattle.cq_desk.specs.declared.event.StepFault.{StepFault}
 use Rattle.cq_desk.specs.declared.event.StepFault.TheVariants.{NoSession, Ahead}
+use Rattle.cq_desk.specs.declared.reply.Reply.TheVariants.{Entered, JournalFull, Not}
 use Rattle.cq_desk.specs.Machine.{MachineRecord, opening_machine, seen_by, moved, unless_refused, answer_to, machine_after, machine_run}
 use Rattle.cq_desk.proofs.Cutting.{within-more}
 use Rattle.cq_desk.proofs.Counting.{within-get, within-set, within-replicate}
@@ -35,15 +36,20 @@ record IsSound {E : Type 0} (m : MachineRecord E) : Type 0 where
   pub seen : AreWithin m.published m.seen
   pub front : m.published ≤ length m.journal
 
-either : {E W : Type 0} (P : MachineRecord E → Type 0) (r : Result Answer (StepFault W)) (m n : MachineRecord E) → P m → P n → P (unless_refused r m n)
-either P (Ok a) m n p q = q
+either : {E W : Type 0} (P : MachineRecord E → Type 0) (r : Result (Answer W) StepFault) (m n : MachineRecord E) → P m → P n → P (unless_refused r m n)
+either P (Ok (Replied (Entered k))) m n p q = q
+either P (Ok (Replied JournalFull)) m n p q = p
+either P (Ok (Replied (Not w))) m n p q = p
+either P (Ok (Published k)) m n p q = q
+either P (Ok (Looked k)) m n p q = q
+either P (Ok (Heard k)) m n p q = q
 either P (Err e) m n p q = p
 
 -- where a test that fails refuses
-tested : {E W : Type 0} (P : MachineRecord E → Type 0) (none short : Bool) (a : Answer) (f g : StepFault W) (m n : MachineRecord E) → P m → (short ≡ true → P n) → P (unless_refused {E = E} {W = W} (if none then Err f else (if short then Ok a else Err g)) m n)
-tested P true short a f g m n p q = p
-tested P false true a f g m n p q = q refl
-tested P false false a f g m n p q = p
+tested : {E : Type 0} (W : Type 0) (P : MachineRecord E → Type 0) (none short : Bool) (heard : ℕ) (f g : StepFault) (m n : MachineRecord E) → P m → (short ≡ true → P n) → P (unless_refused {E = E} {W = W} (if none then Err f else (if short then Ok (Heard heard) else Err g)) m n)
+tested W P true short heard f g m n p q = p
+tested W P false true heard f g m n p q = q refl
+tested W P false false heard f g m n p q = p
 
 is_short : (n m : ℕ) → nat_le n m ≡ true → n ≤ m
 is_short n m is = leb-true n m is
@@ -58,7 +64,7 @@ module _ {E C W : Type 0} (after : C → E → C) (why : C → E → Option W) (
       either IsSound (answer_to after why opening limit m (Look session)) m (moved m (Look session)) s
       record { seen = within-set m.published m.seen session m.published s.seen (omega arith); front = s.front }
   sound_after m (Hear session count) s =
-      tested IsSound (nat_le (length m.seen) session) (nat_le count m.published) (Heard (max (seen_by m session) count)) NoSession Ahead m (moved m (Hear session count)) s
+      tested W IsSound (nat_le (length m.seen) session) (nat_le count m.published) (max (seen_by m session) count) NoSession Ahead m (moved m (Hear session count)) s
       (λ l. record { seen = within-set m.published m.seen session (max (seen_by m session) count) s.seen (max-le (within-seen m.published m.seen session s.seen) (is_short count m.published l)); front = s.front })
 
   grows_after : (m : MachineRecord E) (e : Event E) (k : ℕ) → IsSound m → seen_by m k ≤ seen_by (machine_after after why opening limit m e) k
@@ -94,7 +100,7 @@ module _ {E C W : Type 0} (after : C → E → C) (why : C → E → Option W) (
   pub published_front : (sessions : ℕ) (es : List (Event E)) → (machine_run after why opening limit (opening_machine sessions) es).published ≤ length (machine_run after why opening limit (opening_machine sessions) es).journal
   published_front sessions es = (sound_run (opening_machine sessions) es (opens sessions)).front
 
-  abbrev look_none : Result Answer (StepFault W)
+  abbrev look_none : Result (Answer W) StepFault
   look_none = Err NoSession
 
   look_count : (m : MachineRecord E) (k count : ℕ) → answer_to after why opening limit m (Look k) ≡ Ok (Looked count) → m.published ≡ count

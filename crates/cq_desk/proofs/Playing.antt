@@ -17,7 +17,7 @@ module _ {E C W : Type 0} (after : C → E → C) (why : C → E → Option W) w
   answers-snoc opening limit m (x ∷ es) e = ap (λ z. answer_to after why opening limit m x ∷ z) (answers-snoc opening limit (machine_after after why opening limit m x) es e)
 
   -- one answer more
-  pub answered_on : (a f : StandingRecord C E) (es : List (Event E)) (e : Event E) (told new : List (Result Answer (StepFault W))) (t : Result Answer (StepFault W)) → f ≡ played after why a es → told ≡ answers_to after why a.opening a.limit a.machine es → t ≡ answer_to after why f.opening f.limit f.machine e → new ≡ told ++ t ∷ [] → new ≡ answers_to after why a.opening a.limit a.machine (es ++ e ∷ [])
+  pub answered_on : (a f : StandingRecord C E) (es : List (Event E)) (e : Event E) (told new : List (Result (Answer W) StepFault)) (t : Result (Answer W) StepFault) → f ≡ played after why a es → told ≡ answers_to after why a.opening a.limit a.machine es → t ≡ answer_to after why f.opening f.limit f.machine e → new ≡ told ++ t ∷ [] → new ≡ answers_to after why a.opening a.limit a.machine (es ++ e ∷ [])
   answered_on a f es e told new t now was answer is =
       is ∙ (ap (λ z. told ++ z ∷ []) (answer ∙ ap (λ v. answer_to after why v.opening v.limit v.machine e) now)
       ∙ (ap (λ z. z ++ answer_to after why a.opening a.limit (machine_run after why a.opening a.limit a.machine es) e ∷ []) was ∙ sym (answers-snoc a.opening a.limit a.machine es e)))

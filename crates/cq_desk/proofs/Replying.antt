@@ -1,7 +1,8 @@
 -- What replies to a list of edits leave.
 use mathlib.Core.List.{IsPrefix}
-use Rattle.std.proofs.Common.{◌≡◌, ℕ, List, [], ◌∷◌, ◌++◌, Option, length, drop, refl, sym, ap, ◌∙◌, subst, append_assoc, arith}
+use Rattle.std.proofs.Common.{◌≡◌, ℕ, List, [], ◌∷◌, ◌++◌, Option, length, take, drop, refl, sym, ap, ◌∙◌, subst, append_assoc, arith}
 use Rattle.std.proofs.lemmas.List.{append-nil, map-append}
+use Rattle.std.proofs.Math.Seq.{take-append_seam}
 use Rattle.cq_desk.specs.History.{edits_of, grown, StandsLast}
 use Rattle.cq_desk.specs.Desk.{DeskRecord}
 use Rattle.cq_desk.specs.Replies.{journal_edits, accepted, entries_by, replies_at, reply_at}
@@ -68,6 +69,10 @@ taken_in {P} {E} author a v w es rs new e r n was now is =
     let F : DeskRecord P E → DeskRecord P E = λ u. record u { journal = v.journal ++ entries_by author (accepted (e ∷ []) (r ∷ [])) } in
     let G : List (Entry E) → DeskRecord P E = λ js. record a { journal = js } in
     now ∙ (ap F was ∙ ap G (entered_on author a.journal v.journal es rs new e r n (ap (λ u. u.journal) was) is))
+
+-- the edits that have a reply are the first ones
+pub tried_first : {E B : Type 0} (es more all : List E) (rs : List B) → es ++ more ≡ all → length rs ≡ length es → es ≡ take (length rs) all
+tried_first es more all rs is n = sym (take-append_seam es more) ∙ (ap (take (length es)) is ∙ ap (λ k. take k all) (sym n))
 
 pub nothing_left : {A : Type 0} (xs : List A) → length xs ≡ 0 → xs ≡ []
 nothing_left [] n = refl

@@ -1,12 +1,9 @@
 -- What contracts see of a desk, and what its type says. (this project's profile)
-use Rattle.std.specs.Prelude.{◌≡◌, ◌≢◌, ℕ, ◌≤◌, List, ◌++◌, [], ◌∷◌, length, fold, take, Option, Result, Ok, Err}
+use Rattle.std.specs.Prelude.{◌≡◌, ℕ, ◌≤◌, List, ◌++◌, [], ◌∷◌, length, fold, take, Option}
 use Rattle.cq_desk.specs.declared.journal.Entry.{Entry}
-use Rattle.cq_desk.specs.declared.refused.Refused.{Refused}
 use Rattle.cq_desk.specs.declared.reply.Reply.{Reply}
 use Rattle.cq_desk.specs.History.{History, edits_of, BeginsWith}
-use Rattle.cq_desk.specs.Replies.{AreAccepted, journal_edits}
-use Rattle.cq_desk.specs.declared.refused.Refused.TheVariants as refusals
-use Rattle.cq_desk.specs.declared.reply.Reply.TheVariants as replies
+use Rattle.cq_desk.specs.Replies.{AreAccepted, accepted, entries_by, journal_edits}
 
 -- A publisher, the accepted edits with their authors, and how many of them there may be.
 pub record DeskRecord (P E : Type 0) : Type 0 where
@@ -14,9 +11,9 @@ pub record DeskRecord (P E : Type 0) : Type 0 where
   pub journal : List (Entry E)
   pub limit : ℕ
 
--- The desk after this edit of this author was entered.
-abbrev pub with_entry : {P E : Type 0} → ℕ → E → DeskRecord P E → DeskRecord P E
-with_entry author edit desk = record desk { journal = desk.journal ++ record { author = author; edit = edit } ∷ [] }
+-- The desk after this edit of this author had this reply: it has the entry more where the reply says that it was entered, and is the same where it says otherwise.
+abbrev pub with_reply : {P E W : Type 0} → ℕ → E → Reply W → DeskRecord P E → DeskRecord P E
+with_reply author edit reply desk = record desk { journal = desk.journal ++ entries_by author (accepted (edit ∷ []) (reply ∷ [])) }
 
 -- Working state, publisher and journal agree. The working content is what the journal leaves over the opening content; the
 -- publications, then what is pending, are the entries handed over, with their authors; what is shown is a front of the history, and is counted. Each entry was
@@ -29,10 +26,3 @@ pub record IsInStep {E C W : Type 0} (after : C → E → C) (why : C → E → 
   pub front : BeginsWith history shown
   pub accepted : AreAccepted after why opening (journal_edits journal)
   pub within : length journal ≤ limit
-
--- What is answered to an edit with that reply: its number, or the same refusal. Want of memory is answered only where the journal has room.
-abbrev pub IsAnswer : {W : Type 0} → Reply W → Result ℕ (Refused W) → Type 0
-IsAnswer reply (Ok number) = reply ≡ replies.Entered number
-IsAnswer reply (Err refusals.JournalFull) = reply ≡ replies.JournalFull
-IsAnswer reply (Err (refusals.Not reason)) = reply ≡ replies.Not reason
-IsAnswer reply (Err refusals.NoMemory) = reply ≢ replies.JournalFull

@@ -2,15 +2,14 @@
 -- one, and what it held at first. (this project's profile)
 use Rattle.std.specs.Prelude.{ℕ, max, nat_le, List, [], ◌∷◌, ◌++◌, length, take, fold, get_or, set, replicate, if◌then◌else◌, Option, Result, Ok, Err}
 use Rattle.cq_desk.specs.declared.journal.Entry.{Entry}
-use Rattle.cq_desk.specs.declared.reply.Reply.{Reply}
 use Rattle.cq_desk.specs.declared.event.Event.{Event}
 use Rattle.cq_desk.specs.declared.event.Event.TheVariants.{Enter, Publish, Look, Hear}
 use Rattle.cq_desk.specs.declared.event.Answer.{Answer}
-use Rattle.cq_desk.specs.declared.event.Answer.TheVariants.{Entered, Published, Looked, Heard}
+use Rattle.cq_desk.specs.declared.event.Answer.TheVariants.{Replied, Published, Looked, Heard}
 use Rattle.cq_desk.specs.declared.event.StepFault.{StepFault}
-use Rattle.cq_desk.specs.declared.event.StepFault.TheVariants.{NoSession, Ahead, JournalFull, Not}
+use Rattle.cq_desk.specs.declared.event.StepFault.TheVariants.{NoSession, Ahead}
 use Rattle.cq_desk.specs.Replies.{journal_edits, reply_at}
-use Rattle.cq_desk.specs.declared.reply.Reply.TheVariants as replies
+use Rattle.cq_desk.specs.declared.reply.Reply.TheVariants.{Entered, JournalFull, Not}
 
 -- The journal, how many of its entries are published, and how many of them each session has seen or heard of.
 pub record MachineRecord (E : Type 0) : Type 0 where
@@ -27,14 +26,8 @@ abbrev pub seen_by : {E : Type 0} → MachineRecord E → ℕ → ℕ
 seen_by machine session = get_or machine.seen session 0
 
 -- The answer where there is a session of that number.
-abbrev pub if_session : {E W : Type 0} → MachineRecord E → ℕ → Result Answer (StepFault W) → Result Answer (StepFault W)
+abbrev pub if_session : {E W : Type 0} → MachineRecord E → ℕ → Result (Answer W) StepFault → Result (Answer W) StepFault
 if_session machine session answer = if nat_le (length machine.seen) session then Err NoSession else answer
-
--- The reply to an edit as an answer.
-abbrev pub told : {W : Type 0} → Reply W → Result Answer (StepFault W)
-told (replies.Entered number) = Ok (Entered number)
-told replies.JournalFull = Err JournalFull
-told (replies.Not reason) = Err (Not reason)
 
 -- The machine after an event that is not refused.
 abbrev pub moved : {E : Type 0} → MachineRecord E → Event E → MachineRecord E
@@ -43,15 +36,17 @@ moved machine Publish = record machine { published = length machine.journal }
 moved machine (Look session) = record machine { seen = set machine.seen session machine.published }
 moved machine (Hear session count) = record machine { seen = set machine.seen session (max (seen_by machine session) count) }
 
--- A refused event changes nothing.
-abbrev pub unless_refused : {E W : Type 0} → Result Answer (StepFault W) → MachineRecord E → MachineRecord E → MachineRecord E
+-- A refused event changes nothing: one that has no answer, and one whose edit is not entered.
+abbrev pub unless_refused : {E W : Type 0} → Result (Answer W) StepFault → MachineRecord E → MachineRecord E → MachineRecord E
+unless_refused (Ok (Replied JournalFull)) before after = before
+unless_refused (Ok (Replied (Not reason))) before after = before
 unless_refused (Ok answer) before after = after
-unless_refused (Err refusal) before after = before
+unless_refused (Err fault) before after = before
 
 module _ {E C W : Type 0} (after : C → E → C) (why : C → E → Option W) (opening : C) (limit : ℕ) where
-  -- What is answered to an event: the first test that fails, else a number.
-  abbrev pub answer_to : MachineRecord E → Event E → Result Answer (StepFault W)
-  answer_to machine (Enter author edit) = if_session machine author (told (reply_at after why opening limit (journal_edits machine.journal) edit))
+  -- What is answered to an event: the first test that fails, else an edit's reply or a number.
+  abbrev pub answer_to : MachineRecord E → Event E → Result (Answer W) StepFault
+  answer_to machine (Enter author edit) = if_session machine author (Ok (Replied (reply_at after why opening limit (journal_edits machine.journal) edit)))
   answer_to machine Publish = Ok (Published (length machine.journal))
   answer_to machine (Look session) = if_session machine session (Ok (Looked machine.published))
   answer_to machine (Hear session count) = if_session machine session (if nat_le count machine.published then Ok (Heard (max (seen_by machine session) count)) else Err Ahead)
@@ -65,7 +60,7 @@ module _ {E C W : Type 0} (after : C → E → C) (why : C → E → Option W) (
   machine_run machine events = fold machine_after machine events
 
   -- What is answered to events that come one after another.
-  abbrev pub answers_to : MachineRecord E → List (Event E) → List (Result Answer (StepFault W))
+  abbrev pub answers_to : MachineRecord E → List (Event E) → List (Result (Answer W) StepFault)
   answers_to machine [] = []
   answers_to machine (event ∷ events) = answer_to machine event ∷ answers_to (machine_after machine event) events
 

@@ -1,9 +1,10 @@
 -- What contracts see of a floor, and what its type says. (this project's profile)
 use Rattle.std.specs.Prelude.{◌≡◌, ℕ, List, [], ◌∷◌, nat_le, ◌&&◌, if◌then◌else◌, Option, Some, None, ⊤, Result, Ok, Err}
 use Rattle.cq_desk.specs.declared.event.Answer.{Answer}
-use Rattle.cq_desk.specs.declared.event.Answer.TheVariants.{Entered, Published, Looked, Heard}
+use Rattle.cq_desk.specs.declared.event.Answer.TheVariants.{Replied, Published, Looked, Heard}
 use Rattle.cq_desk.specs.declared.event.StepFault.{StepFault}
-use Rattle.cq_desk.specs.declared.event.StepFault.TheVariants.{NoSession, Ahead, JournalFull, Not, NoMemory}
+use Rattle.cq_desk.specs.declared.event.StepFault.TheVariants.{NoSession, Ahead, NoMemory}
+use Rattle.cq_desk.specs.declared.reply.Reply.TheVariants.{Entered, JournalFull, Not}
 use Rattle.cq_desk.specs.declared.floor.FloorFault.{FloorFault}
 use Rattle.cq_desk.specs.declared.floor.FloorFault.TheVariants.{Sessions}
 use Rattle.cq_desk.specs.declared.event.Event.{Event}
@@ -27,26 +28,16 @@ stepped after why floor event = record floor { machine = machine_after after why
 abbrev pub played : {C E W : Type 0} → (C → E → C) → (C → E → Option W) → StandingRecord C E → List (Event E) → StandingRecord C E
 played after why floor events = record floor { machine = machine_run after why floor.opening floor.limit floor.machine events }
 
--- Want of memory is answered only where an edit or a publish needs some: where the machine would enter, refuse for the state's reason, or publish.
-abbrev pub MayWant : {W : Type 0} → Result Answer (StepFault W) → Type 0
-MayWant (Ok (Entered number)) = ⊤
-MayWant (Ok (Published count)) = ⊤
-MayWant (Err (Not reason)) = ⊤
-MayWant (Ok (Looked count)) = ⊥
-MayWant (Ok (Heard count)) = ⊥
-MayWant (Err NoSession) = ⊥
-MayWant (Err Ahead) = ⊥
-MayWant (Err JournalFull) = ⊥
-MayWant (Err NoMemory) = ⊥
+-- Want of memory is answered only where an edit needs some: where the machine would enter it, or refuse it for the state's reason.
+abbrev pub MayWant : {W : Type 0} → Result (Answer W) StepFault → Type 0
+MayWant (Ok (Replied (Entered number))) = ⊤
+MayWant (Ok (Replied (Not reason))) = ⊤
+MayWant _ = ⊥
 
 -- What is answered is what the machine answers, or out of memory.
-abbrev pub IsTold : {W : Type 0} → Result Answer (StepFault W) → Result Answer (StepFault W) → Type 0
-IsTold answer (Ok told) = answer ≡ Ok told
-IsTold answer (Err NoSession) = answer ≡ Err NoSession
-IsTold answer (Err Ahead) = answer ≡ Err Ahead
-IsTold answer (Err JournalFull) = answer ≡ Err JournalFull
-IsTold answer (Err (Not reason)) = answer ≡ Err (Not reason)
+abbrev pub IsTold : {W : Type 0} → Result (Answer W) StepFault → Result (Answer W) StepFault → Type 0
 IsTold answer (Err NoMemory) = MayWant answer
+IsTold answer told = answer ≡ told
 
 -- The first of the events that have not happened is one at which memory may be wanting.
 abbrev pub StopsAt : {C E W : Type 0} → (C → E → C) → (C → E → Option W) → StandingRecord C E → List (Event E) → Type 0

@@ -1,3 +1,2 @@
 -- What the code is stated with beside the definitions; no part of what a reader must believe.
-pub mod Laws
 pub mod Turns

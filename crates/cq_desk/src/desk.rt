@@ -1,16 +1,16 @@
 //! A journal under a limit, its working state and its publisher.
 
-ghost use Rattle.std.specs.Prelude.{◌≡◌, ◌≤◌, ◌<◌, [], ◌∷◌, ◌++◌, length, fold, take, drop, IfOk, OnOk, OnErr, MatchOption, ⊤};
+ghost use Rattle.std.specs.Prelude.{◌≡◌, ◌≤◌, ◌<◌, [], ◌++◌, length, fold, drop, IfOk, OnOk, OnErr};
 ghost use mathlib.Core.List.{IsPrefix};
-ghost use Rattle.cq_desk.specs.History.{edits_of, grown, BeginsWith, StandsLast};
-ghost use Rattle.cq_desk.specs.Desk.{IsAnswer, with_entry};
-ghost use Rattle.cq_desk.specs.Replies.{AreAccepted, MatchEnd, accepted, entries_by, journal_edits, replies_at, reply_at};
+ghost use Rattle.cq_desk.specs.History.{edits_of, grown, BeginsWith};
+ghost use Rattle.cq_desk.specs.Desk.{with_reply};
+ghost use Rattle.cq_desk.specs.Replies.{AreAccepted, MatchEnd, journal_edits, reply_at};
+ghost use Rattle.cq_desk.specs.Submission.{IsSubmission};
 
 use crate::gate::{Checkpoint, OpenGate};
 use crate::journal::Entry;
 use crate::live::{Live, NoMemory};
 use crate::publisher::Publisher;
-use crate::refused::Refused;
 use crate::reply::{End, Reply, Submitted};
 use std::alloc::{Allocator, Global};
 use std::marker::Model;
@@ -91,28 +91,26 @@ impl<L: Live, P: Publisher<L>, A: Allocator + Copy> Desk<L, P, A> {
         self.published as u64
     }
 
-    /// Enters the edit under the author's name, and answers its number.
+    /// Enters the edit under the author's name where it is not refused, and answers what became of it.
     ///
     /// # Errors
-    /// `JournalFull` before `Not`; `NoMemory` where an allocation failed, which may take the place
-    /// of `Not`. Nothing has changed then.
-    pub fn enter(&mut self, author: usize, edit: L::Edit) -> Result<u64, Refused<L::Why>>
-        ensures answer { IsAnswer (reply_at L.after L.why (P.opening self.old.publisher) self.old.limit (journal_edits self.old.journal) edit) result }
-        ensures ok { OnOk result (self.new ≡ with_entry author edit self.old) }
+    /// `NoMemory` where an allocation failed, which may take the place of `Not` and not of
+    /// `JournalFull`. Nothing has changed then.
+    pub fn enter(&mut self, author: usize, edit: L::Edit) -> Result<Reply<L::Why>, NoMemory>
+        ensures reply { IfOk result (λ reply. reply ≡ reply_at L.after L.why (P.opening self.old.publisher) self.old.limit (journal_edits self.old.journal) edit) }
+        ensures after { IfOk result (λ reply. self.new ≡ with_reply author edit reply self.old) }
         ensures err { OnErr result (self.new ≡ self.old) }
+        ensures room { OnErr result (length self.old.journal < self.old.limit) }
     {
         if self.journal.len() >= self.limit {
-            return Err(Refused::JournalFull);
+            return Ok(Reply::JournalFull);
         }
-        if self.journal.reserve(1).is_err() {
-            return Err(Refused::NoMemory);
-        }
-        match self.working.admit(&edit) {
-            Err(_) => Err(Refused::NoMemory),
-            Ok(Some(why)) => Err(Refused::Not(why)),
-            Ok(None) => {
+        self.journal.reserve(1)?;
+        match self.working.admit(&edit)? {
+            Some(why) => Ok(Reply::Not(why)),
+            None => {
                 self.journal.push_reserved(Entry { author, edit });
-                Ok(self.journal.len() as u64)
+                Ok(Reply::Entered(self.journal.len() as u64))
             }
         }
     }
@@ -146,20 +144,6 @@ impl<L: Live, P: Publisher<L>, A: Allocator + Copy> Desk<L, P, A> {
         Ok(self.published as u64)
     }
 
-    /// Enters an edit, and makes its reply. There is none where memory was wanting.
-    fn take_in(&mut self, author: usize, edit: L::Edit) -> Option<Reply<L::Why>>
-        ensures { MatchOption result (self.new ≡ self.old) (λ reply.
-            (reply ≡ reply_at L.after L.why (P.opening self.old.publisher) self.old.limit (journal_edits self.old.journal) edit)
-            × (self.new ≡ record self.old { journal = self.old.journal ++ entries_by author (accepted (edit ∷ []) (reply ∷ [])) })) }
-    {
-        match self.enter(author, edit) {
-            Ok(number) => Some(Reply::Entered(number)),
-            Err(Refused::JournalFull) => Some(Reply::JournalFull),
-            Err(Refused::Not(why)) => Some(Reply::Not(why)),
-            Err(Refused::NoMemory) => None,
-        }
-    }
-
     /// Enters these edits one after another under the author's name, and publishes what the journal
     /// holds as one publication. Each edit has a reply; a refused one stops nobody.
     ///
@@ -171,17 +155,7 @@ impl<L: Live, P: Publisher<L>, A: Allocator + Copy> Desk<L, P, A> {
         asked: Vec<L::Edit, A>,
         leave: &P::Leave,
     ) -> Result<Submitted<L::Why, A>, NoMemory>
-        ensures limit { self.new.limit ≡ self.old.limit }
-        ensures opening { P.opening self.new.publisher ≡ P.opening self.old.publisher }
-        ensures replies { IfOk result (λ submitted. submitted.replies.items ≡ replies_at L.after L.why (P.opening self.old.publisher) self.old.limit (journal_edits self.old.journal) (take (length submitted.replies.items) asked.items)) }
-        ensures journal { IfOk result (λ submitted. self.new.journal ≡ self.old.journal ++ entries_by author (accepted asked.items submitted.replies.items)) }
-        ensures tried { IfOk result (λ submitted. MatchEnd submitted.end (λ _. length submitted.replies.items ≡ length asked.items) (length submitted.replies.items < length asked.items) (length submitted.replies.items ≡ length asked.items)) }
-        ensures count { IfOk result (λ submitted. MatchEnd submitted.end (λ count. count ≡ length self.new.journal) ⊤ ⊤) }
-        ensures shown { IfOk result (λ submitted. MatchEnd submitted.end (λ _. edits_of (P.shown self.new.publisher) ≡ self.new.journal) (self.new.publisher ≡ self.old.publisher) (P.shown self.new.publisher ≡ P.shown self.old.publisher)) }
-        ensures last { IfOk result (λ submitted. MatchEnd submitted.end (λ _. StandsLast (entries_by author (accepted asked.items submitted.replies.items)) (P.shown self.new.publisher)) ⊤ ⊤) }
-        ensures history { IfOk result (λ submitted. MatchEnd submitted.end (λ _. P.history self.new.publisher ≡ grown (P.history self.old.publisher) (drop (length (edits_of (P.history self.old.publisher))) self.new.journal)) ⊤ ⊤) }
-        ensures all { IfOk result (λ submitted. MatchEnd submitted.end (λ _. P.shown self.new.publisher ≡ P.history self.new.publisher) ⊤ ⊤) }
-        ensures begins { BeginsWith (P.history self.new.publisher) (P.history self.old.publisher) }
+        ensures submission { IfOk result (λ submitted. IsSubmission L.after L.why P.opening P.history P.shown author self.old self.new asked.items submitted.replies.items submitted.end) }
         ensures err { OnErr result (self.new ≡ self.old) }
     {
         self.submit_past(author, asked, leave, &mut OpenGate)
@@ -199,17 +173,7 @@ impl<L: Live, P: Publisher<L>, A: Allocator + Copy> Desk<L, P, A> {
         leave: &P::Leave,
         gate: &mut G,
     ) -> Result<Submitted<L::Why, A>, NoMemory>
-        ensures limit { self.new.limit ≡ self.old.limit }
-        ensures opening { P.opening self.new.publisher ≡ P.opening self.old.publisher }
-        ensures replies { IfOk result (λ submitted. submitted.replies.items ≡ replies_at L.after L.why (P.opening self.old.publisher) self.old.limit (journal_edits self.old.journal) (take (length submitted.replies.items) asked.items)) }
-        ensures journal { IfOk result (λ submitted. self.new.journal ≡ self.old.journal ++ entries_by author (accepted asked.items submitted.replies.items)) }
-        ensures tried { IfOk result (λ submitted. MatchEnd submitted.end (λ _. length submitted.replies.items ≡ length asked.items) (length submitted.replies.items < length asked.items) (length submitted.replies.items ≡ length asked.items)) }
-        ensures count { IfOk result (λ submitted. MatchEnd submitted.end (λ count. count ≡ length self.new.journal) ⊤ ⊤) }
-        ensures shown { IfOk result (λ submitted. MatchEnd submitted.end (λ _. edits_of (P.shown self.new.publisher) ≡ self.new.journal) (self.new.publisher ≡ self.old.publisher) (P.shown self.new.publisher ≡ P.shown self.old.publisher)) }
-        ensures last { IfOk result (λ submitted. MatchEnd submitted.end (λ _. StandsLast (entries_by author (accepted asked.items submitted.replies.items)) (P.shown self.new.publisher)) ⊤ ⊤) }
-        ensures history { IfOk result (λ submitted. MatchEnd submitted.end (λ _. P.history self.new.publisher ≡ grown (P.history self.old.publisher) (drop (length (edits_of (P.history self.old.publisher))) self.new.journal)) ⊤ ⊤) }
-        ensures all { IfOk result (λ submitted. MatchEnd submitted.end (λ _. P.shown self.new.publisher ≡ P.history self.new.publisher) ⊤ ⊤) }
-        ensures begins { BeginsWith (P.history self.new.publisher) (P.history self.old.publisher) }
+        ensures submission { IfOk result (λ submitted. IsSubmission L.after L.why P.opening P.history P.shown author self.old self.new asked.items submitted.replies.items submitted.end) }
         ensures passed { IfOk result (λ submitted. MatchEnd submitted.end (λ _. G.passed gate.old (length self.new.journal) (length (edits_of (P.shown self.old.publisher))) gate.new) (gate.new ≡ gate.old) (G.passed gate.old (length self.new.journal) (length (edits_of (P.shown self.old.publisher))) gate.new)) }
         ensures err { OnErr result (self.new ≡ self.old) }
         ensures unpassed { OnErr result (gate.new ≡ gate.old) }
@@ -219,7 +183,7 @@ impl<L: Live, P: Publisher<L>, A: Allocator + Copy> Desk<L, P, A> {
         replies.reserve(asked.len())?;
         let _ = self.publisher();
         for edit in asked {
-            let Some(reply) = self.take_in(author, edit) else {
+            let Ok(reply) = self.enter(author, edit) else {
                 return Ok(Submitted {
                     replies,
                     end: End::Stopped,

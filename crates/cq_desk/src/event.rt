@@ -1,5 +1,8 @@
 //! What sessions do on a floor, and what is answered to it.
 
+use crate::reply::Reply;
+use thiserror::Error;
+
 /// A step of a session on a [`Floor`](crate::Floor).
 #[derive(Drop)]
 pub enum Event<E> {
@@ -26,11 +29,11 @@ pub enum Event<E> {
     },
 }
 
-/// The answer to an event that is not refused.
+/// The answer to an event.
 #[derive(Clone, Copy, Debug, Drop, PartialEq, Eq)]
-pub enum Answer {
-    /// The edit is the entry of this number, counted from 1.
-    Entered(u64),
+pub enum Answer<W> {
+    /// This became of the edit.
+    Replied(Reply<W>),
     /// So many entries are published.
     Published(u64),
     /// What was seen is what so many entries leave.
@@ -39,17 +42,16 @@ pub enum Answer {
     Heard(u64),
 }
 
-/// Why an event is refused, in the order of the tests.
-#[derive(Clone, Copy, Debug, Drop, PartialEq, Eq)]
-pub enum StepFault<W> {
+/// Why an event has no answer, in the order of the tests.
+#[derive(Clone, Copy, Debug, PartialEq, Eq, Error)]
+pub enum StepFault {
     /// There is no session of that number.
+    #[error("there is no session of that number")]
     NoSession,
     /// So many entries are not published.
+    #[error("so many entries are not published")]
     Ahead,
-    /// The journal has as many entries as it may hold.
-    JournalFull,
-    /// The state refuses the edit.
-    Not(W),
-    /// An allocation failed. It may take the place of `Not`.
+    /// An allocation failed.
+    #[error("out of memory")]
     NoMemory,
 }

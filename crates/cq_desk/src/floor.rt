@@ -10,14 +10,13 @@ ghost use Rattle.cq_desk.specs.Standing.{IsTold, MayWant, StopsAt, sessions_faul
 use crate::event::{Answer, Event, StepFault};
 use crate::journal::Entry;
 use crate::live::{Live, NoMemory};
-use crate::refused::Refused;
 use crate::turns::Turns;
 use std::alloc::{AllocError, Allocator, Global};
 use std::marker::Model;
 use thiserror::Error;
 
-/// The answer to an event, or why it is refused.
-type Told<W> = Result<Answer, StepFault<W>>;
+/// The answer to an event, or why it has none.
+type Told<W> = Result<Answer<W>, StepFault>;
 
 /// What was answered to events that came one after another.
 type Answers<W, A> = Vec<Told<W>, A>;
@@ -140,17 +139,15 @@ impl<L: Live, A: Allocator + Copy> Floor<L, A> {
 
     fn enter(&mut self, author: usize, edit: L::Edit) -> Told<L::Why>
         ensures answer { IsTold (answer_to L.after L.why self.old.opening self.old.limit self.old.machine (Enter author edit)) result }
-        ensures ok { OnOk result (self.new ≡ record self.old { machine = moved self.old.machine (Enter author edit) }) }
+        ensures ok { OnOk result (self.new ≡ stepped L.after L.why self.old (Enter author edit)) }
         ensures err { OnErr result (self.new ≡ self.old) }
     {
         if author >= self.seen.len() {
             return Err(StepFault::NoSession);
         }
         match self.turns.enter(author, edit) {
-            Ok(number) => Ok(Answer::Entered(number)),
-            Err(Refused::JournalFull) => Err(StepFault::JournalFull),
-            Err(Refused::Not(why)) => Err(StepFault::Not(why)),
-            Err(Refused::NoMemory) => Err(StepFault::NoMemory),
+            Ok(reply) => Ok(Answer::Replied(reply)),
+            Err(NoMemory) => Err(StepFault::NoMemory),
         }
     }
 
@@ -197,11 +194,12 @@ impl<L: Live, A: Allocator + Copy> Floor<L, A> {
         Ok(Answer::Heard(heard))
     }
 
-    /// Does what the event asks for, and answers it as the floor machine does.
+    /// Does what the event asks for, and answers it as the floor machine does. An edit that is refused
+    /// is answered with its reply, and changes nothing.
     ///
     /// # Errors
-    /// `NoSession`, `Ahead`, `JournalFull`, `Not`, in this order; `NoMemory` where an allocation
-    /// failed, which may take the place of `Not`. Nothing has changed then.
+    /// `NoSession`, `Ahead`, in this order; `NoMemory` where an allocation failed, which may take the
+    /// place of the reply that an edit is entered or that the state refuses it. Nothing has changed then.
     pub fn step(&mut self, event: Event<L::Edit>) -> Told<L::Why>
         ensures answer { IsTold (answer_to L.after L.why self.old.opening self.old.limit self.old.machine event) result }
         ensures ok { OnOk result (self.new ≡ stepped L.after L.why self.old event) }

@@ -1,36 +1,12 @@
-//! Floors over boards, and what the floor machine promises to who looks.
+//! What the floor machine promises to who looks.
 
-ghost use Rattle.std.specs.Prelude.{◌≡◌, ℕ, ◌≤◌, ◌++◌, List, take, length, Ok};
-ghost use Rattle.cq_board.specs.Board.{board_of};
-ghost use Rattle.cq_desk.specs.Journal.{pool_left};
+ghost use Rattle.std.specs.Prelude.{◌≡◌, ℕ, ◌≤◌, ◌++◌, List, length, Ok};
 ghost use Rattle.cq_desk.specs.Machine.{opening_machine, machine_run, answer_to, seen_by};
 ghost use Rattle.cq_desk.specs.declared.event.Event.{Event};
 ghost use Rattle.cq_desk.specs.declared.event.Event.TheVariants.{Look};
 ghost use Rattle.cq_desk.specs.declared.event.Answer.TheVariants.{Looked};
 
-use crate::floor::Floor;
 use crate::live::Live;
-use cq_board::Board;
-use std::alloc::Allocator;
-
-impl<A: Allocator + Copy> Floor<Board<A>, A> {
-    /// The working board. Its edges, crowded postconditions, matched queries and groundings are
-    /// those computed from scratch over the queries and rows that the whole journal leaves.
-    pub fn working_board(&self) -> &Board<A>
-        ensures { board_of result.now ≡ board_of (pool_left self.now.opening self.now.machine.journal) }
-    {
-        self.working()
-    }
-
-    /// The board that a look shows. Its edges, crowded postconditions, matched queries and groundings
-    /// are those computed from scratch over the queries and rows that the published front of the
-    /// journal leaves.
-    pub fn published_board(&self) -> &Board<A>
-        ensures { board_of result.now ≡ board_of (pool_left self.now.opening (take self.now.machine.published self.now.machine.journal)) }
-    {
-        self.board()
-    }
-}
 
 /// What a session has seen or heard of never grows less, and a look shows no less, whatever events
 /// came since the machine began. What is published is a front of the journal.

@@ -3,28 +3,25 @@
 //! A journal is the list of the accepted edits with their authors. A [`Desk`] keeps one over any
 //! [`Live`] state, takes each accepted edit into its working state at once, and hands the entries over
 //! to a [`Publisher`], which shows what the published ones leave. [`Plain`] is a publisher over one
-//! state, and a board is a live state. The desk's type says that the working state is what the journal
-//! leaves over the publisher's opening content, and that the published entries, then those pending or
-//! not yet handed over, are the journal's, authors included (`specs/Desk`).
+//! state. Nothing here knows which states there are. The desk's type says that the working state is
+//! what the journal leaves over the publisher's opening content, and that the published entries, then
+//! those pending or not yet handed over, are the journal's, authors included (`specs/Desk`).
 //!
 //! A [`Floor`] is a journal with two states that take turns, and several sessions look at it. It is proved against the floor
 //! machine (`specs/Machine`), which keeps a journal, a published count and what each session has seen,
 //! and no state: `Floor::play` says that after any list of events the answers and what is kept are
 //! those of the machine, `working` and `board` that the states have what the whole journal and its
-//! published front leave. Over a board `working_board` and `published_board` say it of edges, crowded
-//! postconditions, matched queries and groundings, and `looks_never_fall` that no session sees less
-//! than it had seen or heard of.
+//! published front leave, and `looks_never_fall` that no session sees less than it had seen or heard of.
 //!
-//! The room above uses one contract of this crate most: `Floor::step` answers an event as the floor
+//! The crates above use two contracts of this one most. `Floor::step` answers an event as the floor
 //! machine does, and leaves the machine as that event leaves it. `Desk::submit` answers each edit as
 //! the journal before it says (`specs/Replies`), enters exactly those that it numbers, and ends in a
 //! publish after which they stand at the end of the last publication, or says where memory was
 //! wanting. `Desk::submit_past` is the same past a [`Checkpoint`] between entering and publishing.
 //!
-//! Not here: how a pool is kept from one edit to the next, what is shown of it, and threads.
+//! Not here: how a state takes an edit, what is shown of it, and threads.
 #![tactic(auto)]
 
-mod board;
 mod desk;
 mod event;
 mod floor;
@@ -34,7 +31,6 @@ mod journal;
 mod live;
 mod plain;
 mod publisher;
-mod refused;
 mod reply;
 mod turns;
 
@@ -47,5 +43,4 @@ pub use journal::Entry;
 pub use live::{Live, NoMemory};
 pub use plain::Plain;
 pub use publisher::Publisher;
-pub use refused::Refused;
 pub use reply::{End, Reply, Submitted};

@@ -1,8 +1,8 @@
-//! Replies to a list of edits.
+//! Replies to edits.
 
 use std::alloc::{Allocator, Global};
 
-/// What became of an edit.
+/// What became of an edit: the journal's limit is looked at first, then the state.
 #[derive(Clone, Copy, Debug, Drop, PartialEq, Eq)]
 pub enum Reply<W> {
     /// It is the entry of this number, counted from 1.

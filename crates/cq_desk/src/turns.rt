@@ -1,13 +1,12 @@
 //! Two states that take turns.
 
 ghost use Rattle.std.specs.Prelude.{◌≡◌, ◌≤◌, ◌<◌, [], length, fold, take, IfOk, OnOk, OnErr};
-ghost use Rattle.cq_desk.specs.Desk.{IsAnswer};
 ghost use Rattle.cq_desk.specs.Replies.{journal_edits, reply_at};
-ghost use Rattle.cq_desk.specs.Steps.Turns.{TurnsRecord, LeadsOn, entered, published};
+ghost use Rattle.cq_desk.specs.Steps.Turns.{TurnsRecord, LeadsOn, replied, published};
 
 use crate::journal::Entry;
 use crate::live::{Live, NoMemory};
-use crate::refused::Refused;
+use crate::reply::Reply;
 use std::alloc::{Allocator, Global};
 use std::marker::Model;
 use std::mem;
@@ -111,28 +110,24 @@ impl<L: Live, A: Allocator + Copy> Turns<L, A> {
         self.published as u64
     }
 
-    /// Enters the edit under the author's name, and answers its number.
-    pub(crate) fn enter(&mut self, author: usize, edit: L::Edit) -> Result<u64, Refused<L::Why>>
-        ensures answer { IsAnswer (reply_at L.after L.why self.old.opening self.old.limit (journal_edits self.old.journal) edit) result }
-        ensures ok { OnOk result (self.new ≡ entered author edit self.old) }
+    /// Enters the edit under the author's name where it is not refused, and answers what became of it.
+    pub(crate) fn enter(&mut self, author: usize, edit: L::Edit) -> Result<Reply<L::Why>, NoMemory>
+        ensures reply { IfOk result (λ reply. reply ≡ reply_at L.after L.why self.old.opening self.old.limit (journal_edits self.old.journal) edit) }
+        ensures after { IfOk result (λ reply. self.new ≡ replied author edit reply self.old) }
         ensures err { OnErr result (self.new ≡ self.old) }
+        ensures room { OnErr result (length self.old.journal < self.old.limit) }
     {
         if self.journal.len() >= self.limit {
-            return Err(Refused::JournalFull);
+            return Ok(Reply::JournalFull);
         }
-        if self.journal.reserve(1).is_err() {
-            return Err(Refused::NoMemory);
-        }
-        if catch_up(&mut self.other, &mut self.taken, &self.journal).is_err() {
-            return Err(Refused::NoMemory);
-        }
-        match self.other.admit(&edit) {
-            Err(_) => Err(Refused::NoMemory),
-            Ok(Some(why)) => Err(Refused::Not(why)),
-            Ok(None) => {
+        self.journal.reserve(1)?;
+        catch_up(&mut self.other, &mut self.taken, &self.journal)?;
+        match self.other.admit(&edit)? {
+            Some(why) => Ok(Reply::Not(why)),
+            None => {
                 self.journal.push_reserved(Entry { author, edit });
                 self.taken = self.journal.len();
-                Ok(self.journal.len() as u64)
+                Ok(Reply::Entered(self.journal.len() as u64))
             }
         }
     }

@@ -8,7 +8,7 @@ use Rattle.std.proofs.lemmas.Option.{slice_get_within}
 use Rattle.cq_atom.specs.declared.limits.TheConstants.{MAX_ATOMS}
 use Rattle.cq_atom.specs.Atom.{AtomRecord}
 use Rattle.cq_atom.specs.Unify.{Unify}
-use Rattle.cq_match.specs.declared.edge.Edge.{Edge}
+use Rattle.cq_atom.specs.declared.edge.Edge.{Edge}
 use Rattle.cq_index.specs.Index.{AtomMap}
 use Rattle.cq_links.specs.declared.asking.Side.TheVariants.{Heads, Posts}
 use Rattle.cq_links.specs.Links.{Ends, LinkMap, heads_at, posts_at, IsLink, Touches}

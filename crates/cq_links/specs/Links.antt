@@ -9,7 +9,7 @@ use Rattle.std.specs.FinMap.{FinMap, get, insert, entries}
 use Rattle.cq_atom.specs.Atom.{AtomRecord}
 use Rattle.cq_atom.specs.Query.{QueryRecord}
 use Rattle.cq_atom.specs.Unify.{Unify}
-use Rattle.cq_match.specs.declared.edge.Edge.{Edge}
+use Rattle.cq_atom.specs.declared.edge.Edge.{Edge}
 use Rattle.cq_index.specs.Index.{is_candidate}
 
 -- The atoms by which a query is linked to queries: what it offers and what it waits for, each in order.

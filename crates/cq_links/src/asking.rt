@@ -4,9 +4,8 @@ ghost use Rattle.std.specs.Prelude.{◌≡◌, ◌+◌, ◌≤◌, length, sum_b
 ghost use Rattle.cq_index.specs.Index.{candidates_of};
 ghost use Rattle.cq_links.specs.Steps.Asking.{edge_of, Answers, AnswersAll};
 
-use cq_atom::{Atom, MAX_ATOMS, Meter};
+use cq_atom::{Atom, Edge, MAX_ATOMS, Meter};
 use cq_index::AtomIndex;
-use cq_match::Edge;
 use std::alloc::{AllocError, Allocator};
 
 /// The side of a query that asks: heads ask who waits for them, postconditions who supplies them.

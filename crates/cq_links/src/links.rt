@@ -3,16 +3,15 @@
 ghost use Rattle.std.specs.Prelude.{◌≡◌, ◌↔◌, ℕ, ◌+◌, ◌*◌, ◌<◌, ◌≤◌, ◌^◌, ◌≢◌, min, length, Some, None, IfOk, OnOk, OnErr};
 ghost use Rattle.std.specs.FinMap as map;
 ghost use Rattle.std.specs.List.{Contains, AllPairs};
-ghost use Rattle.cq_match.specs.declared.edge.Edge.{Edge};
+ghost use Rattle.cq_atom.specs.declared.edge.Edge.{Edge};
 ghost use Rattle.cq_links.specs.Links.{ends_of, IsLink, Touches, candidate_pairs};
 ghost use Rattle.cq_links.specs.Steps.Blocks.{PutsBlock};
 ghost use Rattle.cq_links.specs.Steps.Asking.{AnswersBoth, pairs_tested};
 
 use crate::asking::{Side, ask_all};
 use crate::block::{PLACES, put_all, take_all};
-use cq_atom::{MAX_ATOMS, Meter, Query};
+use cq_atom::{Edge, MAX_ATOMS, Meter, Query};
 use cq_index::AtomIndex;
-use cq_match::Edge;
 use std::alloc::{AllocError, Allocator, Global};
 use std::marker::Model;
 

@@ -3,7 +3,7 @@ use Rattle.std.proofs.Common.{◌≡◌, ℕ, ◌<◌, Bool, true, false, not, i
 use Rattle.std.specs.List.{All, Any, Contains}
 use Rattle.std.specs.Result.{is_err, OnErr}
 use Rattle.std.specs.Set.{is_member}
-use Rattle.cq_match.specs.declared.edge.Edge.{Edge}
+use Rattle.cq_atom.specs.declared.edge.Edge.{Edge}
 use Rattle.cq_match.specs.Matched.{numbers}
 use Rattle.cq_match.specs.Matcher.{with_flag, without, with_number}
 use Rattle.cq_match.specs.Steps.Kept.{is_able}

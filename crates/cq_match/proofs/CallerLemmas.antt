@@ -1,15 +1,16 @@
--- What a caller of a matcher cites: that who is matched depends neither on the order nor on the numbers of the nodes; that nobody is matched by a node that is able no longer; and facts that hold of each of its nodes, kept while nodes come and go, and what such a fact says of a node that is there.
+-- What a caller of a matcher cites: that who is matched depends neither on the order nor on the numbers of the nodes; that nobody is matched by a node that is able no longer; and facts that hold of each of its nodes, kept while nodes come and go, and what such a fact says of a node that is there. And that in a sorted list the elements of one number are found by halving.
 use Rattle.std.proofs.Common.{◌≡◌, ℕ, ◌<◌, Bool, true, false, if◌then◌else◌, eqb, nat_eq, List, [], ◌∷◌, length, zero, suc, refl, sym, ap, ◌∙◌, subst, arith}
 use Rattle.std.specs.List.{All, Any, Contains}
 use Rattle.std.specs.Set.{is_member}
 use Rattle.std.proofs.lemmas.List.Elements.{All-nil, All-cons, All-head, All-tail, All-same, All-contains}
-use Rattle.cq_match.specs.declared.edge.Edge.{Edge}
+use Rattle.cq_atom.specs.declared.edge.Edge.{Edge}
 use Rattle.cq_match.specs.Matched.{numbers, is_matched}
 use Rattle.cq_match.specs.Matcher.{with_flag, without, with_number}
 use Rattle.cq_match.proofs.Tests.{by_bool}
 use Rattle.cq_match.proofs.Union.{member-contained}
 use Rattle.cq_match.proofs.Bridge.{here-Contains, later-Contains, number-listed}
 use Rattle.cq_match.proofs.Renaming.{matched-closed, closed-matched}
+pub use Rattle.cq_match.proofs.Grouped.{between-by}
 pub use Rattle.cq_match.proofs.Renaming.{renumbered, renamed, IsWithin, matched-reordered, matched-renamed, matched-known}
 
 abbrev Nodes : Type 0

@@ -5,7 +5,7 @@ use Rattle.std.specs.Set.{is_member}
 use Rattle.std.proofs.lemmas.Bool.{eqb-true}
 use Rattle.std.proofs.lemmas.List.Elements.{filter-append}
 use Rattle.std.proofs.lemmas.List.Sums.{count_by-le-length}
-use Rattle.cq_match.specs.declared.edge.Edge.{Edge}
+use Rattle.cq_atom.specs.declared.edge.Edge.{Edge}
 use Rattle.cq_match.specs.declared.graph.Out.{Out}
 use Rattle.cq_match.specs.declared.graph.Place.{Place}
 use Rattle.cq_match.specs.Graph.{leads_to}

@@ -5,7 +5,7 @@ use Rattle.std.specs.Set.{is_member}
 use Rattle.std.proofs.lemmas.List.{append-nil, map-append}
 use Rattle.std.proofs.lemmas.List.Elements.{filter-append}
 use Rattle.std.proofs.lemmas.Map.Keys.{IsDistinct-head, IsDistinct-tail}
-use Rattle.cq_match.specs.declared.edge.Edge.{Edge}
+use Rattle.cq_atom.specs.declared.edge.Edge.{Edge}
 use Rattle.cq_match.specs.declared.falls.Fall.{Fall}
 use Rattle.cq_match.specs.declared.falls.Reason.{Reason}
 use Rattle.cq_match.specs.declared.falls.Reason.TheVariants.{NotAble, Unmet}
@@ -51,7 +51,7 @@ module _ {X : Type 0} where
   placed x (y ∷ xs) (suc k, low, at) = inr (placed x xs (k, (let l : suc k < suc (length xs) = low in omega arith), at))
 
   -- a list is split at each of its members
-  pub split-at : (x : X) (xs : List X) → In x xs → (front : List X) × (back : List X) × (xs ≡ front ++ x ∷ back)
+  split-at : (x : X) (xs : List X) → In x xs → (front : List X) × (back : List X) × (xs ≡ front ++ x ∷ back)
   split-at x [] h = absurd h
   split-at x (y ∷ xs) (inl e) = ([], xs, ap (λ z. z ∷ xs) (sym e))
   split-at x (y ∷ xs) (inr h) = let more = split-at x xs h in (y ∷ more.0, more.1, ap (λ zs. y ∷ zs) more.2)
@@ -82,10 +82,10 @@ all-in : (p : Edge → Bool) (es : List Edge) → ((e : Edge) → In e es → p 
 all-in p [] h = refl
 all-in p (x ∷ es) h = both (p x) (list_all p es) (h x (inl refl)) (all-in p es (λ e m. h e (inr m)))
 
-pub is-in : (n : ℕ) (ns : List ℕ) → is_member nat_eq ns n ≡ true → In n ns
+is-in : (n : ℕ) (ns : List ℕ) → is_member nat_eq ns n ≡ true → In n ns
 is-in n ns t = placed n ns (member-contained ns n t)
 
-pub in-is : (n : ℕ) (ns : List ℕ) → In n ns → is_member nat_eq ns n ≡ true
+in-is : (n : ℕ) (ns : List ℕ) → In n ns → is_member nat_eq ns n ≡ true
 in-is n ns h = contained-member ns n (contained n ns h)
 
 -- ---- falls and their nodes
@@ -95,7 +95,7 @@ in-fallen [] fall h = absurd h
 in-fallen (f ∷ falls) fall (inl e) = inl (ap (λ x. x.node) e)
 in-fallen (f ∷ falls) fall (inr h) = inr (in-fallen falls fall h)
 
-pub fall-in : (falls : List Fall) (n : ℕ) → In n (fallen falls) → (fall : Fall) × In fall falls × (n ≡ fall.node)
+fall-in : (falls : List Fall) (n : ℕ) → In n (fallen falls) → (fall : Fall) × In fall falls × (n ≡ fall.node)
 fall-in [] n h = absurd h
 fall-in (f ∷ falls) n (inl e) = (f, inl refl, e)
 fall-in (f ∷ falls) n (inr h) = let more = fall-in falls n h in (more.0, inr more.1, more.2)
@@ -109,7 +109,7 @@ not-again n ns h m = apart ns (IsDistinct-head nat_eq n ns h) m
     apart (y ∷ ms) a (inr m) = apart ms a.1 m
 
 -- no node stands on both sides of a cut
-pub not-both : (xs ys : List ℕ) → IsDistinct nat_eq (xs ++ ys) → (n : ℕ) → In n xs → In n ys → ⊥
+not-both : (xs ys : List ℕ) → IsDistinct nat_eq (xs ++ ys) → (n : ℕ) → In n xs → In n ys → ⊥
 not-both [] ys h n m k = m
 not-both (x ∷ xs) ys h n (inl e) k = not-again x (xs ++ ys) h (in-right x xs ys (subst (λ z. In z ys) e k))
 not-both (x ∷ xs) ys h n (inr m) k = not-both xs ys (IsDistinct-tail nat_eq x (xs ++ ys) h) n m k
@@ -122,7 +122,7 @@ one-fall (f ∷ falls) h a b (inl x) (inr k) e = absurd (not-again f.node (falle
 one-fall (f ∷ falls) h a b (inr m) (inl y) e = absurd (not-again f.node (fallen falls) h (subst (λ n. In n (fallen falls)) (e ∙ ap (λ z. z.node) y) (in-fallen falls a m)))
 one-fall (f ∷ falls) h a b (inr m) (inr k) e = one-fall falls (IsDistinct-tail nat_eq f.node (fallen falls) h) a b m k e
 
-pub fallen-append : (xs ys : List Fall) → fallen (xs ++ ys) ≡ fallen xs ++ fallen ys
+fallen-append : (xs ys : List Fall) → fallen (xs ++ ys) ≡ fallen xs ++ fallen ys
 fallen-append xs ys = map-append (λ (f : Fall). f.node) xs ys
 
 module _ (nodes : Nodes) (edges : List Edge) where
@@ -158,10 +158,6 @@ module _ (edges : List Edge) (falls : List Fall) (good : FallsOnce edges falls) 
       closed front back cut edge.provider m rest fed
 
 -- ---- what is picked
-
-pub pick-none : (P : Fall → Type 0) (front back part : List Fall) → ((fall : Fall) → In fall front → P fall → ⊥) → Picks P back part → Picks P (front ++ back) part
-pick-none P [] back part none h = h
-pick-none P (f ∷ front) back part none h = inl (none f (inl refl), pick-none P front back part (λ g m. none g (inr m)) h)
 
 pub pick-nil : (P : Fall → Type 0) (falls : List Fall) → ((fall : Fall) → In fall falls → P fall → ⊥) → Picks P falls []
 pick-nil P [] none = tt

@@ -13,7 +13,7 @@ use Rattle.std.proofs.lemmas.List.FromFn.{length-range_with_len, get_or-range_wi
 use Rattle.std.proofs.lemmas.List.Sorted.{IsPermutation-map, IsPermutation-sym, Contains-permutation}
 use Rattle.std.proofs.lemmas.List.Sums.{AllPass-from_list_all, list_all-from_AllPass}
 use Rattle.std.proofs.lemmas.Map.Made.{is_member-Decides, is_member-filter}
-use Rattle.cq_match.specs.declared.edge.Edge.{Edge}
+use Rattle.cq_atom.specs.declared.edge.Edge.{Edge}
 use Rattle.cq_match.specs.declared.settle.Offer.{Offer}
 use Rattle.cq_match.specs.Matched.{numbers, is_supplied, has_each_post, is_closed, sublists, is_matched}
 use Rattle.cq_match.specs.Graph.{leads_to}

@@ -5,7 +5,7 @@ use Rattle.std.specs.List.{Any, Contains, list_all}
 use Rattle.std.specs.List.Sorted.{IsStrictlySortedBy}
 use Rattle.std.specs.Ordering.{nat_cmp}
 use Rattle.std.specs.Set.{is_member}
-use Rattle.cq_match.specs.declared.edge.Edge.{Edge}
+use Rattle.cq_atom.specs.declared.edge.Edge.{Edge}
 use Rattle.cq_match.specs.declared.falls.Fall.{Fall}
 use Rattle.cq_match.specs.declared.falls.Reason.{Reason}
 use Rattle.cq_match.specs.declared.falls.Reason.TheVariants.{NotAble, Unmet}

@@ -1,7 +1,7 @@
 -- Which edges of a graph supply a postcondition.
 -- (edges of the unifiability graph: Gupta et al., SIGMOD 2011; one edge for each pair of a head and a postcondition, and what is crowded: this project's profile)
 use Rattle.std.specs.Prelude.{ℕ, Bool, ◌&&◌, ◌==◌, nat_le, List, length, filter}
-use Rattle.cq_match.specs.declared.edge.Edge.{Edge}
+use Rattle.cq_atom.specs.declared.edge.Edge.{Edge}
 
 -- The edge leads to that postcondition.
 abbrev pub leads_to : ℕ → ℕ → Edge → Bool

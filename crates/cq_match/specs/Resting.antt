@@ -2,7 +2,7 @@
 -- (what a node rests on: this project's profile)
 use Rattle.std.specs.Prelude.{◌≡◌, ◌↔◌, ℕ, Bool, true, List, [], ◌∷◌, ◌++◌, filter}
 use Rattle.std.specs.List.{Contains}
-use Rattle.cq_match.specs.declared.edge.Edge.{Edge}
+use Rattle.cq_atom.specs.declared.edge.Edge.{Edge}
 use Rattle.cq_match.specs.declared.falls.Fall.{Fall}
 use Rattle.cq_match.specs.declared.falls.Reason.TheVariants.{Unmet}
 use Rattle.cq_match.specs.Graph.{edges_to}
@@ -24,3 +24,8 @@ pub record EndsWith (falls : List Fall) (node : ℕ) : Type 0 where
   pub last : Fall
   pub splits : falls ≡ front ++ last ∷ []
   pub itself : last.node ≡ node
+
+-- What contracts see of the parts of a list: the edges of a graph, and a list that is falling in it.
+pub record RestingRecord : Type 0 where
+  pub edges : List Edge
+  pub falls : List Fall

@@ -7,7 +7,7 @@
 ghost use Rattle.std.specs.Prelude.{◌≡◌, ◌==◌, ◌++◌, ◌<◌, ◌≤◌, ◌+◌, ◌↔◌, ◌⊎◌, ◌&&◌, not, ℕ, Bool, true, false, List, length, sum, count_by, slice_index, vec_len, IfOk, OnOk, SomeIndex, nat_eq};
 ghost use Rattle.std.specs.List.{All, AllZip, Any, Contains, IsDistinct};
 ghost use Rattle.std.specs.List.Sorted.{IsNonDecreasingBy, IsStrictlyIncreasing};
-ghost use Rattle.cq_match.specs.declared.edge.Edge.{Edge};
+ghost use Rattle.cq_atom.specs.declared.edge.Edge.{Edge};
 ghost use Rattle.cq_match.specs.Falling.{fallen, IsFirstReason, IsFalling, IsUnmatched, CanFall, AreAllRounds};
 ghost use Rattle.cq_match.specs.Matched.{numbers};
 ghost use Rattle.std.specs.Set.{is_member};
@@ -15,9 +15,9 @@ ghost use Rattle.cq_match.specs.Steps.Falls.{IsFallOf};
 ghost use Rattle.cq_match.specs.Steps.Places.{slots_of_node, slots_at, IsRanked, AreSlots, AreOffersOf};
 ghost use Rattle.cq_match.specs.Steps.Settle.{stands, is_into, feeds};
 
-use crate::Edge;
 use crate::matched::{Slots, offers_of, ranked, slots_of};
 use crate::settle::{Offer, counts_of, drop_offers, offers_from, unfed};
+use cq_atom::Edge;
 use std::alloc::{AllocError, Allocator};
 
 /// Why a node falls.

@@ -12,6 +12,9 @@
 //! [`falling`] tells why the other nodes are not matched: a list in which each of them stands with a reason, that it is not able, or
 //! a postcondition all of whose edges come from nodes that stand earlier (`specs/Falling`). It lets places fall in rounds.
 //!
+//! [`Parts`] tells of such a list the part on which a node rests (`specs/Resting`), by the places of the falls; [`part_for`] tells one
+//! part alone. [`edges_into`] finds the edges to a waiter by halving.
+//!
 //! [`Matcher`] keeps the matched nodes of a graph while nodes come, go, become able and cease to be so (`specs/Matcher`):
 //! an edit costs what it touches, and the matched nodes after it are those that `greatest` finds.
 //!
@@ -19,7 +22,7 @@
 #![tactic(auto)]
 
 mod counts;
-mod edge;
+mod crowd;
 mod falls;
 mod graph;
 mod marks;
@@ -29,8 +32,8 @@ mod resting;
 mod settle;
 mod showing;
 
-pub use edge::{Edge, is_crowd};
+pub use crowd::is_crowd;
 pub use falls::{Fall, Reason, falling};
 pub use matched::greatest;
 pub use matcher::Matcher;
-pub use resting::part_for;
+pub use resting::{Parts, edges_into, part_for};

@@ -9,8 +9,8 @@ ghost use Rattle.cq_match.specs.Matched.{is_matched, numbers};
 ghost use Rattle.cq_match.specs.Steps.Places.{number_at, slots_of_node, IsRanked, AreSlots, IsOfferOf, AreOffersOf};
 ghost use Rattle.cq_match.specs.Steps.Settle.{stands};
 
-use crate::Edge;
 use crate::settle::{Offer, settled};
+use cq_atom::Edge;
 use std::alloc::{AllocError, Allocator};
 
 /// The nodes in rising order of their numbers.

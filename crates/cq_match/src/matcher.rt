@@ -5,17 +5,16 @@ ghost use Rattle.std.specs.List.{All, Any, Contains};
 ghost use Rattle.std.specs.List.Sorted.{IsPermutation, IsSorted};
 ghost use Rattle.std.specs.Set.{is_member};
 ghost use Rattle.cq_match.specs.Graph.{provider_count};
-ghost use Rattle.cq_match.specs.declared.edge.Edge.{Edge};
+ghost use Rattle.cq_atom.specs.declared.edge.Edge.{Edge};
 ghost use Rattle.cq_match.specs.Matched.{is_matched, numbers};
 ghost use Rattle.cq_match.specs.Matcher.{nothing, has_node, with_flag, without, with_number, is_apart, lost, leaves, waiter_cmp};
 ghost use Rattle.cq_match.specs.Steps.Kept.{is_able, nodes_from, edges_from, marked_from, IsKept};
 
 use crate::counts::Counts;
-use crate::edge::Edge;
 use crate::graph::{Graph, Leaving, Out, Place, lower_totals};
 use crate::marks::Marks;
 use crate::showing::{copied_graph, copied_marks, waiters_of};
-use cq_atom::Meter;
+use cq_atom::{Edge, Meter};
 use std::alloc::{AllocError, Allocator, Global};
 use std::marker::Model;
 use std::mem::{drop, replace};
@@ -237,11 +236,11 @@ impl<A: Allocator> Matcher<A> {
         if self.graph.places[node].able {
             return Ok(());
         }
-        self.wake(node)
+        self.make_able(node)
     }
 
     /// Lets the node be able that was not. Where a postcondition of it has no edge, it looks at no other node.
-    fn wake(&mut self, node: usize) -> Result<(), AllocError>
+    fn make_able(&mut self, node: usize) -> Result<(), AllocError>
         requires there { has_node node self.old ≡ true }
         requires unable { is_able node self.old.nodes ≡ false }
         ensures nodes { OnOk result (self.new.nodes ≡ with_flag node true self.old.nodes) }
@@ -250,14 +249,14 @@ impl<A: Allocator> Matcher<A> {
         ensures err { OnErr result (self.new ≡ self.old) }
     {
         if !self.graph.totals[node].has_none() {
-            return self.rouse(node);
+            return self.make_able_and_revive(node);
         }
         self.graph.places[node].able = true;
         Ok(())
     }
 
     /// Lets the node be able that was not, and looks at all nodes that may be matched by that.
-    fn rouse(&mut self, node: usize) -> Result<(), AllocError>
+    fn make_able_and_revive(&mut self, node: usize) -> Result<(), AllocError>
         requires there { has_node node self.old ≡ true }
         requires unable { is_able node self.old.nodes ≡ false }
         ensures nodes { OnOk result (self.new.nodes ≡ with_flag node true self.old.nodes) }
@@ -364,7 +363,7 @@ impl<A: Allocator> Matcher<A> {
     {
         self.link_all(node, edges)?;
         if able {
-            self.wake(node)?;
+            self.make_able(node)?;
         }
         Ok(())
     }

@@ -5,9 +5,9 @@ ghost use Rattle.std.specs.List.Sorted.{IsPermutation, IsSorted};
 ghost use Rattle.cq_match.specs.Matcher.{waiter_cmp};
 ghost use Rattle.cq_match.specs.Steps.Kept.{edges_left};
 
-use crate::Edge;
 use crate::graph::{Graph, Out, is_live};
 use crate::marks::Marks;
+use cq_atom::Edge;
 use std::alloc::{AllocError, Allocator};
 
 /// The edges that leave the node, by waiter, post and head; none where it has no place.

@@ -5,7 +5,4 @@ pub mod Arrays
 pub mod Ordered
 pub mod Walked
 mod Explained
-mod Rested
-mod Wanting
-mod Parts
 pub mod Numbers

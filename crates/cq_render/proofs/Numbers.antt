@@ -24,7 +24,7 @@ use Rattle.cq_board.specs.Board.{is_able, is_matched_at, nodes_of, place_of}
 use Rattle.cq_board.specs.Waiting.{is_waiting}
 use Rattle.cq_render.proofs.Pieces.{by_bool}
 use Rattle.cq_render.specs.Steps.Falls.{AreFalls}
-use Rattle.cq_render.specs.Steps.Resting.{first_of}
+use Rattle.cq_render.specs.Steps.Numbering.{first_of}
 
 -- what three clauses say of a value
 pub all_three : {X Y : Type 0} (r : Result X Y) (P Q R S : X → Type 0) → ((x : X) → P x → Q x → R x → S x) → IfOk r P → IfOk r Q → IfOk r R → IfOk r S
@@ -64,7 +64,7 @@ module _ (pool : PoolRecord) where
       subst (Contains (numbers (nodes_of pool))) (number_at n 0 low)
       (Contains-get_or (numbers (nodes_of pool)) n 0 (let m = how_many in omega (arith, low, m)))
 
-  pub falls_low : (falls : List Fall) → AreFalls pool falls → All (λ (fall : Fall). fall.node < length pool.pending) falls
+  falls_low : (falls : List Fall) → AreFalls pool falls → All (λ (fall : Fall). fall.node < length pool.pending) falls
   falls_low falls all =
       let d : Fall = record { node = 0; reason = NotAble } in
       All-from_get_or (λ (fall : Fall). fall.node < length pool.pending) falls d
@@ -142,10 +142,6 @@ position_more {X} p xs i d low =
 pub first_alone : (found : Option ℕ) → first_of found None ≡ found
 first_alone None = refl
 first_alone (Some n) = refl
-
-pub first_there : (found other : Option ℕ) → is_some found ≡ true → first_of found other ≡ found
-first_there None other h = absurd (let never : false ≡ true = h in cc)
-first_there (Some n) other h = refl
 
 pub first_new : (found other : Option ℕ) → is_some found ≡ false → first_of found other ≡ other
 first_new None other h = refl

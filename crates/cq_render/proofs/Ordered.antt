@@ -4,8 +4,8 @@ use Rattle.std.specs.List.{AllByRecursion, flat_map, enumerate_from}
 use Rattle.std.specs.List.Sorted.{IsNonDecreasingBy}
 use Rattle.std.proofs.lemmas.Bool.{eqb-true}
 use Rattle.cq_atom.specs.Atom.{AtomRecord}
-use Rattle.cq_match.specs.declared.edge.Edge.{Edge}
-use Rattle.cq_board.specs.Supply.{unifies}
+use Rattle.cq_atom.specs.declared.edge.Edge.{Edge}
+use Rattle.cq_board.proofs.CallerLemmas.{unifies}
 use Rattle.cq_board.specs.Pool.{PendingQuery}
 use Rattle.cq_board.specs.Edges.{edge_if, edges_into, edges_of}
 use Rattle.cq_render.proofs.Pieces.{by_bool}

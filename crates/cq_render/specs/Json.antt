@@ -9,7 +9,7 @@ use Rattle.cq_atom.specs.Query.{QueryRecord, variables_of}
 use Rattle.cq_text.specs.Print.{printed_query}
 use Rattle.cq_rel.specs.Tables.{Declaration, TablesRecord, rows_in}
 use Rattle.cq_ground.specs.Grounding.{groundings_of}
-use Rattle.cq_match.specs.declared.edge.Edge.{Edge}
+use Rattle.cq_atom.specs.declared.edge.Edge.{Edge}
 use Rattle.cq_match.specs.Graph.{edges_to, is_crowd}
 use Rattle.cq_board.specs.Pool.{PendingQuery, PoolRecord}
 use Rattle.cq_board.specs.Edges.{edges_of}

@@ -14,20 +14,20 @@ ghost use Rattle.cq_render.specs.Report.{state_word};
 ghost use Rattle.cq_render.specs.Json.{array_of, value_json, relation_json, provider_json, post_json, posts_json, grounding_json, query_json, json_of};
 ghost use Rattle.cq_render.specs.Steps.Walking.{shown_json, shown_read};
 
+use crate::json_text::JsonText;
 use crate::limits::MOST_KEPT;
-use crate::sheet::Sheet;
 use crate::walking::{Listing, Shown, name_or_none, providers, walk};
 use crate::words::{row_count, state_word};
-use cq_atom::{Query, Value};
+use cq_atom::{Edge, Query, Value};
 use cq_board::Board;
 use cq_ground::Groundings;
-use cq_match::{Edge, is_crowd};
+use cq_match::is_crowd;
 use cq_rel::Tables;
 use cq_text::print_query;
 use std::alloc::{AllocError, Allocator};
 
 fn put_relation<A: Allocator>(
-    sheet: &mut Sheet<A>,
+    sheet: &mut JsonText<A>,
     tables: &Tables<A>,
     relation: &str,
     arity: usize,
@@ -43,7 +43,10 @@ fn put_relation<A: Allocator>(
 }
 
 /// Puts the declared relations.
-fn put_relations<A: Allocator>(sheet: &mut Sheet<A>, tables: &Tables<A>) -> Result<(), AllocError>
+fn put_relations<A: Allocator>(
+    sheet: &mut JsonText<A>,
+    tables: &Tables<A>,
+) -> Result<(), AllocError>
     ensures { OnOk result (sheet.new ≡ sheet.old ++ json_tokens (array_of (map (relation_json tables.now) tables.now.catalog))) }
 {
     let catalog = tables.catalog();
@@ -59,7 +62,7 @@ fn put_relations<A: Allocator>(sheet: &mut Sheet<A>, tables: &Tables<A>) -> Resu
 }
 
 fn put_provider<A: Allocator>(
-    sheet: &mut Sheet<A>,
+    sheet: &mut JsonText<A>,
     listing: &Listing<'_, A>,
     edge: &Edge,
 ) -> Result<(), AllocError>
@@ -73,7 +76,7 @@ fn put_provider<A: Allocator>(
 
 /// Puts the providers of a postcondition.
 fn put_providers<A: Allocator>(
-    sheet: &mut Sheet<A>,
+    sheet: &mut JsonText<A>,
     listing: &Listing<'_, A>,
     providers: &[Edge],
 ) -> Result<(), AllocError>
@@ -88,7 +91,7 @@ fn put_providers<A: Allocator>(
 
 /// Puts a postcondition, to which these edges lead.
 fn put_post<A: Allocator>(
-    sheet: &mut Sheet<A>,
+    sheet: &mut JsonText<A>,
     listing: &Listing<'_, A>,
     providers: &[Edge],
 ) -> Result<(), AllocError>
@@ -104,7 +107,7 @@ fn put_post<A: Allocator>(
 
 /// Puts the postconditions of the query.
 fn put_posts<A: Allocator>(
-    sheet: &mut Sheet<A>,
+    sheet: &mut JsonText<A>,
     listing: &Listing<'_, A>,
     shown: &Shown<'_, A>,
 ) -> Result<(), AllocError>
@@ -119,7 +122,7 @@ fn put_posts<A: Allocator>(
 
 /// Puts names of variables.
 fn put_variables<A: Allocator>(
-    sheet: &mut Sheet<A>,
+    sheet: &mut JsonText<A>,
     variables: &[String<A>],
 ) -> Result<(), AllocError>
     ensures { OnOk result (sheet.new ≡ sheet.old ++ json_tokens (array_of (map values.string (map string_bytes variables.now)))) }
@@ -131,7 +134,7 @@ fn put_variables<A: Allocator>(
     sheet.end_array()
 }
 
-fn put_number<A: Allocator>(sheet: &mut Sheet<A>, number: i64) -> Result<(), AllocError>
+fn put_number<A: Allocator>(sheet: &mut JsonText<A>, number: i64) -> Result<(), AllocError>
     ensures { OnOk result (sheet.new ≡ sheet.old ++ json_tokens (value_json (Number number))) }
 {
     if number.unsigned_abs() <= MOST_KEPT {
@@ -141,7 +144,7 @@ fn put_number<A: Allocator>(sheet: &mut Sheet<A>, number: i64) -> Result<(), All
     }
 }
 
-fn put_value<A: Allocator>(sheet: &mut Sheet<A>, value: &Value<A>) -> Result<(), AllocError>
+fn put_value<A: Allocator>(sheet: &mut JsonText<A>, value: &Value<A>) -> Result<(), AllocError>
     ensures { OnOk result (sheet.new ≡ sheet.old ++ json_tokens (value_json value.now)) }
 {
     if let Some(number) = value.as_num() {
@@ -154,7 +157,7 @@ fn put_value<A: Allocator>(sheet: &mut Sheet<A>, value: &Value<A>) -> Result<(),
 }
 
 /// Puts the values of a grounding.
-fn put_values<A: Allocator>(sheet: &mut Sheet<A>, values: &[Value<A>]) -> Result<(), AllocError>
+fn put_values<A: Allocator>(sheet: &mut JsonText<A>, values: &[Value<A>]) -> Result<(), AllocError>
     ensures { OnOk result (sheet.new ≡ sheet.old ++ json_tokens (grounding_json values.now)) }
 {
     sheet.begin_array()?;
@@ -166,7 +169,7 @@ fn put_values<A: Allocator>(sheet: &mut Sheet<A>, values: &[Value<A>]) -> Result
 
 /// Puts groundings.
 fn put_groundings<A: Allocator>(
-    sheet: &mut Sheet<A>,
+    sheet: &mut JsonText<A>,
     groundings: &Groundings<A>,
 ) -> Result<(), AllocError>
     ensures { OnOk result (sheet.new ≡ sheet.old ++ json_tokens (array_of (map grounding_json groundings.now))) }
@@ -181,7 +184,7 @@ fn put_groundings<A: Allocator>(
 /// Puts the beginning of a query: its name, whether it is matched, and its printed form.
 fn put_heading<A: Allocator + Copy>(
     alloc: A,
-    sheet: &mut Sheet<A>,
+    sheet: &mut JsonText<A>,
     name: &str,
     matched: bool,
     query: &Query<A>,
@@ -196,8 +199,8 @@ fn put_heading<A: Allocator + Copy>(
 }
 
 /// Puts the end of a query: the variables of its body, and its groundings.
-fn put_findings<A: Allocator>(
-    sheet: &mut Sheet<A>,
+fn put_grounded<A: Allocator>(
+    sheet: &mut JsonText<A>,
     query: &Query<A>,
     groundings: &Groundings<A>,
 ) -> Result<(), AllocError>
@@ -213,7 +216,7 @@ fn put_findings<A: Allocator>(
 /// Puts the query.
 fn put_query<A: Allocator + Copy>(
     alloc: A,
-    sheet: &mut Sheet<A>,
+    sheet: &mut JsonText<A>,
     listing: &Listing<'_, A>,
     shown: &Shown<'_, A>,
 ) -> Result<(), AllocError>
@@ -223,13 +226,13 @@ fn put_query<A: Allocator + Copy>(
     put_heading(alloc, sheet, name, shown.matched, shown.query)?;
     sheet.key("postconditions")?;
     put_posts(sheet, listing, shown)?;
-    put_findings(sheet, shown.query, shown.groundings)
+    put_grounded(sheet, shown.query, shown.groundings)
 }
 
 /// Puts each pending query.
 fn put_each<A: Allocator + Copy>(
     alloc: A,
-    sheet: &mut Sheet<A>,
+    sheet: &mut JsonText<A>,
     listing: &Listing<'_, A>,
 ) -> Result<(), AllocError>
     ensures { OnOk result (sheet.new ≡ sheet.old ++ json_tokens (array_of (map (query_json listing.now.board.now) (enumerate_from 0 listing.now.board.now.pending)))) }
@@ -244,7 +247,7 @@ fn put_each<A: Allocator + Copy>(
 /// Puts the pending queries of a board.
 fn put_queries<A: Allocator + Copy>(
     alloc: A,
-    sheet: &mut Sheet<A>,
+    sheet: &mut JsonText<A>,
     board: &Board<A>,
 ) -> Result<(), AllocError>
     ensures { OnOk result (sheet.new ≡ sheet.old ++ json_tokens (array_of (map (query_json board.now) (enumerate_from 0 board.now.pending)))) }
@@ -256,7 +259,7 @@ fn put_queries<A: Allocator + Copy>(
 /// Puts a board.
 fn put_board<A: Allocator + Copy>(
     alloc: A,
-    sheet: &mut Sheet<A>,
+    sheet: &mut JsonText<A>,
     board: &Board<A>,
 ) -> Result<(), AllocError>
     ensures { OnOk result (sheet.new ≡ sheet.old ++ json_tokens (json_of board.now)) }
@@ -276,7 +279,7 @@ fn put_board<A: Allocator + Copy>(
 pub fn json<A: Allocator + Copy>(alloc: A, board: &Board<A>) -> Result<String<A>, AllocError>
     ensures { IfOk result (λ text. string_bytes text ≡ print (json_tokens (json_of board.now))) }
 {
-    let mut sheet = Sheet::begin(alloc);
+    let mut sheet = JsonText::begin(alloc);
     put_board(alloc, &mut sheet, board)?;
     Ok(sheet.into_text())
 }

@@ -12,30 +12,27 @@ ghost use Rattle.cq_board.specs.Named.{matched_named};
 ghost use Rattle.cq_board.specs.Near.{miss_read, post_named};
 ghost use Rattle.cq_board.specs.Waiting.{is_waiting, IsReasonPart};
 ghost use Rattle.cq_render.specs.Steps.Falls.{AreFalls};
-ghost use Rattle.cq_render.specs.Steps.Resting.{ArePlaces};
 ghost use Rattle.cq_render.specs.Explain.{ArePieces, AreProviders, IsExplanation, atom_or_none, head_named, name_of_number, near_words, missing_words, wait_word, only_words, IsUnmetTold, IsReasonTold, IsStep, IsToldBy, IsTold, waiting_names};
 
 use crate::numbering::{Numbers, numbers_of};
-use crate::resting::{part_at, place_in, places_of};
 use crate::walking::{Listing, name_or_none, providers, walk};
-use cq_atom::{Atom, Bad, Name};
+use cq_atom::{Atom, Bad, Edge, Name};
 use cq_board::{Board, Heads, NearMiss};
-use cq_match::{Edge, Fall, Reason};
+use cq_match::{Fall, Parts, Reason};
 use cq_text::print_atom;
 use std::alloc::{AllocError, Allocator};
 
-/// What a board lists, the heads by relation and arity, and the falls of the queries that wait; the number of each name, and the
-/// place of each fall by its number.
+/// What a board lists, the heads by relation and arity, the number of each name, and the parts of the falls of the queries that
+/// wait.
 #[derive(Drop)]
 struct Fallen<'l, 'b, A: Allocator> {
     listing: &'l Listing<'b, A>,
     heads: &'l Heads<'b, A>,
-    falls: &'l [Fall],
     numbers: &'l Numbers<'b, A>,
-    places: &'l [usize],
+    parts: &'l Parts<'l, A>,
     ghost offered: { heads.now ≡ listing.now.board.now },
     ghost numbered: { (name : List ℕ) → get_by (λ k. bytes_eq name k.now) numbers.now ≡ place_of name listing.now.board.now.pending },
-    ghost placed: { ArePlaces falls.now places.now },
+    ghost linked: { parts.now.edges ≡ edges_of listing.now.board.now.pending },
 }
 
 /// The atom in its printed form; nothing where there is none.
@@ -285,23 +282,15 @@ fn put_steps<A: Allocator + Copy>(
 
 /// The part of the falls that tells why the query of that number waits.
 fn part_of<A: Allocator + Copy>(
-    alloc: A,
     fallen: &Fallen<'_, '_, A>,
     number: usize,
 ) -> Result<Vec<Fall, A>, AllocError>
-    requires fell { AreFalls fallen.now.listing.now.board.now fallen.now.falls.now }
+    requires fell { AreFalls fallen.now.listing.now.board.now fallen.now.parts.now.falls }
     requires waits { IsUnmatched (nodes_of fallen.now.listing.now.board.now) (edges_of fallen.now.listing.now.board.now.pending) number }
     ensures low { IfOk result (λ part. All (λ fall. fall.node < length fallen.now.listing.now.queries.items) part.items) }
     ensures part { IfOk result (λ part. IsReasonPart fallen.now.listing.now.board.now number part.items) }
 {
-    let place = place_in(fallen.places, number);
-    part_at(
-        alloc,
-        &fallen.listing.edges,
-        fallen.falls,
-        fallen.places,
-        place,
-    )
+    fallen.parts.part(number)
 }
 
 /// Why the query of that name and number waits.
@@ -311,12 +300,12 @@ fn waiting_words<A: Allocator + Copy>(
     name: &Name<A>,
     number: usize,
 ) -> Result<String<A>, AllocError>
-    requires fell { AreFalls fallen.now.listing.now.board.now fallen.now.falls.now }
+    requires fell { AreFalls fallen.now.listing.now.board.now fallen.now.parts.now.falls }
     requires there { place_of name.now fallen.now.listing.now.board.now.pending ≡ Some number }
     requires waits { is_waiting name.now fallen.now.listing.now.board.now ≡ true }
     ensures { IfOk result (λ text. IsExplanation fallen.now.listing.now.board.now name.now (string_bytes text)) }
 {
-    let part = part_of(alloc, fallen, number)?;
+    let part = part_of(fallen, number)?;
     let mut steps = String::new(alloc);
     put_steps(alloc, fallen, &part, &mut steps)?;
     let name = name.as_str();
@@ -360,7 +349,7 @@ fn told_of_name<A: Allocator + Copy>(
     fallen: &Fallen<'_, '_, A>,
     name: &Name<A>,
 ) -> Result<String<A>, AllocError>
-    requires fell { AreFalls fallen.now.listing.now.board.now fallen.now.falls.now }
+    requires fell { AreFalls fallen.now.listing.now.board.now fallen.now.parts.now.falls }
     ensures { IfOk result (λ text. IsToldBy (matched_named name.now fallen.now.listing.now.board.now) fallen.now.listing.now.board.now name.now (string_bytes text)) }
 {
     if !is_waiting(fallen.listing.board, name) {
@@ -377,7 +366,7 @@ fn told<A: Allocator + Copy>(
     fallen: &Fallen<'_, '_, A>,
     word: &str,
 ) -> Result<String<A>, AllocError>
-    requires fell { AreFalls fallen.now.listing.now.board.now fallen.now.falls.now }
+    requires fell { AreFalls fallen.now.listing.now.board.now fallen.now.parts.now.falls }
     ensures { IfOk result (λ text. IsTold fallen.now.listing.now.board.now word.now (string_bytes text)) }
 {
     match Name::new(alloc, word) {
@@ -394,7 +383,7 @@ fn put_told<A: Allocator + Copy>(
     words: &[&str],
     page: &mut String<A>,
 ) -> Result<(), AllocError>
-    requires fell { AreFalls fallen.now.listing.now.board.now fallen.now.falls.now }
+    requires fell { AreFalls fallen.now.listing.now.board.now fallen.now.parts.now.falls }
     ensures { string_bytes page.old ≡ [] → OnOk result (ArePieces (IsTold fallen.now.listing.now.board.now) (map (λ word. word.now) words.now) (string_bytes page.new)) }
 {
     for word in words {
@@ -417,13 +406,12 @@ fn put_words<A: Allocator + Copy>(
     let heads = board.heads()?;
     let falls = board.falls()?;
     let numbers = numbers_of(alloc, &listing)?;
-    let places = places_of(alloc, &falls, listing.queries.len())?;
+    let parts = Parts::begin(alloc, &listing.edges, &falls)?;
     let fallen = Fallen {
         listing: &listing,
         heads: &heads,
-        falls: &falls,
         numbers: &numbers,
-        places: &places,
+        parts: &parts,
     };
     put_told(alloc, &fallen, words, page)
 }

@@ -10,9 +10,9 @@ use crate::page::put;
 use crate::quoting::quoted_atom;
 use crate::walking::{Listing, Shown, providers, walk};
 use crate::words::state_word;
-use cq_atom::Atom;
+use cq_atom::{Atom, Edge};
 use cq_board::Board;
-use cq_match::{Edge, is_crowd};
+use cq_match::is_crowd;
 use std::alloc::{AllocError, Allocator};
 
 fn border(matched: bool) -> &'static str

@@ -10,13 +10,12 @@
 mod data;
 mod explaining;
 mod graphing;
+mod json_text;
 mod limits;
 mod numbering;
 mod page;
 mod quoting;
 mod reporting;
-mod resting;
-mod sheet;
 mod walking;
 mod words;
 

@@ -4,7 +4,7 @@ ghost use Rattle.std.specs.Prelude.{◌≡◌, ℕ, List, if◌then◌else◌, S
 ghost use Rattle.std.specs.HashMap.{get_by};
 ghost use Rattle.std.specs.Str.{bytes_eq};
 ghost use Rattle.cq_board.specs.Board.{place_of};
-ghost use Rattle.cq_render.specs.Steps.Resting.{first_of};
+ghost use Rattle.cq_render.specs.Steps.Numbering.{first_of};
 
 use crate::walking::Listing;
 use std::alloc::{AllocError, Allocator};

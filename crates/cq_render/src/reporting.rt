@@ -9,10 +9,10 @@ ghost use Rattle.cq_render.specs.Steps.Walking.{shown_lines, shown_read};
 
 use crate::walking::{Listing, Shown, name_or_none, providers, walk};
 use crate::words::{row_count, state_word};
-use cq_atom::{Name, Query, Value};
+use cq_atom::{Edge, Name, Query, Value};
 use cq_board::Board;
 use cq_ground::Groundings;
-use cq_match::{Edge, is_crowd};
+use cq_match::is_crowd;
 use cq_rel::Tables;
 use cq_text::{push_query, push_values};
 use std::alloc::{AllocError, Allocator};

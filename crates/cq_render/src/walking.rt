@@ -10,10 +10,10 @@ ghost use Rattle.cq_board.specs.Edges.{edges_of};
 ghost use Rattle.cq_board.specs.Board.{name_at, name_or_none};
 ghost use Rattle.cq_render.specs.Steps.Walking.{all_shown, shown_of, shown_read};
 
-use cq_atom::{Name, Query};
+use cq_atom::{Edge, Name, Query};
 use cq_board::Board;
 use cq_ground::Groundings;
-use cq_match::Edge;
+use cq_match::edges_into;
 use std::alloc::{AllocError, Allocator};
 
 /// A pending query, with what the board shows of it.
@@ -104,18 +104,6 @@ pub(crate) fn name_or_none<'b, A: Allocator>(listing: &Listing<'b, A>, number: u
         Some(shown) => shown.name.as_str(),
         None => "",
     }
-}
-
-/// The edges to the query of that number, which stand side by side.
-pub(crate) fn edges_into(edges: &[Edge], waiter: usize) -> &[Edge]
-    requires { IsNonDecreasingBy (λ edge. edge.waiter) edges.now }
-    ensures { result.now ≡ filter (λ edge. edge.waiter == waiter) edges.now }
-{
-    let below = edges.partition_point(|edge| edge.waiter < waiter);
-    let (_, rest) = edges.split_at(below);
-    let count = rest.partition_point(|edge| edge.waiter <= waiter);
-    let (at, _) = rest.split_at(count);
-    at
 }
 
 /// Those of the edges that lead to a postcondition at that place, which stand side by side.

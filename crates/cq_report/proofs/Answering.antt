@@ -9,8 +9,10 @@ use Rattle.cq_text.specs.Grammar.{CommandContent, StandsFor}
 use Rattle.cq_text.specs.Fault.{FirstFault}
 use Rattle.cq_text.specs.Views.{OrNoMemory, OfFault}
 use Rattle.cq_report.specs.declared.output.Output.{Output}
-use Rattle.cq_report.specs.declared.fault.RunFault.{RunFault}
+use Rattle.cq_report.specs.declared.fault.ReplyFault.{ReplyFault}
+use Rattle.cq_report.specs.declared.fault.ReplyFault.TheVariants as replies
 use Rattle.cq_report.specs.declared.fault.RunFault.TheVariants as faults
+use Rattle.cq_report.specs.Steps.Replies.{fault_of_reply}
 use Rattle.cq_report.specs.Steps.Written.{Puts, Breaks, Fails}
 use Rattle.cq_report.specs.Reading.{Reading, Reads, Faulty, IsReading}
 use Rattle.cq_report.specs.Machine.{State, served, unnumbered}
@@ -46,60 +48,42 @@ pub the_fault : (form : Form) (line : List ℕ) (fault : TextFault) (kind : Kind
 the_fault form line fault kind offset is h = rw is at h
 
 module _ {W A : Type 0} (taken : W → Option (List ℕ)) (failures : W → ℕ) (first now : Output W A) where
-  -- bytes that were put, by the clauses of the buffer
-  pub Put-from : (bytes : List ℕ) (r : Result (Unit {0}) RunFault) → OnOk r (Puts taken failures first now (led first.lead.now bytes)) → IfErr r (λ fault. Breaks taken failures first now (led first.lead.now bytes) fault) → IfErr r (λ fault. fault ≡ faults.Write)
-      → Put taken failures first now bytes r
-  Put-from bytes (Ok done) ok err is = ok
-  Put-from bytes (Err faults.Write) ok err is = (err, (λ h. h), tt, tt)
-  Put-from bytes (Err faults.NoMemory) ok err is = cc
-  Put-from bytes (Err faults.Places) ok err is = cc
-  Put-from bytes (Err faults.Thread) ok err is = cc
-  Put-from bytes (Err (faults.Read turn)) ok err is = cc
+  -- bytes behind what stands before them
+  pub Puts-led : (mid : Output W A) (bytes : List ℕ) → led first.lead.now bytes ≡ lead_bytes first.lead.now ++ bytes → Puts taken failures first mid (lead_bytes first.lead.now) → Puts taken failures mid now bytes → Puts taken failures first now (led first.lead.now bytes)
+  Puts-led mid bytes e p q = subst (Puts taken failures first now) (sym e) (Puts-then taken failures first mid now (lead_bytes first.lead.now) bytes p q)
 
-  -- bytes behind what stands before them, by the clauses of the buffer
-  pub Put-led : (mid : Output W A) (bytes : List ℕ) → led first.lead.now bytes ≡ lead_bytes first.lead.now ++ bytes → Puts taken failures first mid (lead_bytes first.lead.now) → (r : Result (Unit {0}) RunFault)
-      → OnOk r (Puts taken failures mid now bytes) → IfErr r (λ fault. Breaks taken failures mid now bytes fault) → IfErr r (λ fault. fault ≡ faults.Write) → Put taken failures first now bytes r
-  Put-led mid bytes e p (Ok done) ok err is = subst (Puts taken failures first now) (sym e) (Puts-then taken failures first mid now (lead_bytes first.lead.now) bytes p ok)
-  Put-led mid bytes e p (Err faults.Write) ok err is =
-      (subst (λ (bs : List ℕ). Breaks taken failures first now bs faults.Write) (sym e) (Puts-breaks taken failures first mid now (lead_bytes first.lead.now) bytes faults.Write p err), (λ h. h), tt, tt)
-  Put-led mid bytes e p (Err faults.NoMemory) ok err is = cc
-  Put-led mid bytes e p (Err faults.Places) ok err is = cc
-  Put-led mid bytes e p (Err faults.Thread) ok err is = cc
-  Put-led mid bytes e p (Err (faults.Read turn)) ok err is = cc
+  -- the writer failed at the bytes, and at what stands before them
+  pub Put-led : (mid : Output W A) (bytes : List ℕ) → led first.lead.now bytes ≡ lead_bytes first.lead.now ++ bytes → Puts taken failures first mid (lead_bytes first.lead.now) → Breaks taken failures mid now bytes faults.Write → Put taken failures first now bytes (Err replies.Write)
+  Put-led mid bytes e p err = (subst (λ (bs : List ℕ). Breaks taken failures first now bs faults.Write) (sym e) (Puts-breaks taken failures first mid now (lead_bytes first.lead.now) bytes faults.Write p err), tt)
 
-  pub Put-unled : (bytes : List ℕ) → led first.lead.now bytes ≡ lead_bytes first.lead.now ++ bytes → (fault : RunFault) → Breaks taken failures first now (lead_bytes first.lead.now) fault → fault ≡ faults.Write → Put taken failures first now bytes (Err fault)
-  Put-unled bytes e faults.Write err is =
-      (subst (λ (bs : List ℕ). Breaks taken failures first now bs faults.Write) (sym e) (Breaks-more taken failures first now (lead_bytes first.lead.now) bytes faults.Write err), (λ h. h), tt, tt)
-  Put-unled bytes e faults.NoMemory err is = cc
-  Put-unled bytes e faults.Places err is = cc
-  Put-unled bytes e faults.Thread err is = cc
-  Put-unled bytes e (faults.Read turn) err is = cc
+  pub Put-unled : (bytes : List ℕ) → led first.lead.now bytes ≡ lead_bytes first.lead.now ++ bytes → Breaks taken failures first now (lead_bytes first.lead.now) faults.Write → Put taken failures first now bytes (Err replies.Write)
+  Put-unled bytes e err = (subst (λ (bs : List ℕ). Breaks taken failures first now bs faults.Write) (sym e) (Breaks-more taken failures first now (lead_bytes first.lead.now) bytes faults.Write err), tt)
 
   module _ (form : Form) (old new : State) (line : List ℕ) (reading : Reading) (only : (other : Reading) → IsReading form line other → other ≡ reading) where
-    pub reads_ok : (r : Result (Unit {0}) RunFault) → OnOk r (new ≡ served old reading) → Put taken failures first now (unnumbered old reading) r
+    pub reads_ok : (r : Result (Unit {0}) ReplyFault) → OnOk r (new ≡ served old reading) → Put taken failures first now (unnumbered old reading) r
         → OnOk r ((other : Reading) → IsReading form line other → (new ≡ served old other) × Puts taken failures first now (led first.lead.now (unnumbered old other)))
     reads_ok (Ok done) s p = λ other h.
         let e = only other h in
         (subst (λ (o : Reading). new ≡ served old o) (sym e) s, subst (λ (o : Reading). Puts taken failures first now (led first.lead.now (unnumbered old o))) (sym e) p)
     reads_ok (Err fault) s p = tt
 
-    pub reads_err : (r : Result (Unit {0}) RunFault) → Put taken failures first now (unnumbered old reading) r
-        → IfErr r (λ fault. (other : Reading) → IsReading form line other → Breaks taken failures first now (led first.lead.now (unnumbered old other)) fault)
+    pub reads_err : (r : Result (Unit {0}) ReplyFault) → Put taken failures first now (unnumbered old reading) r
+        → IfErr r (λ fault. (other : Reading) → IsReading form line other → Breaks taken failures first now (led first.lead.now (unnumbered old other)) (fault_of_reply fault))
     reads_err (Ok done) p = tt
-    reads_err (Err fault) p = λ other h. subst (λ (o : Reading). Breaks taken failures first now (led first.lead.now (unnumbered old o)) fault) (sym (only other h)) p.0
+    reads_err (Err fault) p = λ other h. subst (λ (o : Reading). Breaks taken failures first now (led first.lead.now (unnumbered old o)) (fault_of_reply fault)) (sym (only other h)) p.0
 
-  pub put_fails : (bytes : List ℕ) (r : Result (Unit {0}) RunFault) → Put taken failures first now bytes r → IfErr r (λ fault. Fails failures first now fault)
+  pub put_fails : (bytes : List ℕ) (r : Result (Unit {0}) ReplyFault) → Put taken failures first now bytes r → IfErr r (λ fault. Fails failures first now (fault_of_reply fault))
   put_fails bytes (Ok done) p = tt
-  put_fails bytes (Err fault) p = record { writer = p.0.writer; failed = p.0.failed; no_read = p.1; of_output = p.2 }
+  put_fails bytes (Err fault) p = record { writer = p.0.writer; failed = p.0.failed }
 
   -- nothing was put where memory was wanting
-  pub put_nothing : (bytes : List ℕ) (r : Result (Unit {0}) RunFault) → Put taken failures first now bytes r → IfErr r (λ fault. IfMemory fault (Puts taken failures first now []))
+  pub put_nothing : (bytes : List ℕ) (r : Result (Unit {0}) ReplyFault) → Put taken failures first now bytes r → IfErr r (λ fault. IfMemory (fault_of_reply fault) (Puts taken failures first now []))
   put_nothing bytes (Ok done) p = tt
-  put_nothing bytes (Err fault) p = p.3
+  put_nothing bytes (Err fault) p = p.1
 
 -- memory was wanting before anything was put
 pub starved : {W A : Type 0} (taken : W → Option (List ℕ)) (failures : W → ℕ) (output : Output W A) (bytes : List ℕ) → Breaks taken failures output output bytes faults.NoMemory
 starved taken failures output bytes = Puts-starved taken failures output output [] bytes (Puts-nothing taken failures output)
 
-pub Put-starved : {W A : Type 0} (taken : W → Option (List ℕ)) (failures : W → ℕ) (output : Output W A) (bytes : List ℕ) → Put taken failures output output bytes (Err faults.NoMemory)
-Put-starved taken failures output bytes = (starved taken failures output (led output.lead.now bytes), (λ h. h), tt, Puts-nothing taken failures output)
+pub Put-starved : {W A : Type 0} (taken : W → Option (List ℕ)) (failures : W → ℕ) (output : Output W A) (bytes : List ℕ) → Put taken failures output output bytes (Err replies.NoMemory)
+Put-starved taken failures output bytes = (starved taken failures output (led output.lead.now bytes), Puts-nothing taken failures output)

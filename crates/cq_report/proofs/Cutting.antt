@@ -8,7 +8,7 @@ use Rattle.std.proofs.lemmas.List.Quantifiers.{position-Some}
 use Rattle.std.proofs.lemmas.List.Sums.{fails_before_first}
 use Rattle.std.proofs.lemmas.Bool.{cases_lt, eqb-true}
 use Rattle.cq_report.specs.Lines.{lines_of, whole_lines, before_first, before_whole}
-use Rattle.cq_report.specs.declared.line.TheConstants.{KEPT}
+use Rattle.cq_report.specs.declared.line_buffer.TheConstants.{KEPT}
 use Rattle.cq_report.specs.Steps.Kept.{kept}
 use Rattle.cq_report.specs.Steps.Serving.{HaveNoEnd, ended}
 use Rattle.cq_report.specs.Lines.{HasNoEnd}

@@ -3,7 +3,9 @@ use Rattle.std.proofs.Common.{◌≡◌, ℕ, List, [], ◌++◌, Option, IfSome
 use Rattle.std.specs.Io.KnownBytes.{Appends, Consumes}
 use Rattle.std.proofs.KnownBytes.{Consumes-whole, Consumes-trans}
 use Rattle.cq_report.specs.declared.output.Output.{Output}
-use Rattle.cq_text.specs.Device.{TakesFront}
+use Rattle.cq_devices.specs.Device.{TakesFront}
+use Rattle.cq_report.specs.declared.fault.ReplyFault.{ReplyFault}
+use Rattle.cq_report.specs.declared.fault.ReplyFault.TheVariants as replies
 use Rattle.cq_report.specs.declared.fault.RunFault.{RunFault}
 use Rattle.cq_report.specs.declared.fault.RunFault.TheVariants as faults
 use Rattle.cq_report.specs.declared.numbering.Numbering.{Numbering}
@@ -12,6 +14,7 @@ use Rattle.cq_report.specs.Lines.{lines_of, whole_lines}
 use Rattle.cq_report.specs.Reading.{Reading}
 use Rattle.cq_report.specs.Machine.{State, begin_state, pool_shown}
 use Rattle.cq_report.specs.Output.{AreReadings, output, pool_left}
+use Rattle.cq_report.specs.Steps.Replies.{fault_of_reply}
 use Rattle.cq_report.specs.Steps.Written.{Passes}
 use Rattle.cq_report.specs.Run.{IfRead, WroteWholeLines, WroteFront}
 use Rattle.cq_report.specs.Steps.Replay.{Replayed, BrokeOff, Ended}
@@ -30,9 +33,12 @@ Passes-all taken taken' held bytes held' p none none' =
 pub IfRead-weaker : (fault : RunFault) (P Q : ℕ → Type 0) → ((turn : ℕ) → P turn → Q turn) → IfRead fault P → IfRead fault Q
 IfRead-weaker (faults.Read turn) P Q f h = f turn h
 IfRead-weaker faults.Write P Q f h = tt
-IfRead-weaker faults.Places P Q f h = tt
-IfRead-weaker faults.Thread P Q f h = tt
 IfRead-weaker faults.NoMemory P Q f h = tt
+
+-- a fault of a reply is none of reading
+pub reply_read : (fault : ReplyFault) (P : ℕ → Type 0) → IfRead (fault_of_reply fault) P
+reply_read replies.Write P = tt
+reply_read replies.NoMemory P = tt
 
 module _ {W A : Type 0} (taken : W → Option (List ℕ)) (failures : W → ℕ) (numbering : Numbering) (opening : State) (left left' : Option (List ℕ)) (first now : Output W A) where
   -- all was read, and its output written

@@ -5,7 +5,7 @@ use Rattle.std.proofs.lemmas.List.{take_all, length-take}
 use Rattle.cq_text.specs.declared.form.Form.{Form}
 use Rattle.cq_text.specs.declared.form.Form.TheVariants.{One, Two}
 use Rattle.cq_text.specs.Forms.{most_bytes}
-use Rattle.cq_report.specs.declared.line.TheConstants.{KEPT}
+use Rattle.cq_report.specs.declared.line_buffer.TheConstants.{KEPT}
 use Rattle.cq_report.specs.Reading.{Reading, Reads, Faulty, IsReading}
 use Rattle.cq_report.specs.Steps.Kept.{kept}
 

@@ -2,6 +2,7 @@
 use Rattle.std.proofs.Common.{◌≡◌, ◌+◌, ◌≤◌, ◌∙◌, ℕ, suc, List, [], ◌∷◌, ◌++◌, ◌<◌, length, Option, None, Some, option_map, refl, subst, arith}
 use Rattle.std.specs.Prelude.{Result, Ok, Err, OnOk, String}
 use Rattle.cq_report.specs.declared.output.Output.{Output}
+use Rattle.cq_report.specs.declared.fault.ReplyFault.{ReplyFault}
 use Rattle.cq_report.specs.declared.fault.RunFault.{RunFault}
 use Rattle.cq_report.specs.Reading.{Reading, IsReading}
 use Rattle.cq_report.specs.Machine.{State, form_in, counted, served, unnumbered, numbered, next, reply}
@@ -32,7 +33,7 @@ module _ {W A : Type 0} (taken : W → Option (List ℕ)) (failures : W → ℕ)
   Breaks-since bytes fault p = record { writer = p.writer ∙ writer; failed = rw (← sink) p.failed; took = rw (← sink, ← held) p.took }
 
   pub Fails-since : (fault : RunFault) → Fails failures first now fault → Fails failures first0 now fault
-  Fails-since fault p = record { writer = p.writer ∙ writer; failed = rw (← sink) p.failed; no_read = p.no_read; of_output = p.of_output }
+  Fails-since fault p = record { writer = p.writer ∙ writer; failed = rw (← sink) p.failed }
 
   module _ (old new : State) (line : List ℕ) (leads : (told : List ℕ) → led first.lead.now told ≡ numbered old.lines told) where
     pub numbered_ok : ((reading : Reading) → IsReading (form_in old) line reading → (new ≡ served (counted old) reading) × Puts taken failures first now (led first.lead.now (unnumbered (counted old) reading)))
@@ -47,7 +48,7 @@ module _ {W A : Type 0} (taken : W → Option (List ℕ)) (failures : W → ℕ)
         subst (λ (bytes : List ℕ). Breaks taken failures first0 now bytes fault) (leads (unnumbered old reading)) (Breaks-since (led first.lead.now (unnumbered old reading)) fault (h reading is))
 
 -- one line more was counted
-pub lines_on : (X : Reading → Type 0) (old new : State) (line : List ℕ) (r : Result (Unit {0}) RunFault) → OnOk r ((reading : Reading) × IsReading (form_in old) line reading)
+pub lines_on : (X : Reading → Type 0) (old new : State) (line : List ℕ) (r : Result (Unit {0}) ReplyFault) → OnOk r ((reading : Reading) × IsReading (form_in old) line reading)
     → OnOk r ((reading : Reading) → IsReading (form_in old) line reading → (new ≡ served (counted old) reading) × X reading) → OnOk r (lines_before new ≤ lines_before old + 1)
 lines_on X old new line (Ok done) (reading, is) h = rw (h reading is).0 (counted-lines old.lines)
 lines_on X old new line (Err fault) read h = tt

@@ -9,7 +9,7 @@ use Rattle.cq_report.specs.Lines.{lines_of}
 use Rattle.cq_report.specs.Reading.{Reading, IsReading}
 use Rattle.cq_report.specs.Machine.{State, form_in, next, reply}
 use Rattle.cq_report.specs.Output.{AreReadFrom, state_after, output_from}
-use Rattle.cq_report.specs.Run.{IsOfRead, IsOfOutput, failures_of}
+use Rattle.cq_report.specs.Run.{failures_of}
 use Rattle.cq_report.specs.Steps.Written.{Puts, Breaks, Fails}
 use Rattle.cq_report.specs.Steps.Kept.{kept}
 use Rattle.cq_report.specs.Steps.Serving.{HaveNoEnd, ended, Answered, Served, Finished, Stopped, ServesOn, StopsOn, IsSound}
@@ -340,7 +340,7 @@ module _ {W A : Type 0} (taken : W → Option (List ℕ)) (failures : W → ℕ)
   IsSound-then a b c p q = record { writer = q.writer ∙ p.writer; failed = q.failed ∙ p.failed }
 
   pub IsSound-fails : (a b c : Output W A) (fault : RunFault) → IsSound failures a b → Fails failures b c fault → Fails failures a c fault
-  IsSound-fails a b c fault p q = record { writer = q.writer ∙ p.writer; failed = q.failed ∙ ap (λ (n : ℕ). n + failures_of fault) p.failed; no_read = q.no_read; of_output = q.of_output }
+  IsSound-fails a b c fault p q = record { writer = q.writer ∙ p.writer; failed = q.failed ∙ ap (λ (n : ℕ). n + failures_of fault) p.failed }
 
   pub IsSound-puts : (a b : Output W A) (bytes : List ℕ) → Puts taken failures a b bytes → IsSound failures a b
   IsSound-puts a b bytes p = record { writer = p.writer; failed = p.failed }
@@ -351,7 +351,7 @@ module _ {W A : Type 0} (taken : W → Option (List ℕ)) (failures : W → ℕ)
   IsSound-answer a b state state' line (r, i) answer = IsSound-puts a b (reply state r) (answer r i).1
 
   pub Fails-write : (a b : Output W A) (bytes : List ℕ) (fault : RunFault) → Breaks taken failures a b bytes fault → fault ≡ faults.Write → Fails failures a b fault
-  Fails-write a b bytes fault p e = record { writer = p.writer; failed = p.failed; no_read = subst (λ (f : RunFault). IsOfRead f → ⊥) (sym e) (λ h. h); of_output = subst IsOfOutput (sym e) tt }
+  Fails-write a b bytes fault p e = record { writer = p.writer; failed = p.failed }
 
   pub Fails-memory : (a : Output W A) → Fails failures a a faults.NoMemory
-  Fails-memory a = record { writer = refl; failed = omega arith; no_read = λ h. h; of_output = tt }
+  Fails-memory a = record { writer = refl; failed = omega arith }

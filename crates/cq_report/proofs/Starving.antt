@@ -2,7 +2,7 @@
 use Rattle.std.proofs.Common.{◌≡◌, ◌==◌, ◌≤◌, ℕ, Bool, true, false, List, [], ◌∷◌, ◌++◌, length, Option, refl, sym, ap, subst, ◌∙◌, append_assoc, arith}
 use Rattle.std.specs.Io.KnownBytes.{Consumes}
 use Rattle.std.proofs.KnownBytes.{Appends-nil, Consumes-nil}
-use Rattle.cq_text.specs.Limits.{max_piece}
+use Rattle.cq_devices.specs.Limits.{max_piece}
 use Rattle.cq_report.specs.declared.output.Output.{Output}
 use Rattle.cq_report.specs.declared.fault.RunFault.{RunFault}
 use Rattle.cq_report.specs.declared.fault.RunFault.TheVariants as faults
@@ -21,8 +21,6 @@ use Rattle.cq_report.proofs.Ending.{Passes-all}
 pub IfMemory-weaker : (fault : RunFault) (P Q : Type 0) → (P → Q) → IfMemory fault P → IfMemory fault Q
 IfMemory-weaker (faults.Read turn) P Q f h = tt
 IfMemory-weaker faults.Write P Q f h = tt
-IfMemory-weaker faults.Places P Q f h = tt
-IfMemory-weaker faults.Thread P Q f h = tt
 IfMemory-weaker faults.NoMemory P Q f h = f h
 
 pub of_memory : (fault : RunFault) (P : Type 0) → fault ≡ faults.NoMemory → IfMemory fault P → P
@@ -31,13 +29,7 @@ of_memory fault P is h = subst (λ (f : RunFault). IfMemory f P) is h
 pub for_memory : (fault : RunFault) (P : Type 0) → P → IfMemory fault P
 for_memory (faults.Read turn) P h = tt
 for_memory faults.Write P h = tt
-for_memory faults.Places P h = tt
-for_memory faults.Thread P h = tt
 for_memory faults.NoMemory P h = h
-
--- a fault of writing is not out of memory
-pub of_writing : (fault : RunFault) (P : Type 0) → fault ≡ faults.Write → IfMemory fault P
-of_writing fault P is = subst (λ (f : RunFault). IfMemory f P) (sym is) tt
 
 -- Bytes more end lines more, and leave those before as they were.
 record Longer (x y : List ℕ) : Type 0 where

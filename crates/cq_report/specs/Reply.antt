@@ -10,9 +10,10 @@ use Rattle.cq_board.specs.declared.edit.Why.{Why}
 use Rattle.cq_board.specs.declared.edit.Why.TheVariants.{PoolFull, NameTaken, NotAnswer, UnknownRelation, Arity, NoSuchName, RowPresent, RowAbsent}
 use Rattle.cq_board.specs.Pool.{PoolRecord}
 use Rattle.cq_desk.specs.declared.event.Answer.{Answer}
-use Rattle.cq_desk.specs.declared.event.Answer.TheVariants.{Entered, Published, Looked, Heard}
+use Rattle.cq_desk.specs.declared.event.Answer.TheVariants.{Replied, Published, Looked, Heard}
 use Rattle.cq_desk.specs.declared.event.StepFault.{StepFault}
-use Rattle.cq_desk.specs.declared.event.StepFault.TheVariants.{NoSession, Ahead, JournalFull, Not, NoMemory}
+use Rattle.cq_desk.specs.declared.reply.Reply.{Reply}
+use Rattle.cq_desk.specs.declared.reply.Reply.TheVariants.{Entered, JournalFull, Not}
 use Rattle.cq_render.specs.Report.{line, report}
 
 abbrev pub kind_word : Kind → List ℕ
@@ -63,17 +64,14 @@ why_words NoSuchName = codes "NoSuchName"
 why_words RowPresent = codes "RowPresent"
 why_words RowAbsent = codes "RowAbsent"
 
--- Why an event is refused. A session that is not there has no line, since the one session of a script is; a count that is not
--- published has none, since nobody is told of one; and out of memory has none, since it ends the run.
-abbrev pub refusal_line : StepFault Why → List ℕ
-refusal_line NoSession = []
-refusal_line Ahead = []
-refusal_line NoMemory = []
-refusal_line JournalFull = refused_line (codes "JournalFull")
-refusal_line (Not reason) = refused_line (why_words reason)
-
 abbrev pub entered_line : ℕ → List ℕ
 entered_line n = line (codes "ok " ++ decimal n)
+
+-- The reply to an edit in words.
+abbrev pub reply_line : Reply Why → List ℕ
+reply_line (Entered number) = entered_line number
+reply_line JournalFull = refused_line (codes "JournalFull")
+reply_line (Not reason) = refused_line (why_words reason)
 
 abbrev pub published_line : ℕ → List ℕ
 published_line p = line (codes "published " ++ decimal p)
@@ -89,12 +87,14 @@ abbrev pub show_block : ℕ → PoolRecord → List ℕ
 show_block count pool = show_line count ++ report pool ++ end_line
 
 -- An answer in words; a look also shows its pool. What a session is told of has no line: nobody is told of anything.
-abbrev pub answer_lines : PoolRecord → Answer → List ℕ
-answer_lines shown (Entered n) = entered_line n
+abbrev pub answer_lines : PoolRecord → Answer Why → List ℕ
+answer_lines shown (Replied reply) = reply_line reply
 answer_lines shown (Published p) = published_line p
 answer_lines shown (Looked p) = show_block p shown
 answer_lines shown (Heard p) = []
 
-abbrev pub reply_lines : PoolRecord → Result Answer (StepFault Why) → List ℕ
+-- An event in words: its answer. One that has no answer has no line: the one session of a script is there, nobody is told of a count that is not
+-- published, and out of memory ends the run.
+abbrev pub reply_lines : PoolRecord → Result (Answer Why) StepFault → List ℕ
 reply_lines shown (Ok answer) = answer_lines shown answer
-reply_lines shown (Err fault) = refusal_line fault
+reply_lines shown (Err fault) = []

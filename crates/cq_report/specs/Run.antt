@@ -7,71 +7,38 @@ use Rattle.cq_report.specs.declared.numbering.Numbering.{Numbering}
 use Rattle.cq_report.specs.Lines.{lines_of, whole_lines}
 use Rattle.cq_report.specs.Reading.{Reading}
 use Rattle.cq_report.specs.Output.{AreReadings, output}
-use Rattle.cq_text.specs.Device.{TakesFront}
-use Rattle.cq_text.specs.Limits.{max_piece}
+use Rattle.cq_devices.specs.declared.fault.WholeFault.{WholeFault}
+use Rattle.cq_devices.specs.declared.fault.WholeFault.TheVariants as reads
+use Rattle.cq_devices.specs.Device.{TakesFront}
+use Rattle.cq_devices.specs.Limits.{max_piece}
 
 -- What is known of a fault of reading, by the turn that it tells.
 abbrev pub IfRead : RunFault → (ℕ → Type 0) → Type 0
 IfRead (faults.Read turn) P = P turn
 IfRead faults.Write P = Unit {0}
-IfRead faults.Places P = Unit {0}
-IfRead faults.Thread P = Unit {0}
 IfRead faults.NoMemory P = Unit {0}
 
 -- What is known where memory ran out.
 abbrev pub IfMemory : RunFault → Type 0 → Type 0
 IfMemory (faults.Read turn) P = Unit {0}
 IfMemory faults.Write P = Unit {0}
-IfMemory faults.Places P = Unit {0}
-IfMemory faults.Thread P = Unit {0}
 IfMemory faults.NoMemory P = P
 
 -- The fault is that of a read.
 abbrev pub IsOfRead : RunFault → Type 0
 IsOfRead (faults.Read turn) = Unit {0}
 IsOfRead faults.Write = ⊥
-IsOfRead faults.Places = ⊥
-IsOfRead faults.Thread = ⊥
 IsOfRead faults.NoMemory = ⊥
 
--- The fault is one of reading a source whole: a read's, or out of memory.
-abbrev pub IsOfReading : RunFault → Type 0
-IsOfReading (faults.Read turn) = Unit {0}
-IsOfReading faults.Write = ⊥
-IsOfReading faults.Places = ⊥
-IsOfReading faults.Thread = ⊥
-IsOfReading faults.NoMemory = Unit {0}
-
--- The fault is one of writing what is answered: the writer's, or out of memory.
-abbrev pub IsOfOutput : RunFault → Type 0
-IsOfOutput (faults.Read turn) = ⊥
-IsOfOutput faults.Write = Unit {0}
-IsOfOutput faults.Places = ⊥
-IsOfOutput faults.Thread = ⊥
-IsOfOutput faults.NoMemory = Unit {0}
-
--- The fault is one of serving sessions: they read nothing.
-abbrev pub IsOfSessions : RunFault → Type 0
-IsOfSessions (faults.Read turn) = ⊥
-IsOfSessions faults.Write = Unit {0}
-IsOfSessions faults.Places = Unit {0}
-IsOfSessions faults.Thread = Unit {0}
-IsOfSessions faults.NoMemory = Unit {0}
-
--- The fault is one of running a script: it has no session to place, and no thread.
-abbrev pub IsOfRun : RunFault → Type 0
-IsOfRun (faults.Read turn) = Unit {0}
-IsOfRun faults.Write = Unit {0}
-IsOfRun faults.Places = ⊥
-IsOfRun faults.Thread = ⊥
-IsOfRun faults.NoMemory = Unit {0}
+-- A fault of reading a source whole, as one of a run.
+abbrev pub fault_of_reading : WholeFault → RunFault
+fault_of_reading (reads.Read turn) = faults.Read turn
+fault_of_reading reads.NoMemory = faults.NoMemory
 
 -- How much the writer's failures rise with a fault: the fault of writing is answered where the writer failed, and nowhere else.
 abbrev pub failures_of : RunFault → ℕ
 failures_of (faults.Read turn) = 0
 failures_of faults.Write = 1
-failures_of faults.Places = 0
-failures_of faults.Thread = 0
 failures_of faults.NoMemory = 0
 
 -- Bytes were read; their whole lines have readings, and however they are read, their output was written and nothing else.

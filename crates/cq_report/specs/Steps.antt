@@ -1,4 +1,5 @@
 -- Definitions that only private steps are stated with.
+pub mod Replies
 pub mod Written
 pub mod Put
 pub mod Count

@@ -1,8 +1,6 @@
-//! Why a run ended early.
+//! Why a run ended early, and why a line has no reply.
 
-ghost use Rattle.std.specs.Prelude.{◌≡◌};
-ghost use Rattle.cq_report.specs.declared.fault.RunFault.TheVariants.{NoMemory};
-
+use cq_devices::{Failed, WholeFault};
 use std::alloc::{AllocError, AllocFailed};
 use thiserror::Error;
 
@@ -15,18 +13,24 @@ pub enum RunFault {
     /// The writer failed.
     #[error("write failed")]
     Write,
-    /// A session got no place among the readers, or a look was refused.
-    #[error("no reader place")]
-    Places,
-    /// A thread was not started.
-    #[error("no thread")]
-    Thread,
     /// An allocation failed.
     #[error("out of memory")]
     NoMemory,
 }
 
+/// Why a line has no reply.
+#[derive(Clone, Copy, Debug, PartialEq, Eq)]
+pub(crate) enum ReplyFault {
+    /// The writer failed.
+    Write,
+    /// An allocation failed.
+    NoMemory,
+}
+
 impl From<AllocError> for RunFault {
+    ghost use Rattle.std.specs.Prelude.{◌≡◌};
+    ghost use Rattle.cq_report.specs.declared.fault.RunFault.TheVariants.{NoMemory};
+
     ghost from_gives = { λ _ e. e ≡ NoMemory };
 
     fn from(_e: AllocError) -> RunFault {
@@ -35,9 +39,73 @@ impl From<AllocError> for RunFault {
 }
 
 impl<T: Drop> From<AllocFailed<T>> for RunFault {
+    ghost use Rattle.std.specs.Prelude.{◌≡◌};
+    ghost use Rattle.cq_report.specs.declared.fault.RunFault.TheVariants.{NoMemory};
+
     ghost from_gives = { λ _ e. e ≡ NoMemory };
 
     fn from(_e: AllocFailed<T>) -> RunFault {
         RunFault::NoMemory
+    }
+}
+
+impl From<Failed> for RunFault {
+    ghost use Rattle.std.specs.Prelude.{◌≡◌};
+    ghost use Rattle.cq_report.specs.declared.fault.RunFault.TheVariants.{Write};
+
+    ghost from_gives = { λ _ e. e ≡ Write };
+
+    fn from(_e: Failed) -> RunFault {
+        RunFault::Write
+    }
+}
+
+impl From<WholeFault> for RunFault {
+    ghost use Rattle.std.specs.Prelude.{◌≡◌};
+    ghost use Rattle.cq_report.specs.Run.{fault_of_reading};
+
+    ghost from_gives = { λ fault e. e ≡ fault_of_reading fault };
+
+    fn from(fault: WholeFault) -> RunFault {
+        match fault {
+            WholeFault::Read { turn } => RunFault::Read { turn },
+            WholeFault::NoMemory => RunFault::NoMemory,
+        }
+    }
+}
+
+impl From<ReplyFault> for RunFault {
+    ghost use Rattle.std.specs.Prelude.{◌≡◌};
+    ghost use Rattle.cq_report.specs.Steps.Replies.{fault_of_reply};
+
+    ghost from_gives = { λ fault e. e ≡ fault_of_reply fault };
+
+    fn from(fault: ReplyFault) -> RunFault {
+        match fault {
+            ReplyFault::Write => RunFault::Write,
+            ReplyFault::NoMemory => RunFault::NoMemory,
+        }
+    }
+}
+
+impl From<AllocError> for ReplyFault {
+    ghost use Rattle.std.specs.Prelude.{◌≡◌};
+    ghost use Rattle.cq_report.specs.declared.fault.ReplyFault.TheVariants.{NoMemory};
+
+    ghost from_gives = { λ _ e. e ≡ NoMemory };
+
+    fn from(_e: AllocError) -> ReplyFault {
+        ReplyFault::NoMemory
+    }
+}
+
+impl From<Failed> for ReplyFault {
+    ghost use Rattle.std.specs.Prelude.{◌≡◌};
+    ghost use Rattle.cq_report.specs.declared.fault.ReplyFault.TheVariants.{Write};
+
+    ghost from_gives = { λ _ e. e ≡ Write };
+
+    fn from(_e: Failed) -> ReplyFault {
+        ReplyFault::Write
     }
 }

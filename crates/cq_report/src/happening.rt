@@ -5,15 +5,15 @@ ghost use Rattle.cq_report.specs.Machine.{opened, after, told};
 ghost use Rattle.cq_report.specs.Reply.{show_block, answer_lines};
 ghost use Rattle.cq_report.specs.Steps.Put.{Put};
 
-use crate::fault::RunFault;
+use crate::fault::ReplyFault;
 use crate::output::{Output, put_reply};
-use crate::reply::{end_line, entered_line, published_line, refusal_line, show_line};
+use crate::reply::{end_line, published_line, reply_line, show_line};
 use crate::setup::Setup;
 use cq_atom::Edit;
-use cq_board::Board;
+use cq_board::{Board, Why};
 use cq_desk::{Answer, Event, Floor, StepFault};
+use cq_devices::Sink;
 use cq_render::put_report;
-use cq_text::Sink;
 use std::alloc::{AllocError, Allocator};
 
 /// A floor over a board.
@@ -57,36 +57,37 @@ fn shown_block<A: Allocator + Copy>(
 fn put_answer<W: Sink, A: Allocator + Copy>(
     alloc: A,
     board: &Board<A>,
-    answer: Answer,
+    answer: Answer<Why>,
     output: &mut Output<'_, W, A>,
-) -> Result<(), RunFault>
+) -> Result<(), ReplyFault>
     requires { W.write_failures output.old.sink.now < 2 ^ 62 }
     ensures { Put W.taken W.write_failures output.old output.new (answer_lines board.now answer) result }
 {
     match answer {
-        Answer::Entered(entry) => put_reply(entered_line(alloc, entry), output),
+        Answer::Replied(reply) => put_reply(reply_line(alloc, &reply), output),
         Answer::Published(count) => put_reply(published_line(alloc, count), output),
         Answer::Looked(count) => put_reply(shown_block(alloc, board, count), output),
         Answer::Heard(_) => Ok(()),
     }
 }
 
-/// Takes an event of the session, and puts the reply.
+/// Takes an event of the session, and puts the reply. The session is there, and nobody is told of
+/// anything, so out of memory is all that leaves an event without an answer.
 pub(crate) fn happen<W: Sink, A: Allocator + Copy>(
     alloc: A,
     floor: &mut BoardFloor<A>,
     event: Event<Edit<A>>,
     output: &mut Output<'_, W, A>,
-) -> Result<(), RunFault>
+) -> Result<(), ReplyFault>
     requires { W.write_failures output.old.sink.now < 2 ^ 62 }
     ensures state { OnOk result (floor.new ≡ after floor.old event) }
     ensures put { Put W.taken W.write_failures output.old output.new (told floor.old event) result }
 {
     match floor.step(event) {
         Ok(answer) => put_answer(alloc, floor.board(), answer, output),
-        Err(refusal) => match refusal {
-            StepFault::NoMemory => Err(RunFault::NoMemory),
-            _ => put_reply(refusal_line(alloc, refusal), output),
+        Err(fault) => match fault {
+            StepFault::NoMemory => Err(ReplyFault::NoMemory),
+            _ => Ok(()),
         },
     }
 }

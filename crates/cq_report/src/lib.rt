@@ -2,18 +2,19 @@
 //!
 //! The program uses `run`: what it writes is `specs/Output` of what it reads. `specs/Lines` cuts
 //! a script into lines, `specs/Reading` says what a line is read as, `specs/Machine` what it does and
-//! is answered with, and `specs/Reply` how that reads. `read_script` serves a script unheard and gives the board that it leaves.
+//! is answered with, and `specs/Reply` how that reads. `read_script` serves a script, discards the replies, and gives the board that it leaves.
 //!
 //! Not here: which texts stand for what, and what a post does to a pool; the report on a board; a program's arguments, its
 //! exit status and its messages.
 #![tactic(auto)]
 
-mod clerk;
+mod discard;
 mod fault;
 mod happening;
 mod heading;
+mod interpreter;
 mod limits;
-mod line;
+mod line_buffer;
 mod machine;
 mod numbering;
 mod output;
@@ -22,16 +23,13 @@ mod reply;
 mod running;
 mod setup;
 mod stage;
-mod unheard;
-mod whole;
 
 pub use fault::RunFault;
 pub use heading::{form_of, headed};
 pub use limits::{JOURNAL_LIMIT, POOL_LIMIT};
 pub use numbering::Numbering;
 pub use playing::{Played, read_script};
-pub use reply::{entered_line, fault_line, late_line, published_line, refusal_line, show_line};
+pub use reply::{fault_line, late_line, published_line, reply_line, show_line};
 pub use running::{first_line, run};
 pub use setup::Setup;
 pub use stage::Stage;
-pub use whole::read_whole;

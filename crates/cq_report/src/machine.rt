@@ -4,18 +4,20 @@ ghost use Rattle.std.specs.Prelude.{◌≡◌, ◌<◌, ◌≤◌, ◌+◌, ◌^
 ghost use Rattle.cq_report.specs.Reading.{Reading, Reads, IsReading};
 ghost use Rattle.cq_report.specs.Machine.{begin_state, no_lines, numbered, form_in, served, counted, unnumbered, next, reply, serving_of};
 ghost use Rattle.cq_report.specs.Run.{IfMemory};
+ghost use Rattle.cq_report.specs.Steps.Replies.{fault_of_reply};
 ghost use Rattle.cq_report.specs.Steps.Written.{Puts, Breaks, Fails};
 ghost use Rattle.cq_report.specs.Steps.Put.{Put, led};
 ghost use Rattle.cq_report.specs.Steps.Count.{lines_before};
 
-use crate::clerk::Clerk;
-use crate::fault::RunFault;
+use crate::fault::ReplyFault;
 use crate::happening::BoardFloor;
 use crate::heading::{form_of, headed};
+use crate::interpreter::Interpreter;
 use crate::numbering::Numbering;
 use crate::output::{Output, put_reply};
 use crate::reply::fault_line;
-use cq_text::{Command, Form, Sink, TextFault, read_command};
+use cq_devices::Sink;
+use cq_text::{Command, Form, TextFault, read_command};
 use std::alloc::{AllocError, Allocator};
 use std::marker::Model;
 
@@ -35,7 +37,7 @@ pub(crate) struct Machine<A: Allocator + Copy> {
     alloc: A,
     lines: Option<u64>,
     heading: Option<Form>,
-    clerk: Clerk<A>,
+    interpreter: Interpreter<A>,
 }
 
 impl<A: Allocator + Copy> Model for Machine<A> {
@@ -43,7 +45,7 @@ impl<A: Allocator + Copy> Model for Machine<A> {
 
     ghost Value = { State };
 
-    ghost view = { λ m. record { lines = m.lines; heading = m.heading; stage = m.clerk } };
+    ghost view = { λ m. record { lines = m.lines; heading = m.heading; stage = m.interpreter } };
 }
 
 impl<A: Allocator + Copy> Machine<A> {
@@ -56,7 +58,7 @@ impl<A: Allocator + Copy> Machine<A> {
             alloc,
             lines: no_lines(numbering),
             heading: None,
-            clerk: Clerk::begin(alloc),
+            interpreter: Interpreter::begin(alloc),
         }
     }
 
@@ -101,14 +103,14 @@ impl<A: Allocator + Copy> Machine<A> {
         &mut self,
         command: Command<A>,
         output: &mut Output<'_, W, A>,
-    ) -> Result<(), RunFault>
+    ) -> Result<(), ReplyFault>
         requires { W.write_failures output.old.sink.now < 2 ^ 62 }
         ensures state { OnOk result (self.new ≡ served self.old (Reads command)) }
         ensures put { Put W.taken W.write_failures output.old output.new (unnumbered self.old (Reads command)) result }
     {
         let heading = self.heading;
         self.heading = headed(heading, &command);
-        self.clerk.serve(heading, command, output)
+        self.interpreter.serve(heading, command, output)
     }
 
     /// Reads a line, and puts the reply to it, behind what stands before it.
@@ -116,13 +118,13 @@ impl<A: Allocator + Copy> Machine<A> {
         &mut self,
         line: &[u8],
         output: &mut Output<'_, W, A>,
-    ) -> Result<(), RunFault>
+    ) -> Result<(), ReplyFault>
         requires { W.write_failures output.old.sink.now < 2 ^ 62 }
         ensures read { OnOk result ((reading : Reading) × IsReading (form_in self.old) line.now reading) }
         ensures ok { OnOk result ((reading : Reading) → IsReading (form_in self.old) line.now reading → (self.new ≡ served self.old reading) × Puts W.taken W.write_failures output.old output.new (led output.old.lead.now (unnumbered self.old reading))) }
-        ensures err { IfErr result (λ fault. (reading : Reading) → IsReading (form_in self.old) line.now reading → Breaks W.taken W.write_failures output.old output.new (led output.old.lead.now (unnumbered self.old reading)) fault) }
-        ensures fails { IfErr result (λ fault. Fails W.write_failures output.old output.new fault) }
-        ensures nothing { IfErr result (λ fault. IfMemory fault (Puts W.taken W.write_failures output.old output.new [])) }
+        ensures err { IfErr result (λ fault. (reading : Reading) → IsReading (form_in self.old) line.now reading → Breaks W.taken W.write_failures output.old output.new (led output.old.lead.now (unnumbered self.old reading)) (fault_of_reply fault)) }
+        ensures fails { IfErr result (λ fault. Fails W.write_failures output.old output.new (fault_of_reply fault)) }
+        ensures nothing { IfErr result (λ fault. IfMemory (fault_of_reply fault) (Puts W.taken W.write_failures output.old output.new [])) }
     {
         let form = self.form();
         match read_command(self.alloc, line, form) {
@@ -131,7 +133,7 @@ impl<A: Allocator + Copy> Machine<A> {
                 self.settle(form);
                 put_reply(fault_line(self.alloc, kind, offset), output)
             }
-            Err(TextFault::NoMemory) => Err(RunFault::NoMemory),
+            Err(TextFault::NoMemory) => Err(ReplyFault::NoMemory),
         }
     }
 
@@ -144,15 +146,15 @@ impl<A: Allocator + Copy> Machine<A> {
         &mut self,
         line: &[u8],
         output: &mut Output<'_, W, A>,
-    ) -> Result<(), RunFault>
+    ) -> Result<(), ReplyFault>
         requires failures { W.write_failures output.old.sink.now < 2 ^ 62 }
         requires lines { lines_before self.old < 2 ^ 62 }
         ensures lines { OnOk result (lines_before self.new ≤ lines_before self.old + 1) }
         ensures read { OnOk result ((reading : Reading) × IsReading (form_in self.old) line.now reading) }
         ensures ok { OnOk result ((reading : Reading) → IsReading (form_in self.old) line.now reading → (self.new ≡ next self.old reading) × Puts W.taken W.write_failures output.old output.new (reply self.old reading)) }
-        ensures err { IfErr result (λ fault. (reading : Reading) → IsReading (form_in self.old) line.now reading → Breaks W.taken W.write_failures output.old output.new (reply self.old reading) fault) }
-        ensures fails { IfErr result (λ fault. Fails W.write_failures output.old output.new fault) }
-        ensures nothing { IfErr result (λ fault. IfMemory fault (Puts W.taken W.write_failures output.old output.new [])) }
+        ensures err { IfErr result (λ fault. (reading : Reading) → IsReading (form_in self.old) line.now reading → Breaks W.taken W.write_failures output.old output.new (reply self.old reading) (fault_of_reply fault)) }
+        ensures fails { IfErr result (λ fault. Fails W.write_failures output.old output.new (fault_of_reply fault)) }
+        ensures nothing { IfErr result (λ fault. IfMemory (fault_of_reply fault) (Puts W.taken W.write_failures output.old output.new [])) }
     {
         let lead = self.lead()?;
         output.lead_by(lead);
@@ -164,6 +166,6 @@ impl<A: Allocator + Copy> Machine<A> {
     pub(crate) fn into_floor(self) -> Result<BoardFloor<A>, AllocError>
         ensures { IfOk result (λ floor. floor ≡ serving_of self.stage) }
     {
-        self.clerk.into_floor()
+        self.interpreter.into_floor()
     }
 }

@@ -1,12 +1,13 @@
 //! A buffer before a writer.
 
-ghost use Rattle.std.specs.Prelude.{◌≡◌, ◌<◌, ◌+◌, ◌^◌, ℕ, List, ◌++◌, [], string_bytes, OnOk, OnErr, IfOk, IfErr, MatchResult};
+ghost use Rattle.std.specs.Prelude.{◌≡◌, ◌<◌, ◌+◌, ◌^◌, ℕ, List, ◌++◌, [], string_bytes, OnOk, OnErr, IfOk, MatchResult};
 ghost use Rattle.std.specs.Io.KnownBytes.{Appends};
+ghost use Rattle.cq_report.specs.declared.fault.RunFault.TheVariants.{Write};
 ghost use Rattle.cq_report.specs.Steps.Put.{Put, lead_bytes};
 ghost use Rattle.cq_report.specs.Steps.Written.{Puts, Breaks};
 
-use crate::fault::RunFault;
-use cq_text::{Sink, write_all};
+use crate::fault::ReplyFault;
+use cq_devices::{Failed, Sink, write_all};
 use std::alloc::{AllocError, Allocator};
 
 /// How many bytes wait at most.
@@ -52,30 +53,26 @@ impl<'w, W: Sink, A: Allocator> Output<'w, W, A> {
         *self.lead = lead;
     }
 
-    /// Puts bytes behind what was put before. Its only fault is that of writing.
-    pub(crate) fn put(&mut self, bytes: &[u8]) -> Result<(), RunFault>
+    /// Puts bytes behind what was put before.
+    pub(crate) fn put(&mut self, bytes: &[u8]) -> Result<(), Failed>
         requires { W.write_failures self.old.sink.now < 2 ^ 62 }
         ensures ok { OnOk result (Puts W.taken W.write_failures self.old self.new bytes.now) }
-        ensures err { IfErr result (λ fault. Breaks W.taken W.write_failures self.old self.new bytes.now fault) }
-        ensures fault { IfErr result (λ fault. fault ≡ RunFault.Write) }
+        ensures err { OnErr result (Breaks W.taken W.write_failures self.old self.new bytes.now Write) }
     {
         if bytes.len() <= self.held.capacity() - self.held.len() {
             self.held.extend_from_slice(bytes).unwrap();
             return Ok(());
         }
         self.write_out()?;
-        let Ok(()) = write_all(self.sink, bytes) else {
-            return Err(RunFault::Write);
-        };
+        write_all(self.sink, bytes)?;
         Ok(())
     }
 
-    /// Puts what stands before the next text. Its only fault is that of writing.
-    fn put_lead(&mut self) -> Result<(), RunFault>
+    /// Puts what stands before the next text.
+    fn put_lead(&mut self) -> Result<(), Failed>
         requires { W.write_failures self.old.sink.now < 2 ^ 62 }
         ensures ok { OnOk result (Puts W.taken W.write_failures self.old self.new (lead_bytes self.old.lead.now)) }
-        ensures err { IfErr result (λ fault. Breaks W.taken W.write_failures self.old self.new (lead_bytes self.old.lead.now) fault) }
-        ensures fault { IfErr result (λ fault. fault ≡ RunFault.Write) }
+        ensures err { OnErr result (Breaks W.taken W.write_failures self.old self.new (lead_bytes self.old.lead.now) Write) }
     {
         let Some(lead) = self.lead.take() else {
             return Ok(());
@@ -83,8 +80,8 @@ impl<'w, W: Sink, A: Allocator> Output<'w, W, A> {
         self.put(lead.as_bytes())
     }
 
-    /// Puts text behind what was put before, and behind what stands before it. Its only fault is that of writing.
-    pub(crate) fn put_text(&mut self, text: &str) -> Result<(), RunFault>
+    /// Puts text behind what was put before, and behind what stands before it.
+    pub(crate) fn put_text(&mut self, text: &str) -> Result<(), ReplyFault>
         requires { W.write_failures self.old.sink.now < 2 ^ 62 }
         ensures { Put W.taken W.write_failures self.old self.new text.now result }
     {
@@ -92,37 +89,31 @@ impl<'w, W: Sink, A: Allocator> Output<'w, W, A> {
             return Ok(());
         }
         self.put_lead()?;
-        self.put(text.as_bytes())
+        self.put(text.as_bytes())?;
+        Ok(())
     }
 
-    /// Passes on all that waits. Its only fault is that of writing.
-    pub(crate) fn write_out(&mut self) -> Result<(), RunFault>
+    /// Passes on all that waits.
+    pub(crate) fn write_out(&mut self) -> Result<(), Failed>
         requires { W.write_failures self.old.sink.now < 2 ^ 62 }
         ensures ok { OnOk result (Puts W.taken W.write_failures self.old self.new []) }
         ensures held { OnOk result (self.new.held.now.items ≡ []) }
-        ensures err { IfErr result (λ fault. Breaks W.taken W.write_failures self.old self.new [] fault) }
-        ensures fault { IfErr result (λ fault. fault ≡ RunFault.Write) }
+        ensures err { OnErr result (Breaks W.taken W.write_failures self.old self.new [] Write) }
     {
-        let Ok(()) = write_all(self.sink, self.held) else {
-            return Err(RunFault::Write);
-        };
+        write_all(self.sink, self.held)?;
         self.held.clear();
         Ok(())
     }
 
-    /// Passes on all that waits, and then what the writer itself holds back. Its only fault is
-    /// that of writing.
-    pub(crate) fn finish(&mut self) -> Result<(), RunFault>
+    /// Passes on all that waits, and then what the writer itself holds back.
+    pub(crate) fn finish(&mut self) -> Result<(), Failed>
         requires { W.write_failures self.old.sink.now < 2 ^ 62 }
         ensures ok { OnOk result (Puts W.taken W.write_failures self.old self.new []) }
         ensures held { OnOk result (self.new.held.now.items ≡ []) }
-        ensures err { IfErr result (λ fault. Breaks W.taken W.write_failures self.old self.new [] fault) }
-        ensures fault { IfErr result (λ fault. fault ≡ RunFault.Write) }
+        ensures err { OnErr result (Breaks W.taken W.write_failures self.old self.new [] Write) }
     {
         self.write_out()?;
-        let Ok(()) = self.sink.flush() else {
-            return Err(RunFault::Write);
-        };
+        self.sink.flush()?;
         Ok(())
     }
 }
@@ -131,7 +122,7 @@ impl<'w, W: Sink, A: Allocator> Output<'w, W, A> {
 pub(crate) fn put_reply<W: Sink, A: Allocator>(
     reply: Result<String<A>, AllocError>,
     output: &mut Output<'_, W, A>,
-) -> Result<(), RunFault>
+) -> Result<(), ReplyFault>
     requires { W.write_failures output.old.sink.now < 2 ^ 62 }
     ensures { (bytes : List ℕ) → IfOk reply (λ text. string_bytes text ≡ bytes) → Put W.taken W.write_failures output.old output.new bytes result }
 {

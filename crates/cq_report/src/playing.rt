@@ -1,22 +1,22 @@
 //! The board that a script leaves.
 
 ghost use Rattle.std.specs.Prelude.{◌≡◌, ◌<◌, ◌≤◌, ◌+◌, ◌^◌, List, OnOk, IfOk, IfErr, IfSome, MatchResult};
-ghost use Rattle.cq_text.specs.Device.{FailedAtTurn};
+ghost use Rattle.cq_devices.specs.Device.{FailedAtTurn, IfAtTurn, IsAtTurn};
 ghost use Rattle.cq_report.specs.Lines.{lines_of};
 ghost use Rattle.cq_report.specs.Reading.{Reading};
 ghost use Rattle.cq_report.specs.Output.{AreReadings, pool_left};
-ghost use Rattle.cq_report.specs.Run.{IfRead, IsOfRead, IsOfReading};
+ghost use Rattle.cq_report.specs.Run.{fault_of_reading, failures_of};
 ghost use Rattle.cq_report.specs.Steps.Playing.{IsPlayed};
 
+use crate::discard::Discard;
 use crate::fault::RunFault;
 use crate::happening::BoardFloor;
 use crate::machine::Machine;
 use crate::numbering::Numbering;
 use crate::output::Output;
 use crate::running::replay;
-use crate::unheard::Unheard;
 use cq_board::Board;
-use cq_text::{MAX_READS, Source};
+use cq_devices::{MAX_READS, Source, WholeFault};
 use std::alloc::Allocator;
 use std::marker::Model;
 use std::mem;
@@ -45,11 +45,24 @@ impl<A: Allocator + Copy> Played<A> {
     }
 }
 
+/// The fault of a run that did not fail to write, as one of reading.
+fn reading_fault(fault: RunFault) -> WholeFault
+    requires { failures_of fault ≡ 0 }
+    ensures { fault_of_reading result ≡ fault }
+{
+    match fault {
+        RunFault::Read { turn } => WholeFault::Read { turn },
+        RunFault::Write => unreachable!(),
+        RunFault::NoMemory => WholeFault::NoMemory,
+    }
+}
+
 /// What is left of a script that ended so: its floor, which opens where the setup lasts.
 fn left_by<A: Allocator + Copy>(
     machine: Machine<A>,
     ended: Result<(), RunFault>,
-) -> Result<Played<A>, RunFault>
+) -> Result<Played<A>, WholeFault>
+    requires { IfErr ended (λ fault. failures_of fault ≡ 0) }
     ensures { IsPlayed ended machine result }
 {
     match ended {
@@ -59,7 +72,7 @@ fn left_by<A: Allocator + Copy>(
         }
         Err(fault) => {
             mem::drop(machine);
-            Err(fault)
+            Err(reading_fault(fault))
         }
     }
 }
@@ -75,7 +88,7 @@ fn left_by<A: Allocator + Copy>(
 pub fn read_script<A: Allocator + Copy, R: Source>(
     alloc: A,
     reader: &mut R,
-) -> Result<Played<A>, RunFault>
+) -> Result<Played<A>, WholeFault>
     requires reads { R.reads_made reader.old < 2 ^ 62 }
     requires failures { R.failures_met reader.old < 2 ^ 62 }
 
@@ -86,15 +99,14 @@ pub fn read_script<A: Allocator + Copy, R: Source>(
     ensures readings { OnOk result (IfSome (R.left reader.old) (λ input. (readings : List Reading) × AreReadings (lines_of input) readings)) }
 
     // Whose fault it was.
-    ensures kind { IfErr result IsOfReading }
-    ensures turn { IfErr result (λ fault. IfRead fault (λ turn. FailedAtTurn turn (R.reads_made reader.old) (R.reads_made reader.new) (R.failures_met reader.old) (R.failures_met reader.new))) }
+    ensures turn { IfErr result (λ fault. IfAtTurn fault (λ turn. FailedAtTurn turn (R.reads_made reader.old) (R.reads_made reader.new) (R.failures_met reader.old) (R.failures_met reader.new))) }
     ensures reads { R.reads_made reader.new ≤ R.reads_made reader.old + MAX_READS }
-    ensures read_failures { MatchResult result (λ _. R.failures_met reader.new ≡ R.failures_met reader.old) (λ fault. (IsOfRead fault → ⊥) → R.failures_met reader.new ≡ R.failures_met reader.old) }
+    ensures read_failures { MatchResult result (λ _. R.failures_met reader.new ≡ R.failures_met reader.old) (λ fault. (IsAtTurn fault → ⊥) → R.failures_met reader.new ≡ R.failures_met reader.old) }
 {
-    let mut unheard = Unheard;
+    let mut discard = Discard;
     let mut room = Vec::new(alloc);
     let mut lead = None;
-    let mut output = Output::new(&mut unheard, &mut room, &mut lead);
+    let mut output = Output::new(&mut discard, &mut room, &mut lead);
     let mut machine = Machine::begin(alloc, Numbering::Plain);
     let ended = replay(alloc, &mut machine, reader, &mut output);
     left_by(machine, ended)

@@ -2,11 +2,11 @@
 
 ghost use Rattle.std.specs.Prelude.{◌≡◌, ◌++◌, codes, decimal, IfOk, string_bytes};
 ghost use Rattle.cq_report.specs.Machine.{board_line};
-ghost use Rattle.cq_report.specs.Reply.{kind_word, fault_line, refused_line, ok_line, late_line, catalog_line, part_word, why_words, refusal_line, entered_line, published_line, show_line, end_line};
+ghost use Rattle.cq_report.specs.Reply.{kind_word, fault_line, refused_line, ok_line, late_line, catalog_line, part_word, why_words, entered_line, reply_line, published_line, show_line, end_line};
 
 use cq_atom::Part;
 use cq_board::Why;
-use cq_desk::StepFault;
+use cq_desk::Reply;
 use cq_rel::CatalogFault;
 use cq_text::{Form, Kind};
 use std::alloc::{AllocError, Allocator};
@@ -120,26 +120,22 @@ fn why_line<A: Allocator>(alloc: A, reason: Why) -> Result<String<A>, AllocError
     }
 }
 
-/// The reply to an event that is refused. The session of a script is there, and nobody is told of
-/// anything; running out of memory ends the run.
-pub fn refusal_line<A: Allocator>(
-    alloc: A,
-    refusal: StepFault<Why>,
-) -> Result<String<A>, AllocError>
-    ensures { IfOk result (λ text. string_bytes text ≡ refusal_line refusal) }
-{
-    match refusal {
-        StepFault::JournalFull => word_line(alloc, "JournalFull"),
-        StepFault::Not(reason) => why_line(alloc, reason),
-        StepFault::NoSession | StepFault::Ahead | StepFault::NoMemory => Ok(String::new(alloc)),
-    }
-}
-
-/// The reply to an edit: the number of its entry.
-pub fn entered_line<A: Allocator>(alloc: A, entry: u64) -> Result<String<A>, AllocError>
+/// The reply to an edit that is entered: the number of its entry.
+fn entered_line<A: Allocator>(alloc: A, entry: u64) -> Result<String<A>, AllocError>
     ensures { IfOk result (λ text. string_bytes text ≡ entered_line entry) }
 {
     format!(in alloc; "ok {entry}\n")
+}
+
+/// The reply to an edit: the number of its entry, or why it has none.
+pub fn reply_line<A: Allocator>(alloc: A, reply: &Reply<Why>) -> Result<String<A>, AllocError>
+    ensures { IfOk result (λ text. string_bytes text ≡ reply_line reply.now) }
+{
+    match reply {
+        Reply::Entered(entry) => entered_line(alloc, *entry),
+        Reply::JournalFull => word_line(alloc, "JournalFull"),
+        Reply::Not(reason) => why_line(alloc, *reason),
+    }
 }
 
 /// The reply to a publish.

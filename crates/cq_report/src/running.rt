@@ -5,20 +5,21 @@ ghost use Rattle.std.specs.Io.KnownBytes.{Appends};
 ghost use Rattle.cq_report.specs.Lines.{lines_of};
 ghost use Rattle.cq_report.specs.Reading.{Reading};
 ghost use Rattle.cq_report.specs.Output.{AreReadings, output};
-ghost use Rattle.cq_text.specs.Device.{FailedAtTurn};
-ghost use Rattle.cq_report.specs.Run.{IfRead, IfMemory, IsOfRead, IsOfRun, failures_of, WroteWholeLines, WroteFirstLines, WroteFront};
+ghost use Rattle.cq_devices.specs.Device.{FailedAtTurn};
+ghost use Rattle.cq_report.specs.Run.{IfRead, IfMemory, IsOfRead, failures_of, WroteWholeLines, WroteFirstLines, WroteFront};
+ghost use Rattle.cq_report.specs.Steps.Replies.{fault_of_reply};
 ghost use Rattle.cq_report.specs.Steps.Written.{Fails, Puts};
 ghost use Rattle.cq_report.specs.Steps.Count.{lines_before};
 ghost use Rattle.cq_report.specs.Steps.Replay.{Replayed, BrokeOff, Ended, RanOut};
 ghost use Rattle.cq_report.specs.Steps.Serving.{ServesOn, StopsOn, StarvesOn, Finishes, IsSound};
 ghost use Rattle.cq_report.specs.Lines.{HasNoEnd};
 
-use crate::fault::RunFault;
-use crate::line::Line;
+use crate::fault::{ReplyFault, RunFault};
+use crate::line_buffer::LineBuffer;
 use crate::machine::Machine;
 use crate::numbering::Numbering;
 use crate::output::{Output, ROOM};
-use cq_text::{MAX_PIECE, MAX_READS, Sink, Source};
+use cq_devices::{MAX_PIECE, MAX_READS, Sink, Source};
 use memchr::memchr;
 use std::alloc::Allocator;
 use std::mem;
@@ -45,19 +46,19 @@ pub fn first_line(bytes: &[u8]) -> Option<(&[u8], &[u8])>
 /// Answers the line of which these are the last bytes: as they lie there, where they are all of it.
 fn serve_line<W: Sink, A: Allocator + Copy>(
     machine: &mut Machine<A>,
-    line: &mut Line<A>,
+    line: &mut LineBuffer<A>,
     output: &mut Output<'_, W, A>,
     last: &[u8],
-) -> Result<(), RunFault>
+) -> Result<(), ReplyFault>
     requires failures { W.write_failures output.old.sink.now < 2 ^ 62 }
     requires last { HasNoEnd last.now }
     requires lines { lines_before machine.old < 2 ^ 62 }
     ensures lines { OnOk result (lines_before machine.new ≤ lines_before machine.old + 1) }
     ensures ok { OnOk result (ServesOn W.taken W.write_failures output.old output.new machine.old machine.new line.old line.new (last.now ++ 10 ∷ [])) }
     ensures sound { OnOk result (IsSound W.write_failures output.old output.new) }
-    ensures err { IfErr result (λ fault. (rest : List ℕ) → StopsOn W.taken W.write_failures output.old output.new machine.old line.old (last.now ++ (10 ∷ rest)) fault) }
-    ensures fails { IfErr result (λ fault. Fails W.write_failures output.old output.new fault) }
-    ensures nothing { IfErr result (λ fault. IfMemory fault (Puts W.taken W.write_failures output.old output.new [])) }
+    ensures err { IfErr result (λ fault. (rest : List ℕ) → StopsOn W.taken W.write_failures output.old output.new machine.old line.old (last.now ++ (10 ∷ rest)) (fault_of_reply fault)) }
+    ensures fails { IfErr result (λ fault. Fails W.write_failures output.old output.new (fault_of_reply fault)) }
+    ensures nothing { IfErr result (λ fault. IfMemory (fault_of_reply fault) (Puts W.taken W.write_failures output.old output.new [])) }
 {
     if line.is_empty() {
         machine.answer(last, output)?;
@@ -72,18 +73,18 @@ fn serve_line<W: Sink, A: Allocator + Copy>(
 /// Answers each line that the piece ends, and keeps what begins the next one.
 fn feed<W: Sink, A: Allocator + Copy>(
     machine: &mut Machine<A>,
-    line: &mut Line<A>,
+    line: &mut LineBuffer<A>,
     output: &mut Output<'_, W, A>,
     piece: &[u8],
-) -> Result<(), RunFault>
+) -> Result<(), ReplyFault>
     requires failures { W.write_failures output.old.sink.now < 2 ^ 62 }
     requires lines { lines_before machine.old + length piece.now < 2 ^ 62 }
     ensures lines { OnOk result (lines_before machine.new ≤ lines_before machine.old + length piece.now) }
     ensures ok { OnOk result (ServesOn W.taken W.write_failures output.old output.new machine.old machine.new line.old line.new piece.now) }
     ensures sound { OnOk result (IsSound W.write_failures output.old output.new) }
-    ensures err { IfErr result (λ fault. StopsOn W.taken W.write_failures output.old output.new machine.old line.old piece.now fault) }
-    ensures fails { IfErr result (λ fault. Fails W.write_failures output.old output.new fault) }
-    ensures starves { IfErr result (λ fault. IfMemory fault (StarvesOn W.taken W.write_failures output.old output.new machine.old line.old piece.now)) }
+    ensures err { IfErr result (λ fault. StopsOn W.taken W.write_failures output.old output.new machine.old line.old piece.now (fault_of_reply fault)) }
+    ensures fails { IfErr result (λ fault. Fails W.write_failures output.old output.new (fault_of_reply fault)) }
+    ensures starves { IfErr result (λ fault. IfMemory (fault_of_reply fault) (StarvesOn W.taken W.write_failures output.old output.new machine.old line.old piece.now)) }
 {
     let mut rest = piece;
     while let Some((last, behind)) = first_line(rest) {
@@ -97,17 +98,17 @@ fn feed<W: Sink, A: Allocator + Copy>(
 /// Answers the last line, where no LF ends it, and passes on all that waits.
 fn finish<W: Sink, A: Allocator + Copy>(
     machine: &mut Machine<A>,
-    line: &Line<A>,
+    line: &LineBuffer<A>,
     output: &mut Output<'_, W, A>,
-) -> Result<(), RunFault>
+) -> Result<(), ReplyFault>
     requires lines { lines_before machine.old < 2 ^ 62 }
     requires failures { W.write_failures output.old.sink.now < 2 ^ 62 }
     ensures ok { OnOk result (Finishes W.taken W.write_failures output.old output.new machine.old machine.new line.now) }
     ensures held { OnOk result (output.new.held.now.items ≡ []) }
     ensures sound { OnOk result (IsSound W.write_failures output.old output.new) }
-    ensures err { IfErr result (λ fault. StopsOn W.taken W.write_failures output.old output.new machine.old line.now [] fault) }
-    ensures fails { IfErr result (λ fault. Fails W.write_failures output.old output.new fault) }
-    ensures nothing { IfErr result (λ fault. IfMemory fault (Puts W.taken W.write_failures output.old output.new [])) }
+    ensures err { IfErr result (λ fault. StopsOn W.taken W.write_failures output.old output.new machine.old line.now [] (fault_of_reply fault)) }
+    ensures fails { IfErr result (λ fault. Fails W.write_failures output.old output.new (fault_of_reply fault)) }
+    ensures nothing { IfErr result (λ fault. IfMemory (fault_of_reply fault) (Puts W.taken W.write_failures output.old output.new [])) }
 {
     if line.is_empty() {
         output.finish()?;
@@ -123,7 +124,7 @@ fn finish<W: Sink, A: Allocator + Copy>(
 /// lent, so that no exit has anything to let go.
 fn serve_all<A: Allocator + Copy, R: Source, W: Sink>(
     machine: &mut Machine<A>,
-    line: &mut Line<A>,
+    line: &mut LineBuffer<A>,
     piece: &mut [u8],
     reader: &mut R,
     output: &mut Output<'_, W, A>,
@@ -138,7 +139,6 @@ fn serve_all<A: Allocator + Copy, R: Source, W: Sink>(
     ensures ok { OnOk result (Replayed W.taken W.write_failures machine.old machine.new (R.left reader.old) (R.left reader.new) output.old output.new) }
     ensures read { IfErr result (λ fault. IfRead fault (λ turn. BrokeOff W.taken W.write_failures machine.old (R.left reader.old) (R.left reader.new) output.old output.new)) }
     ensures memory { IfErr result (λ fault. IfMemory fault (RanOut W.taken W.write_failures machine.old (R.left reader.old) (R.left reader.new) output.old output.new)) }
-    ensures kind { IfErr result IsOfRun }
     ensures turn { IfErr result (λ fault. IfRead fault (λ turn. FailedAtTurn turn (R.reads_made reader.old) (R.reads_made reader.new) (R.failures_met reader.old) (R.failures_met reader.new))) }
     ensures err { IfErr result (λ fault. Ended W.taken W.write_failures machine.old (R.left reader.old) (R.left reader.new) output.old output.new fault) }
     ensures writer { output.new.sink.ghost_name ≡ output.old.sink.ghost_name }
@@ -177,7 +177,6 @@ pub(crate) fn replay<A: Allocator + Copy, R: Source, W: Sink>(
     ensures ok { OnOk result (Replayed W.taken W.write_failures machine.old machine.new (R.left reader.old) (R.left reader.new) output.old output.new) }
     ensures read { IfErr result (λ fault. IfRead fault (λ turn. BrokeOff W.taken W.write_failures machine.old (R.left reader.old) (R.left reader.new) output.old output.new)) }
     ensures memory { IfErr result (λ fault. IfMemory fault (RanOut W.taken W.write_failures machine.old (R.left reader.old) (R.left reader.new) output.old output.new × (output.new.held.now.items ≡ []))) }
-    ensures kind { IfErr result IsOfRun }
     ensures turn { IfErr result (λ fault. IfRead fault (λ turn. FailedAtTurn turn (R.reads_made reader.old) (R.reads_made reader.new) (R.failures_met reader.old) (R.failures_met reader.new))) }
     ensures err { IfErr result (λ fault. Ended W.taken W.write_failures machine.old (R.left reader.old) (R.left reader.new) output.old output.new fault) }
     ensures writer { output.new.sink.ghost_name ≡ output.old.sink.ghost_name }
@@ -185,7 +184,7 @@ pub(crate) fn replay<A: Allocator + Copy, R: Source, W: Sink>(
     ensures reads { R.reads_made reader.new ≤ R.reads_made reader.old + MAX_READS }
     ensures read_failures { MatchResult result (λ _. R.failures_met reader.new ≡ R.failures_met reader.old) (λ fault. (IsOfRead fault → ⊥) → R.failures_met reader.new ≡ R.failures_met reader.old) }
 {
-    let mut line = Line::new(alloc);
+    let mut line = LineBuffer::new(alloc);
     let mut piece = [0u8; MAX_PIECE];
     let served = serve_all(machine, &mut line, &mut piece, reader, output);
     mem::drop(line);
@@ -231,7 +230,6 @@ pub fn run<A: Allocator + Copy, R: Source, W: Sink>(
     ensures front { IfErr result (λ fault. WroteFront numbering (R.left reader.old) (R.left reader.new) (W.taken writer.old) (W.taken writer.new)) }
 
     // Whose fault it was.
-    ensures kind { IfErr result IsOfRun }
     ensures turn { IfErr result (λ fault. IfRead fault (λ turn. FailedAtTurn turn (R.reads_made reader.old) (R.reads_made reader.new) (R.failures_met reader.old) (R.failures_met reader.new))) }
     ensures reads { R.reads_made reader.new ≤ R.reads_made reader.old + MAX_READS }
     ensures read_failures { MatchResult result (λ _. R.failures_met reader.new ≡ R.failures_met reader.old) (λ fault. (IsOfRead fault → ⊥) → R.failures_met reader.new ≡ R.failures_met reader.old) }

@@ -1,11 +1,12 @@
 //! A room: a desk under one lock, and sessions that look at what it publishes.
 
-ghost use Rattle.std.specs.Prelude.{◌≡◌, ℕ, ◌<◌, [], ◌∷◌, ◌++◌, length, None, IfOk, OnErr, MatchBool, MatchOption, ⊤};
+ghost use Rattle.std.specs.Prelude.{◌≡◌, [], ◌∷◌, ◌++◌, length, None, IfOk, OnErr, MatchBool, MatchOption, ⊤};
 ghost use mathlib.Core.List.{IsPrefix};
 ghost use Rattle.cq_desk.specs.History.{edits_of};
 ghost use Rattle.cq_desk.specs.Replies.{MatchEnd, accepted, entries_by};
+ghost use Rattle.cq_desk.specs.Submission.{AreTried};
 ghost use Rattle.cq_room.specs.Marks.{entries_in};
-ghost use Rattle.cq_room.specs.Receipts.{AreReplies, IsPassed};
+ghost use Rattle.cq_room.specs.Receipts.{AreReplies, IsPassedBy};
 ghost use Rattle.cq_room.specs.Steps.Receipts.{IsPublished};
 
 use crate::book::Book;
@@ -185,15 +186,12 @@ where
         ensures session { IfOk result (λ _. session.new ≡ record session.old { known = self.new.journal }) }
         ensures replies { IfOk result (λ receipt. AreReplies L.after L.why N.opening N.limit self.old.journal asked.items receipt.submitted.replies.items) }
         ensures journal { IfOk result (λ receipt. self.new.journal ≡ self.old.journal ++ entries_by session.old.number (accepted asked.items receipt.submitted.replies.items)) }
-        ensures tried { IfOk result (λ receipt. MatchEnd receipt.submitted.end (λ _. length receipt.submitted.replies.items ≡ length asked.items) (length receipt.submitted.replies.items < length asked.items) (length receipt.submitted.replies.items ≡ length asked.items)) }
+        ensures tried { IfOk result (λ receipt. AreTried receipt.submitted.end asked.items receipt.submitted.replies.items) }
         ensures front { IfOk result (λ receipt. MatchEnd receipt.submitted.end
             (λ count. MatchOption receipt.front ⊥ (λ front. IsPublished self.old.journal session.old.number asked.items receipt.submitted.replies.items count front))
             (receipt.front ≡ None)
             (receipt.front ≡ None)) }
-        ensures passed { IfOk result (λ receipt. MatchEnd receipt.submitted.end
-            (λ count. IsPassed G.passed gate.old gate.new count (length (accepted asked.items receipt.submitted.replies.items)))
-            (gate.new ≡ gate.old)
-            ((entries : ℕ) × IsPassed G.passed gate.old gate.new entries (length (accepted asked.items receipt.submitted.replies.items)))) }
+        ensures passed { IfOk result (λ receipt. IsPassedBy G.passed gate.old gate.new receipt.submitted.end (length (accepted asked.items receipt.submitted.replies.items))) }
         ensures err { OnErr result (self.new ≡ self.old) }
         ensures kept { OnErr result (session.new ≡ session.old) }
         ensures unpassed { OnErr result (gate.new ≡ gate.old) }

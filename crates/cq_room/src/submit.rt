@@ -1,11 +1,8 @@
 //! Submits: what a session does under the room's lock.
 
-ghost use Rattle.std.specs.Prelude.{◌≡◌, ℕ, ◌<◌, List, ◌++◌, length, None, IfNone, IfOk, IfSome, OnErr, MatchOption};
-ghost use mathlib.Core.List.{IsPrefix};
-ghost use Rattle.cq_desk.specs.History.{StandsLast, edits_of};
-ghost use Rattle.cq_desk.specs.Replies.{MatchEnd, accepted, entries_by};
-ghost use Rattle.cq_desk.specs.declared.journal.Entry.{Entry};
-ghost use Rattle.cq_room.specs.Receipts.{AreNumbered, AreReplies, Enters, Heard, IsPassed, entered_before};
+ghost use Rattle.std.specs.Prelude.{◌≡◌, length, IfOk, OnErr};
+ghost use Rattle.cq_desk.specs.Replies.{accepted};
+ghost use Rattle.cq_room.specs.Receipts.{IsPassedBy, IsReceipt};
 
 use crate::names::RoomName;
 use crate::room::{Receipt, Room, Watched};
@@ -29,17 +26,7 @@ impl<L: Live, N: RoomName<L::Content>, A: Allocator + Copy> Session<L, N, A> {
     ) -> Result<Receipt<L, N, A>, NoMemory>
     where
         P::Leave: Wait,
-        ensures front { IfOk result (λ receipt. MatchEnd receipt.submitted.end (λ count. MatchOption receipt.front ⊥ (λ front. count ≡ length (edits_of front))) (receipt.front ≡ None) (receipt.front ≡ None)) }
-        ensures tried { IfOk result (λ receipt. MatchEnd receipt.submitted.end (λ _. length receipt.submitted.replies.items ≡ length asked.items) (length receipt.submitted.replies.items < length asked.items) (length receipt.submitted.replies.items ≡ length asked.items)) }
-        ensures seen { IfOk result (λ receipt. IfSome receipt.front (λ front. IsPrefix (edits_of self.old.history) (entered_before front asked.items receipt.submitted.replies.items))) }
-        ensures replies { IfOk result (λ receipt. IfSome receipt.front (λ front. AreReplies L.after L.why N.opening N.limit (entered_before front asked.items receipt.submitted.replies.items) asked.items receipt.submitted.replies.items)) }
-        ensures last { IfOk result (λ receipt. IfSome receipt.front (λ front. edits_of front ≡ entered_before front asked.items receipt.submitted.replies.items ++ entries_by self.old.number (accepted asked.items receipt.submitted.replies.items))) }
-        ensures publication { IfOk result (λ receipt. IfSome receipt.front (λ front. StandsLast (entries_by self.old.number (accepted asked.items receipt.submitted.replies.items)) front)) }
-        ensures numbered { IfOk result (λ receipt. IfSome receipt.front (λ front. AreNumbered (edits_of front) self.old.number asked.items receipt.submitted.replies.items)) }
-        ensures unpublished { IfOk result (λ receipt. IfNone receipt.front ((before : List (Entry L.Edit)) × IsPrefix (edits_of self.old.history) before × AreReplies L.after L.why N.opening N.limit before asked.items receipt.submitted.replies.items)) }
-        ensures heard { IfOk result (λ receipt. MatchOption receipt.front (self.new ≡ record self.old { known = self.new.known }) (λ front. Heard self.old self.new front)) }
-        ensures entered { IfOk result (λ receipt. Enters L.after L.why N.opening N.limit self.old self.new asked.items receipt.submitted.replies.items) }
-        ensures known { IfOk result (λ receipt. IfSome receipt.front (λ front. edits_of front ≡ self.new.known)) }
+        ensures receipt { IfOk result (λ receipt. IsReceipt L.after L.why N.opening N.limit self.old self.new asked.items receipt.submitted.replies.items receipt.submitted.end receipt.front) }
         ensures err { OnErr result (self.new ≡ self.old) }
     {
         self.submit_past(rt, room, asked, &mut OpenGate)
@@ -60,21 +47,8 @@ impl<L: Live, N: RoomName<L::Content>, A: Allocator + Copy> Session<L, N, A> {
     ) -> Result<Receipt<L, N, A>, NoMemory>
     where
         P::Leave: Wait,
-        ensures front { IfOk result (λ receipt. MatchEnd receipt.submitted.end (λ count. MatchOption receipt.front ⊥ (λ front. count ≡ length (edits_of front))) (receipt.front ≡ None) (receipt.front ≡ None)) }
-        ensures tried { IfOk result (λ receipt. MatchEnd receipt.submitted.end (λ _. length receipt.submitted.replies.items ≡ length asked.items) (length receipt.submitted.replies.items < length asked.items) (length receipt.submitted.replies.items ≡ length asked.items)) }
-        ensures seen { IfOk result (λ receipt. IfSome receipt.front (λ front. IsPrefix (edits_of self.old.history) (entered_before front asked.items receipt.submitted.replies.items))) }
-        ensures replies { IfOk result (λ receipt. IfSome receipt.front (λ front. AreReplies L.after L.why N.opening N.limit (entered_before front asked.items receipt.submitted.replies.items) asked.items receipt.submitted.replies.items)) }
-        ensures last { IfOk result (λ receipt. IfSome receipt.front (λ front. edits_of front ≡ entered_before front asked.items receipt.submitted.replies.items ++ entries_by self.old.number (accepted asked.items receipt.submitted.replies.items))) }
-        ensures publication { IfOk result (λ receipt. IfSome receipt.front (λ front. StandsLast (entries_by self.old.number (accepted asked.items receipt.submitted.replies.items)) front)) }
-        ensures numbered { IfOk result (λ receipt. IfSome receipt.front (λ front. AreNumbered (edits_of front) self.old.number asked.items receipt.submitted.replies.items)) }
-        ensures unpublished { IfOk result (λ receipt. IfNone receipt.front ((before : List (Entry L.Edit)) × IsPrefix (edits_of self.old.history) before × AreReplies L.after L.why N.opening N.limit before asked.items receipt.submitted.replies.items)) }
-        ensures heard { IfOk result (λ receipt. MatchOption receipt.front (self.new ≡ record self.old { known = self.new.known }) (λ front. Heard self.old self.new front)) }
-        ensures entered { IfOk result (λ receipt. Enters L.after L.why N.opening N.limit self.old self.new asked.items receipt.submitted.replies.items) }
-        ensures known { IfOk result (λ receipt. IfSome receipt.front (λ front. edits_of front ≡ self.new.known)) }
-        ensures passed { IfOk result (λ receipt. MatchEnd receipt.submitted.end
-            (λ count. IsPassed G.passed gate.old gate.new count (length (accepted asked.items receipt.submitted.replies.items)))
-            (gate.new ≡ gate.old)
-            ((entries : ℕ) × IsPassed G.passed gate.old gate.new entries (length (accepted asked.items receipt.submitted.replies.items)))) }
+        ensures receipt { IfOk result (λ receipt. IsReceipt L.after L.why N.opening N.limit self.old self.new asked.items receipt.submitted.replies.items receipt.submitted.end receipt.front) }
+        ensures passed { IfOk result (λ receipt. IsPassedBy G.passed gate.old gate.new receipt.submitted.end (length (accepted asked.items receipt.submitted.replies.items))) }
         ensures err { OnErr result (self.new ≡ self.old) }
         ensures unpassed { OnErr result (gate.new ≡ gate.old) }
     {

@@ -5,7 +5,7 @@ use Rattle.std.specs.List.{slice_get}
 use Rattle.cq_desk.specs.declared.journal.Entry.{Entry}
 use Rattle.cq_atom.specs.Edit.{Edit}
 use Rattle.cq_sessions.specs.Script.{Sheet, entry_lines, entries_from, replies_from, sheets_from}
-use Rattle.cq_board.proofs.Pieces.{ahead_at}
+use Rattle.cq_board.proofs.CallerLemmas.{ahead_at}
 
 ahead : {X : Type 0} (xs : List X) (i : ℕ) (x : X) → slice_get xs i ≡ Some x → drop i xs ≡ x ∷ drop (i + 1) xs
 ahead xs i x got = rw add-one (ahead_at xs i x got)

@@ -10,7 +10,7 @@ use Rattle.cq_board.specs.Pool.{PoolRecord}
 use Rattle.cq_atom.specs.Edit.{Edit}
 use Rattle.cq_sessions.specs.declared.fault.ServeFault.{ServeFault}
 use Rattle.cq_sessions.specs.declared.fault.ServeFault.TheVariants as serves
-use Rattle.cq_sessions.specs.declared.seat.Done.{Done}
+use Rattle.cq_sessions.specs.declared.task.Done.{Done}
 use Rattle.cq_sessions.specs.declared.sheet.Line.TheVariants.{Told}
 use Rattle.cq_text.specs.declared.form.Form.{Form}
 use Rattle.cq_report.specs.Lines.{lines_of}
@@ -20,7 +20,7 @@ use Rattle.cq_sessions.specs.Script.{Sheet, form_line, declaration_line, limits_
 use Rattle.cq_sessions.specs.Sessions.{IfWritten, SetupServed, Ran, knowns_before, pool_of, setup_sheet}
 use Rattle.cq_sessions.specs.Steps.Sheets.{SheetRecord, BytesServed, LeavesEach, asks, filled, numbers_of, whole, IsEven}
 use Rattle.cq_sessions.specs.Steps.Settings.{SetTo, RestBegins}
-use Rattle.cq_sessions.specs.Steps.Rooms.{AreDone, LeavesFile, FilesDone, FirstServes, AllServed, PutEntries, RoomServed, numbers_told, run_fault}
+use Rattle.cq_sessions.specs.Steps.Rooms.{AreDone, LeavesFile, FilesDone, FirstServes, AllServed, PutEntries, RoomServed, numbers_told, sessions_fault}
 use Rattle.cq_sessions.proofs.Told.{entries-told, served-stands}
 
 -- ---- what threads left
@@ -179,7 +179,7 @@ newcomers_know count files e =
     map_map (λ (s : SessionRecord Edit). journal_edits (edits_of s.history)) (λ k. record { number = k; history = []; known = [] }) (range_with_len 0 count) ∙ map_same [] (range_with_len 0 count) files (length-range_with_len 0 count ∙ e)
 
 -- a fault of serving is none of writing
-pub not_written : (fault : ServeFault) (P Q : Type 0) → Q → IfWritten (run_fault fault) P Q
+pub not_written : (fault : ServeFault) (P Q : Type 0) → Q → IfWritten (sessions_fault fault) P Q
 not_written serves.Places P Q q = q
 not_written serves.Thread P Q q = q
 not_written serves.NoMemory P Q q = q

@@ -11,9 +11,9 @@ use Rattle.cq_text.specs.declared.command.CommandKind.TheVariants as commands
 use Rattle.cq_text.specs.declared.form.Form.{Form}
 use Rattle.cq_report.specs.Lines.{lines_of}
 use Rattle.cq_report.specs.Reading.{Reading, Reads, AreReadIn}
-use Rattle.cq_report.specs.Reply.{published_line}
 use Rattle.cq_sessions.specs.Script.{Sheet}
-use Rattle.cq_sessions.specs.Sessions.{Served, entered, edit_reply}
+use Rattle.cq_report.specs.Reply.{published_line, reply_line}
+use Rattle.cq_sessions.specs.Sessions.{Served, entered}
 use Rattle.cq_report.specs.Lines.{HasNoEnd}
 use Rattle.cq_sessions.specs.Steps.Sheets.{SheetRecord, blank, numbers_of, told_in, asks, filled, whole, IsEven, Onward, LineServed, BytesServed, ServedTo}
 use Rattle.cq_sessions.specs.Steps.Clients.{Submits, Ends}
@@ -27,14 +27,14 @@ filled-told : (batch : List (Line (List ℕ))) (told : Option (List ℕ)) (rs : 
 filled-told [] told rs = refl
 filled-told (Told reply ∷ batch) told rs = ap (λ (sheet : Sheet). reply ∷ sheet) (filled-told batch told rs)
 filled-told (Asks ∷ batch) told [] = ap (λ (sheet : Sheet). None ∷ sheet) (filled-told batch told [])
-filled-told (Asks ∷ batch) told (r ∷ rs) = ap (λ (sheet : Sheet). Some (edit_reply r) ∷ sheet) (filled-told batch told rs)
+filled-told (Asks ∷ batch) told (r ∷ rs) = ap (λ (sheet : Sheet). Some (reply_line r) ∷ sheet) (filled-told batch told rs)
 
-filled-asks : (batch : List (Line (List ℕ))) (rs : List (Reply Why)) (r : Reply Why) → asks batch ≡ length rs → filled (batch ++ Asks ∷ []) (rs ++ r ∷ []) ≡ filled batch rs ++ Some (edit_reply r) ∷ []
+filled-asks : (batch : List (Line (List ℕ))) (rs : List (Reply Why)) (r : Reply Why) → asks batch ≡ length rs → filled (batch ++ Asks ∷ []) (rs ++ r ∷ []) ≡ filled batch rs ++ Some (reply_line r) ∷ []
 filled-asks [] [] r e = refl
 filled-asks [] (s ∷ rs) r e = absurd (omega (arith, e))
 filled-asks (Told reply ∷ batch) rs r e = ap (λ (sheet : Sheet). reply ∷ sheet) (filled-asks batch rs r e)
 filled-asks (Asks ∷ batch) [] r e = absurd (omega (arith, e))
-filled-asks (Asks ∷ batch) (s ∷ rs) r e = ap (λ (sheet : Sheet). Some (edit_reply s) ∷ sheet) (filled-asks batch rs r (omega (arith, e)))
+filled-asks (Asks ∷ batch) (s ∷ rs) r e = ap (λ (sheet : Sheet). Some (reply_line s) ∷ sheet) (filled-asks batch rs r (omega (arith, e)))
 
 asks-told : (batch : List (Line (List ℕ))) (told : Option (List ℕ)) → asks (batch ++ Told told ∷ []) ≡ asks batch
 asks-told [] told = refl
@@ -125,7 +125,7 @@ module _ (opening : PoolRecord) (limit : ℕ) where
 
   -- a line whose edit waits
   gather_at : (known : List Edit) (sheet : SheetRecord) (line : Reading) (edit : Edit)
-      → ((rs : List (Reply Why)) (r : Reply Why) (lines : List Reading) (own : List (ℕ × Edit)) (behind : Sheet) (last : List Edit) → Served opening limit lines known (sheet.asked ++ edit ∷ []) (rs ++ r ∷ []) own behind last → Served opening limit (line ∷ lines) known sheet.asked rs own (Some (edit_reply r) ∷ behind) last)
+      → ((rs : List (Reply Why)) (r : Reply Why) (lines : List Reading) (own : List (ℕ × Edit)) (behind : Sheet) (last : List Edit) → Served opening limit lines known (sheet.asked ++ edit ∷ []) (rs ++ r ∷ []) own behind last → Served opening limit (line ∷ lines) known sheet.asked rs own (Some (reply_line r) ∷ behind) last)
       → IsEven sheet → Onward opening limit known sheet known (record sheet { batch = sheet.batch ++ Asks ∷ []; asked = sheet.asked ++ edit ∷ [] }) line
   gather_at known sheet line edit serves even =
       let longer : length (sheet.asked ++ edit ∷ []) ≡ length sheet.asked + 1 = omega (arith, length-append sheet.asked (edit ∷ [])) in
@@ -137,16 +137,16 @@ module _ (opening : PoolRecord) (limit : ℕ) where
               l.front,
               m,
               own,
-              Some (edit_reply l.last),
+              Some (reply_line l.last),
               serves l.front l.last lines own behind last (subst (λ (z : List (Reply Why)). Served opening limit lines known (sheet.asked ++ edit ∷ []) z own behind last) l.is served),
-              append_assoc sheet.replies (filled sheet.batch l.front) (Some (edit_reply l.last) ∷ [])
+              append_assoc sheet.replies (filled sheet.batch l.front) (Some (reply_line l.last) ∷ [])
                   ∙ ap (λ (z : Sheet). sheet.replies ++ z) (sym (filled-asks sheet.batch l.front l.last (even ∙ sym m)) ∙ ap (filled (sheet.batch ++ Asks ∷ [])) (sym l.is)),
               refl,
             );
       }
 
   pub gather_onward : (known : List Edit) (sheet sheet' : SheetRecord) (line : Reading) (edit : Edit)
-      → ((rs : List (Reply Why)) (r : Reply Why) (lines : List Reading) (own : List (ℕ × Edit)) (behind : Sheet) (last : List Edit) → Served opening limit lines known (sheet.asked ++ edit ∷ []) (rs ++ r ∷ []) own behind last → Served opening limit (line ∷ lines) known sheet.asked rs own (Some (edit_reply r) ∷ behind) last)
+      → ((rs : List (Reply Why)) (r : Reply Why) (lines : List Reading) (own : List (ℕ × Edit)) (behind : Sheet) (last : List Edit) → Served opening limit lines known (sheet.asked ++ edit ∷ []) (rs ++ r ∷ []) own behind last → Served opening limit (line ∷ lines) known sheet.asked rs own (Some (reply_line r) ∷ behind) last)
       → IsEven sheet → sheet' ≡ record sheet { batch = sheet.batch ++ Asks ∷ []; asked = sheet.asked ++ edit ∷ [] } → Onward opening limit known sheet known sheet' line
   gather_onward known sheet sheet' line edit serves even is =
       subst (λ (s : SheetRecord). Onward opening limit known sheet known s line) (sym is) (gather_at known sheet line edit serves even)

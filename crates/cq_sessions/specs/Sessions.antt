@@ -1,8 +1,8 @@
 -- How SETUP and files are served over one board, each file by a session of its own. (this project's profile)
-use Rattle.std.specs.Prelude.{◌≡◌, ℕ, ◌+◌, ◌==◌, Bool, true, false, List, [], ◌∷◌, ◌++◌, Option, Some, None, length, map, codes, All, slice_index_or, if◌then◌else◌}
+use Rattle.std.specs.Prelude.{◌≡◌, ℕ, ◌+◌, ◌==◌, Bool, true, false, List, [], ◌∷◌, ◌++◌, Option, Some, None, length, map, All, slice_index_or, if◌then◌else◌}
 use Rattle.std.specs.Io.KnownBytes.{Appends}
 use mathlib.Core.List.{IsPrefix}
-use Rattle.cq_text.specs.Device.{TakesFront}
+use Rattle.cq_devices.specs.Device.{TakesFront}
 use Rattle.cq_text.specs.declared.form.Form.{Form}
 use Rattle.cq_text.specs.declared.command.CommandKind.TheVariants as commands
 use Rattle.cq_board.specs.declared.edit.Why.{Why}
@@ -13,24 +13,18 @@ use Rattle.cq_desk.specs.Replies.{accepted, replies_at, journal_edits}
 use Rattle.cq_desk.specs.declared.journal.Entry.{Entry}
 use Rattle.cq_desk.specs.declared.reply.Reply.{Reply}
 use Rattle.cq_desk.specs.declared.reply.Reply.TheVariants as replies
-use Rattle.cq_report.specs.declared.fault.RunFault.{RunFault}
-use Rattle.cq_report.specs.declared.fault.RunFault.TheVariants as faults
 use Rattle.cq_report.specs.declared.stage.Stage.TheVariants as stages
 use Rattle.cq_report.specs.Lines.{lines_of}
 use Rattle.cq_report.specs.Reading.{Reading, Reads, Faulty, AreReadIn}
 use Rattle.cq_report.specs.declared.numbering.Numbering.TheVariants.{Plain}
 use Rattle.cq_report.specs.Machine.{SetupRecord, State, begin_state, form_of, next, reply}
 use Rattle.cq_report.specs.Output.{AreReadings}
-use Rattle.cq_report.specs.Reply.{entered_line, refused_line, why_words, published_line, show_line, fault_line, late_line}
+use Rattle.cq_report.specs.Reply.{reply_line, published_line, show_line, fault_line, late_line}
+use Rattle.cq_sessions.specs.declared.fault.SessionsFault.{SessionsFault}
+use Rattle.cq_sessions.specs.declared.fault.SessionsFault.TheVariants as faults
 use Rattle.cq_sessions.specs.Script.{Sheet, script_of}
 
 -- ---- a file
-
--- The reply to an edit in words.
-abbrev pub edit_reply : Reply Why → List ℕ
-edit_reply (replies.Entered number) = entered_line number
-edit_reply replies.JournalFull = refused_line (codes "JournalFull")
-edit_reply (replies.Not reason) = refused_line (why_words reason)
 
 -- A submit of edits by a session that knows of these entries: others may stand behind them by then; the edits are answered one after another behind all those, and what the session knows of then is all of it with the accepted ones.
 pub record Submitted (opening : PoolRecord) (limit : ℕ) (known known' asked : List Edit) (rs : List (Reply Why)) : Type 0 where
@@ -63,7 +57,7 @@ Served opening limit (Faulty kind offset ∷ lines) known asked rs own (told ∷
 Served opening limit (Reads commands.Blank ∷ lines) known asked rs own (told ∷ sheet) known' = (told ≡ None) × Served opening limit lines known asked rs own sheet known'
 Served opening limit (Reads (commands.Setup setup) ∷ lines) known asked rs own (told ∷ sheet) known' = (told ≡ Some late_line) × Served opening limit lines known asked rs own sheet known'
 Served opening limit (Reads (commands.Edit edit) ∷ lines) known asked rs own (told ∷ sheet) known' =
-    (r : Reply Why) × (told ≡ Some (edit_reply r)) × Served opening limit lines known (asked ++ edit ∷ []) (rs ++ r ∷ []) own sheet known'
+    (r : Reply Why) × (told ≡ Some (reply_line r)) × Served opening limit lines known (asked ++ edit ∷ []) (rs ++ r ∷ []) own sheet known'
 Served opening limit (Reads commands.Publish ∷ lines) known asked rs own (told ∷ sheet) known' =
     (now : List Edit) × (behind : List (ℕ × Edit)) × Submitted opening limit known now asked rs × (own ≡ entered asked rs ++ behind) × (told ≡ Some (published_line (length now))) × Served opening limit lines now [] [] behind sheet known'
 Served opening limit (Reads commands.Show ∷ lines) known asked rs own (told ∷ sheet) known' =
@@ -185,9 +179,15 @@ pub record WroteFrontOf (setup : List ℕ) (files : List (List ℕ)) (taken take
   pub wrote : TakesFront taken taken' text
 
 -- What holds after a fault of writing, and what after any other.
-abbrev pub IfWritten : RunFault → Type 0 → Type 0 → Type 0
-IfWritten (faults.Read turn) written other = other
+abbrev pub IfWritten : SessionsFault → Type 0 → Type 0 → Type 0
 IfWritten faults.Write written other = written
 IfWritten faults.Places written other = other
 IfWritten faults.Thread written other = other
 IfWritten faults.NoMemory written other = other
+
+-- How much the writer's failures rise with a fault: by one with its own, and else not.
+abbrev pub failures_of : SessionsFault → ℕ
+failures_of faults.Write = 1
+failures_of faults.Places = 0
+failures_of faults.Thread = 0
+failures_of faults.NoMemory = 0

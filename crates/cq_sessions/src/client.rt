@@ -1,13 +1,12 @@
 //! What serves the lines of a file: a session in its room.
 
-ghost use Rattle.std.specs.Prelude.{◌≡◌, ◌<◌, ◌∷◌, ◌++◌, [], ℕ, List, length, None, IfNone, IfOk, IfSome, OnErr, MatchOption};
+ghost use Rattle.std.specs.Prelude.{◌≡◌, ℕ, List, length, IfOk, OnErr};
 ghost use mathlib.Core.List.{IsPrefix};
 ghost use Rattle.cq_atom.specs.Edit.{Edit as EditContent};
 ghost use Rattle.cq_board.specs.Pool.{PoolRecord};
-ghost use Rattle.cq_desk.specs.History.{StandsLast, edits_of};
-ghost use Rattle.cq_desk.specs.Replies.{MatchEnd, accepted, entries_by, journal_edits};
-ghost use Rattle.cq_desk.specs.declared.journal.Entry.{Entry};
-ghost use Rattle.cq_room.specs.Receipts.{AreNumbered, AreReplies, Heard, entered_before};
+ghost use Rattle.cq_desk.specs.History.{edits_of};
+ghost use Rattle.cq_desk.specs.Replies.{MatchEnd, journal_edits};
+ghost use Rattle.cq_room.specs.Receipts.{IsReceipt};
 ghost use Rattle.cq_sessions.specs.Steps.Sheets.{IsEven};
 ghost use Rattle.cq_sessions.specs.Steps.Clients.{IsOpened, TakesEdits, IsSubmission, Submits, opened_pool};
 
@@ -154,15 +153,7 @@ fn submit_in<L: Live, N: RoomName<L::Content>, R: Wait + Drop, A: Allocator + Co
     session: &mut Session<L, N, A>,
     asked: Vec<L::Edit, A>,
 ) -> Result<Receipt<L, N, A>, NoMemory>
-    ensures front { IfOk result (λ receipt. MatchEnd receipt.submitted.end (λ count. MatchOption receipt.front ⊥ (λ front. count ≡ length (edits_of front))) (receipt.front ≡ None) (receipt.front ≡ None)) }
-    ensures tried { IfOk result (λ receipt. MatchEnd receipt.submitted.end (λ _. length receipt.submitted.replies.items ≡ length asked.items) (length receipt.submitted.replies.items < length asked.items) (length receipt.submitted.replies.items ≡ length asked.items)) }
-    ensures seen { IfOk result (λ receipt. IfSome receipt.front (λ front. IsPrefix (edits_of session.old.history) (entered_before front asked.items receipt.submitted.replies.items))) }
-    ensures replies { IfOk result (λ receipt. IfSome receipt.front (λ front. AreReplies L.after L.why N.opening N.limit (entered_before front asked.items receipt.submitted.replies.items) asked.items receipt.submitted.replies.items)) }
-    ensures last { IfOk result (λ receipt. IfSome receipt.front (λ front. edits_of front ≡ entered_before front asked.items receipt.submitted.replies.items ++ entries_by session.old.number (accepted asked.items receipt.submitted.replies.items))) }
-    ensures publication { IfOk result (λ receipt. IfSome receipt.front (λ front. StandsLast (entries_by session.old.number (accepted asked.items receipt.submitted.replies.items)) front)) }
-    ensures numbered { IfOk result (λ receipt. IfSome receipt.front (λ front. AreNumbered (edits_of front) session.old.number asked.items receipt.submitted.replies.items)) }
-    ensures unpublished { IfOk result (λ receipt. IfNone receipt.front ((before : List (Entry L.Edit)) × IsPrefix (edits_of session.old.history) before × AreReplies L.after L.why N.opening N.limit before asked.items receipt.submitted.replies.items)) }
-    ensures heard { IfOk result (λ receipt. MatchOption receipt.front (session.new ≡ record session.old { known = session.new.known }) (λ front. Heard session.old session.new front)) }
+    ensures receipt { IfOk result (λ receipt. IsReceipt L.after L.why N.opening N.limit session.old session.new asked.items receipt.submitted.replies.items receipt.submitted.end receipt.front) }
     ensures err { OnErr result (session.new ≡ session.old) }
 {
     session.submit(rt, room, asked)

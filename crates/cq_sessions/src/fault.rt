@@ -3,9 +3,26 @@
 ghost use Rattle.std.specs.Prelude.{◌≡◌, ◌≤◌, ◌⊎◌, Some, IfSome};
 ghost use Rattle.cq_sessions.specs.Steps.Rooms.{rank};
 
-use cq_report::RunFault;
 use cq_room::RoomFault;
 use std::alloc::{AllocError, AllocFailed};
+use thiserror::Error;
+
+/// Why SETUP and files were not served, or their script was not written whole.
+#[derive(Clone, Copy, Debug, PartialEq, Eq, Error)]
+pub enum SessionsFault {
+    /// The writer failed.
+    #[error("write failed")]
+    Write,
+    /// A session got no place among the readers, or a look was refused.
+    #[error("no reader place")]
+    Places,
+    /// A thread was not started.
+    #[error("no thread")]
+    Thread,
+    /// An allocation failed.
+    #[error("out of memory")]
+    NoMemory,
+}
 
 /// Why SETUP and files were not served. Nothing is written then.
 #[derive(Clone, Copy, Debug, PartialEq, Eq)]
@@ -61,16 +78,16 @@ impl<T: Drop> From<AllocFailed<T>> for ServeFault {
     }
 }
 
-impl From<ServeFault> for RunFault {
-    ghost use Rattle.cq_sessions.specs.Steps.Rooms.{run_fault};
+impl From<ServeFault> for SessionsFault {
+    ghost use Rattle.cq_sessions.specs.Steps.Rooms.{sessions_fault};
 
-    ghost from_gives = { λ fault e. e ≡ run_fault fault };
+    ghost from_gives = { λ fault e. e ≡ sessions_fault fault };
 
-    fn from(fault: ServeFault) -> RunFault {
+    fn from(fault: ServeFault) -> SessionsFault {
         match fault {
-            ServeFault::Places => RunFault::Places,
-            ServeFault::Thread => RunFault::Thread,
-            ServeFault::NoMemory => RunFault::NoMemory,
+            ServeFault::Places => SessionsFault::Places,
+            ServeFault::Thread => SessionsFault::Thread,
+            ServeFault::NoMemory => SessionsFault::NoMemory,
         }
     }
 }

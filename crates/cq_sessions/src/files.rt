@@ -1,33 +1,33 @@
 //! Sessions from files: a thread for each file, over one board.
 
-ghost use Rattle.std.specs.Prelude.{◌≡◌, ◌<◌, ◌≤◌, ◌+◌, ◌^◌, ◌∷◌, ◌++◌, [], length, map, codes, string_bytes, IfOk, IfErr, OnOk, MatchResult};
+ghost use Rattle.std.specs.Prelude.{◌≡◌, ◌<◌, ◌≤◌, ◌+◌, ◌^◌, ◌∷◌, ◌++◌, [], length, map, codes, string_bytes, IfOk, IfErr, OnOk, OnErr, MatchResult};
 ghost use Rattle.std.specs.List.{flat_map};
 ghost use Rattle.std.specs.Io.KnownBytes.{Appends};
-ghost use Rattle.cq_text.specs.Device.{TakesFront};
+ghost use Rattle.cq_devices.specs.Device.{TakesFront};
 ghost use Rattle.cq_desk.specs.History.{edits_of};
 ghost use Rattle.cq_desk.specs.Replies.{journal_edits};
-ghost use Rattle.cq_report.specs.Run.{IsOfSessions, failures_of};
 ghost use Rattle.cq_sessions.specs.Script.{form_line, declaration_line, limits_line, entries_from, replies_from, sheets_from};
-ghost use Rattle.cq_sessions.specs.Sessions.{Ran, IfWritten, Wrote, WroteFrontOf, pool_of};
+ghost use Rattle.cq_sessions.specs.Sessions.{Ran, IfWritten, Wrote, WroteFrontOf, failures_of, pool_of};
 ghost use Rattle.cq_sessions.specs.Steps.Sheets.{IsEven};
 ghost use Rattle.cq_sessions.specs.Steps.Clients.{IsOpened, TakesEdits, opened_pool};
 ghost use Rattle.cq_sessions.specs.Steps.Rooms.{AreDone, AreTold, IsFirstOf, FilesDone, FirstServes, AllServed, PutEntries, RoomServed, numbers_told};
 
 use crate::client::{BoardClient, Client, Hall};
-use crate::fault::ServeFault;
+use crate::fault::{ServeFault, SessionsFault};
 use crate::script::{put_entries, put_replies, put_setup, put_sheets};
-use crate::seat::{Done, Seat};
 use crate::serving::serve_bytes;
 use crate::setting::{Setting, read_setting};
 use crate::sheet::Sheet;
+use crate::task::{Done, FileTask};
 use crate::telling::is_told;
 use crate::threads::run_all;
 use cq_atom::Edit;
 use cq_board::{Board, Why};
 use cq_desk::{Entry, Live};
-use cq_report::{RunFault, Setup, form_of};
+use cq_devices::{Failed, Sink, write_all};
+use cq_report::{Setup, form_of};
 use cq_room::{Gate, OpenGate, Parts, Room, RoomName, Session, Watched};
-use cq_text::{Form, Sink, write_all};
+use cq_text::Form;
 use std::alloc::{AllocError, Allocator};
 use std::marker::Brand;
 use std::mem;
@@ -86,7 +86,7 @@ fn seats<'a, C: Client<A>, G: Gate, A: Allocator + Copy>(
     clients: Vec<C, A>,
     files: &'a [Vec<u8, A>],
     gate: &'a G,
-) -> Result<Vec<Seat<'a, C, G, A>, A>, AllocError>
+) -> Result<Vec<FileTask<'a, C, G, A>, A>, AllocError>
     requires { length clients.items ≡ length files.now }
     ensures clients { IfOk result (λ seats. map (λ seat. seat.client) seats.items ≡ clients.items) }
     ensures forms { IfOk result (λ seats. map (λ seat. seat.form) seats.items ≡ map (λ _. form) clients.items) }
@@ -95,7 +95,7 @@ fn seats<'a, C: Client<A>, G: Gate, A: Allocator + Copy>(
     let mut seats = Vec::new(alloc);
     let mut place = 0usize;
     for client in clients {
-        seats.push(Seat {
+        seats.push(FileTask {
             alloc,
             form,
             client,
@@ -398,19 +398,14 @@ fn script_of<T: Threads + Wait + Sync, G: Gate, A: Allocator + Copy + Send + Syn
 }
 
 /// Writes the text, and passes it on.
-fn write_out<W: Sink>(writer: &mut W, text: &str) -> Result<(), RunFault>
+fn write_out<W: Sink>(writer: &mut W, text: &str) -> Result<(), Failed>
     requires { W.write_failures writer.old < 2 ^ 62 }
     ensures ok { OnOk result (Appends (W.taken writer.old) (W.taken writer.new) text.now) }
-    ensures err { IfErr result (λ fault. (fault ≡ RunFault.Write) × TakesFront (W.taken writer.old) (W.taken writer.new) text.now) }
+    ensures err { OnErr result (TakesFront (W.taken writer.old) (W.taken writer.new) text.now) }
     ensures failures { MatchResult result (λ _. W.write_failures writer.new ≡ W.write_failures writer.old) (λ _. W.write_failures writer.new ≡ W.write_failures writer.old + 1) }
 {
-    let Ok(()) = write_all(writer, text.as_bytes()) else {
-        return Err(RunFault::Write);
-    };
-    let Ok(()) = writer.flush() else {
-        return Err(RunFault::Write);
-    };
-    Ok(())
+    write_all(writer, text.as_bytes())?;
+    writer.flush()
 }
 
 /// Serves SETUP and the files over one board, and writes the script that they leave; each file's thread passes the gate
@@ -441,7 +436,7 @@ pub fn run_sessions_past<
     files: &[Vec<u8, A>],
     writer: &mut W,
     gate: &G,
-) -> Result<(), RunFault>
+) -> Result<(), SessionsFault>
     requires files { (0 < length files.now) × (length files.now ≤ 16) }
     requires failures { W.write_failures writer.old < 2 ^ 62 }
 
@@ -450,11 +445,13 @@ pub fn run_sessions_past<
     ensures write { IfErr result (λ fault. IfWritten fault (WroteFrontOf setup.now (map (λ file. file.items) files.now) (W.taken writer.old) (W.taken writer.new)) (writer.new ≡ writer.old)) }
 
     // Whose fault it was.
-    ensures kind { IfErr result IsOfSessions }
     ensures write_failures { MatchResult result (λ _. W.write_failures writer.new ≡ W.write_failures writer.old) (λ fault. W.write_failures writer.new ≡ W.write_failures writer.old + failures_of fault) }
 {
     let text = script_of(rt, alloc, setup, files, gate)?;
-    write_out(writer, text.as_str())
+    match write_out(writer, text.as_str()) {
+        Ok(()) => Ok(()),
+        Err(_) => Err(SessionsFault::Write),
+    }
 }
 
 /// Serves SETUP and the files over one board, and writes the script that they leave: `run_sessions_past` with a gate that holds nobody.
@@ -467,7 +464,7 @@ pub fn run_sessions<T: Threads + Wait + Sync, W: Sink, A: Allocator + Copy + Sen
     setup: &[u8],
     files: &[Vec<u8, A>],
     writer: &mut W,
-) -> Result<(), RunFault>
+) -> Result<(), SessionsFault>
     requires files { (0 < length files.now) × (length files.now ≤ 16) }
     requires failures { W.write_failures writer.old < 2 ^ 62 }
 
@@ -476,7 +473,6 @@ pub fn run_sessions<T: Threads + Wait + Sync, W: Sink, A: Allocator + Copy + Sen
     ensures write { IfErr result (λ fault. IfWritten fault (WroteFrontOf setup.now (map (λ file. file.items) files.now) (W.taken writer.old) (W.taken writer.new)) (writer.new ≡ writer.old)) }
 
     // Whose fault it was.
-    ensures kind { IfErr result IsOfSessions }
     ensures write_failures { MatchResult result (λ _. W.write_failures writer.new ≡ W.write_failures writer.old) (λ fault. W.write_failures writer.new ≡ W.write_failures writer.old + failures_of fault) }
 {
     run_sessions_past(rt, alloc, setup, files, writer, &OpenGate)

@@ -11,11 +11,12 @@ mod client;
 mod fault;
 mod files;
 mod script;
-mod seat;
 mod serving;
 mod setting;
 mod sheet;
+mod task;
 mod telling;
 mod threads;
 
+pub use fault::SessionsFault;
 pub use files::{run_sessions, run_sessions_past};

@@ -1,14 +1,13 @@
 //! What the lines of a file were answered.
 
 ghost use Rattle.std.specs.Prelude.{◌≡◌, ◌<◌, ◌≤◌, ◌∷◌, ◌++◌, ℕ, List, [], length, drop, option_map, map, string_bytes, IfOk, OnOk, MatchBool};
-ghost use Rattle.cq_sessions.specs.Sessions.{edit_reply};
 ghost use Rattle.cq_sessions.specs.Steps.Sheets.{blank, filled, line_map, told_in};
 
 use crate::fault::ServeFault;
 use cq_atom::Edit;
 use cq_board::Why;
-use cq_desk::{Reply, StepFault};
-use cq_report::{entered_line, refusal_line};
+use cq_desk::Reply;
+use cq_report::reply_line;
 use std::alloc::{AllocError, Allocator};
 use std::marker::Model;
 use std::mem;
@@ -43,17 +42,6 @@ impl<A: Allocator> Model for Sheet<A> {
     ghost view = { λ s. record { replies = map (option_map string_bytes) s.replies.items; batch = map (line_map string_bytes) s.batch.items; asked = s.gathered.items; numbers = s.numbers.items } };
 }
 
-/// The reply to an edit.
-fn edit_line<A: Allocator>(alloc: A, reply: &Reply<Why>) -> Result<String<A>, AllocError>
-    ensures { IfOk result (λ text. string_bytes text ≡ edit_reply reply.now) }
-{
-    match reply {
-        Reply::Entered(entry) => entered_line(alloc, *entry),
-        Reply::JournalFull => refusal_line(alloc, StepFault::JournalFull),
-        Reply::Not(reason) => refusal_line(alloc, StepFault::Not(*reason)),
-    }
-}
-
 /// The reply to a line of a batch, and how many of the edits' replies are told with it.
 fn fill<A: Allocator>(
     alloc: A,
@@ -68,7 +56,7 @@ fn fill<A: Allocator>(
     match line {
         Line::Told(reply) => Ok((reply, told)),
         Line::Asks => match replies.get(told) {
-            Some(reply) => Ok((Some(edit_line(alloc, reply)?), told + 1)),
+            Some(reply) => Ok((Some(reply_line(alloc, reply)?), told + 1)),
             None => Ok((None, told)),
         },
     }

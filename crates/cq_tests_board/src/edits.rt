@@ -1,63 +1,14 @@
-//! Edits: the first reason of each refusal, and copies.
+//! What holds of all boards, and copies that are apart.
 
-use crate::page::Page;
-use crate::rows::put_answer;
-use crate::samples::{KRAMER_AND_JERRY, Setup, TRAVEL, WORKED, admit, admit_all, made, shows};
+use crate::samples::{KRAMER_AND_JERRY, Setup, TRAVEL, WORKED, admit_all, made, shows};
 use crate::shown::page_of;
 use cq_board::{Board, pools_stay_good, unifies_is_unify};
 use std::alloc::{AllocError, Global};
-
-/// The travel setup with a query `a`.
-const OF_A: Setup = Setup {
-    first: TRAVEL,
-    then: "post a {} R(1) <-",
-};
-
-/// Edits that are refused behind the setup, one for each reason but a full pool, each with its reason behind ` = `.
-const REFUSED: &str = "post a {} R(2) <- = NameTaken
-post c {R(1), Airlines(1, 2)} Flights(1, 2) <- Trains(1) = NotAnswer { part: Posts, place: 1 }
-post d {} R(x) <- Flights(x, 1), Flights(x) = Arity { place: 1 }
-withdraw b = NoSuchName
-insert Trains(1, 2) = UnknownRelation { place: 0 }
-insert Flights(122, Paris) = RowPresent
-delete Flights(122, Rome) = RowAbsent";
-
-/// Whether the edit of the row is answered so.
-fn is_refused(alloc: Global, board: &mut Board, row: &str) -> Result<bool, AllocError> {
-    let (line, wanted) = row.split_once(" = ").unwrap_or((row, ""));
-    let mut page = Page::new();
-    put_answer(admit(alloc, board, line)?, &mut page);
-    Ok(page.is(wanted))
-}
-
-/// The first of the edits that is not refused so, or after which the board shows something else.
-fn other_refused(alloc: Global, board: &mut Board) -> Result<Option<&'static str>, AllocError> {
-    for row in REFUSED.lines() {
-        if !is_refused(alloc, board, row)? || !shows(alloc, board, OF_A)? {
-            return Ok(Some(row));
-        }
-    }
-    Ok(None)
-}
-
-/// The same of the board of the setup.
-fn other_refusal(alloc: Global) -> Result<Option<&'static str>, AllocError> {
-    let mut board = made(alloc, OF_A)?;
-    let other = other_refused(alloc, &mut board);
-    drop(board);
-    other
-}
 
 #[test]
 fn laws() {
     unifies_is_unify();
     pools_stay_good();
-}
-
-#[test]
-fn every_refusal(rt: HostRuntime) {
-    let other = other_refusal(rt.alloc());
-    assert!(rt; other == Ok(None), "{other:?}");
 }
 
 /// Edits of a board and of its copy, and behind them what is put into a travel board that shows the same as either.

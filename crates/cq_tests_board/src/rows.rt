@@ -168,7 +168,7 @@ fn put_more(meter: &Meter, page: &mut Page) {
 }
 
 /// Writes the answer to an edit.
-pub fn put_answer(told: Option<Why>, page: &mut Page) {
+fn put_answer(told: Option<Why>, page: &mut Page) {
     match told {
         Some(why) => {
             let _ = write!(page, "{why:?}");

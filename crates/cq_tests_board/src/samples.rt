@@ -49,7 +49,7 @@ pub fn edit<A: Allocator + Copy>(alloc: A, line: &[u8]) -> Result<Edit<A>, Alloc
 }
 
 /// What the board answers to the edit of the line.
-pub fn admit<A: Allocator + Copy>(
+fn admit<A: Allocator + Copy>(
     alloc: A,
     board: &mut Board<A>,
     line: &str,

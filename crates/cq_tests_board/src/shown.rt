@@ -2,10 +2,10 @@
 
 use crate::page::Page;
 use crate::samples::RELATIONS;
-use cq_atom::{Name, Row, Value};
+use cq_atom::{Edge, Name, Row, Value};
 use cq_blocks::Iter;
-use cq_board::{Board, Crowd, Link, NearMiss, Wait};
-use cq_match::{Edge, Fall, Reason};
+use cq_board::{Board, Crowd, Link, NearMiss, Waiter};
+use cq_match::{Fall, Reason};
 use cq_text::print_query;
 use std::alloc::{AllocError, Allocator};
 
@@ -73,7 +73,7 @@ impl Worded for Fall {
 }
 
 /// As `kramer:unable`.
-impl<'a, A: Allocator> Worded for Wait<&'a Name<A>> {
+impl<'a, A: Allocator> Worded for Waiter<&'a Name<A>> {
     fn put(&self, page: &mut Page) {
         page.put(self.name.as_str());
         page.put(":");

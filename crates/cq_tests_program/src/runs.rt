@@ -1,9 +1,10 @@
 //! Runs of one script over devices, and scripts that are read whole.
 
 use crate::devices::{Expecting, Pieces};
-use cq_report::{Numbering, RunFault, read_whole, run};
-use cq_text::Counted;
+use cq_devices::{Counted, WholeFault, read_whole};
+use cq_report::{Numbering, RunFault, run};
 use std::alloc::{Allocator, Global};
+use std::fmt::Display;
 use std::io::{Read, Write};
 
 /// How the run of what the reader gives ends, and the writer.
@@ -47,12 +48,20 @@ pub fn told_of(alloc: Global, script: &[u8], most: usize, expected: &[u8]) -> To
     )
 }
 
+/// Whether the fault is told so.
+pub fn is_told<F: Display>(alloc: Global, fault: &F, text: &str) -> bool {
+    match format!(in alloc; "{fault}") {
+        Ok(told) => told.as_str() == text,
+        Err(_) => false,
+    }
+}
+
 /// Whether what the reader gives to the end are these bytes; else why not.
 pub fn is_whole<A: Allocator, D: Read + Drop>(
     alloc: A,
     device: D,
     expected: &[u8],
-) -> Result<bool, RunFault> {
+) -> Result<bool, WholeFault> {
     let bytes = read_whole(alloc, &mut Counted::new(device))?;
     Ok(bytes.as_slice() == expected)
 }

@@ -1,10 +1,10 @@
 //! Texts that are written of the boards which scripts leave: each once, and with each of its growths refused in turn.
 
 use cq_board::Board;
+use cq_devices::{Counted, WholeFault};
 use cq_render::{explain, explain_named, graph, json, report};
-use cq_report::{Played, RunFault, read_script};
+use cq_report::{Played, read_script};
 use cq_tests_growths::{Outcome, Tried, refusals};
-use cq_text::Counted;
 use std::alloc::{AllocError, Allocator};
 
 /// What is written of a board.
@@ -106,7 +106,7 @@ fn written<A: Allocator + Copy>(alloc: A, board: &Board<A>, view: View, wanted: 
 }
 
 /// The script read.
-fn played<A: Allocator + Copy>(alloc: A, script: &[u8]) -> Result<Played<A>, RunFault> {
+fn played<A: Allocator + Copy>(alloc: A, script: &[u8]) -> Result<Played<A>, WholeFault> {
     read_script(alloc, &mut Counted::new(script))
 }
 
@@ -155,7 +155,7 @@ fn refused_growth_in_explain_named(rt: HostRuntime) {
 }
 
 /// Whether the script leaves the board of that report.
-fn is_left<A: Allocator + Copy>(alloc: A) -> Result<bool, RunFault> {
+fn is_left<A: Allocator + Copy>(alloc: A) -> Result<bool, WholeFault> {
     let played = played(alloc, SUPPLIED)?;
     Ok(is_text(alloc, played.board(), View::Report, REPORT)?)
 }
@@ -168,7 +168,7 @@ impl Tried for Playing {
         match is_left(alloc) {
             Ok(right) => Outcome::done_if(right),
             Err(fault) => {
-                Outcome::refused_if(fault == RunFault::NoMemory && is_left(alloc) == Ok(true))
+                Outcome::refused_if(fault == WholeFault::NoMemory && is_left(alloc) == Ok(true))
             }
         }
     }

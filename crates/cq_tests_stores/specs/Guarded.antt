@@ -1,7 +1,7 @@
 -- What the tests know of the nodes of a matcher, and what is asked of an edge that comes with a node.
 use Rattle.std.specs.Prelude.{◌≡◌, ℕ, ◌<◌, Bool, false, List, ◌∷◌, slice_index}
 use Rattle.std.specs.List.{All, Any, Contains}
-use Rattle.cq_match.specs.declared.edge.Edge.{Edge}
+use Rattle.cq_atom.specs.declared.edge.Edge.{Edge}
 use Rattle.cq_match.specs.Matched.{numbers}
 use Rattle.cq_match.specs.Matcher.{is_apart}
 

@@ -98,63 +98,6 @@ pub fn other_case<A: Allocator + Copy, S: Store<A>>(
     Ok(None)
 }
 
-/// Calls of a store, and then calls of it, which is 0, and of two copies that are made of it, 1 and 2.
-pub struct Apart<'t, C> {
-    pub before: &'t [&'t [C]],
-    pub calls: &'t [(usize, C)],
-}
-
-fn other_of_three<A: Allocator + Copy, S: Store<A>>(
-    alloc: A,
-    store: &mut S,
-    one: &mut S,
-    other: &mut S,
-    calls: &[(usize, S::Call)],
-) -> Result<Option<usize>, AllocError> {
-    for (place, (number, call)) in calls.iter().enumerate() {
-        let right = match *number {
-            0 => is_right(alloc, store, call)?,
-            1 => is_right(alloc, one, call)?,
-            _ => is_right(alloc, other, call)?,
-        };
-        if !right {
-            return Ok(Some(place));
-        }
-    }
-    Ok(None)
-}
-
-fn other_beside_one<A: Allocator + Copy, S: Store<A> + Copied>(
-    alloc: A,
-    store: &mut S,
-    one: &mut S,
-    calls: &[(usize, S::Call)],
-) -> Result<Option<usize>, AllocError> {
-    let mut other = store.copied()?;
-    other_of_three(alloc, store, one, &mut other, calls)
-}
-
-fn other_of_copies<A: Allocator + Copy, S: Store<A> + Copied>(
-    alloc: A,
-    store: &mut S,
-    apart: &Apart<S::Call>,
-) -> Result<Option<usize>, AllocError> {
-    if other_call(alloc, store, apart.before)?.is_some() {
-        return Err(AllocError);
-    }
-    let mut one = store.copied()?;
-    other_beside_one(alloc, store, &mut one, apart.calls)
-}
-
-/// The place of the first call behind the copying that shows something else.
-pub fn other_apart<A: Allocator + Copy, S: Store<A> + Copied>(
-    alloc: A,
-    apart: &Apart<S::Call>,
-) -> Result<Option<usize>, AllocError> {
-    let mut store = S::begin(alloc)?;
-    other_of_copies(alloc, &mut store, apart)
-}
-
 /// A call whose growths are refused, and calls that show what stands: before it and where it was refused, and behind it.
 pub struct Trial<'t, C> {
     pub before: &'t [&'t [C]],

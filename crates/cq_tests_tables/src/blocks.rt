@@ -10,6 +10,9 @@ const MANY: usize = 1_500;
 /// So many fill one.
 const FULL: usize = 128;
 
+/// So many fill more than two.
+const SEVERAL: usize = 300;
+
 /// Puts the number at its place.
 fn put<A: Allocator + Copy>(list: &mut Blocks<usize, A>, number: usize) -> Result<(), AllocError> {
     match list.binary_search_by(|other| other.cmp(&number)) {
@@ -32,7 +35,7 @@ fn many(alloc: Global) -> Result<Blocks<usize>, AllocError> {
 
 /// Whether these are the numbers below this one.
 fn are_below<A: Allocator>(list: &Blocks<usize, A>, end: usize) -> bool {
-    list.len() == end && list.iter().copied().eq(0..end)
+    list.len() == end && list.is_empty() == (end == 0) && list.iter().copied().eq(0..end)
 }
 
 /// How many numbers stand before the one that equals this one.
@@ -72,19 +75,6 @@ fn numbers_below<A: Allocator + Copy>(alloc: A, end: usize) -> Result<Vec<usize,
     Ok(numbers)
 }
 
-#[test]
-fn a_vec_as_a_list(rt: HostRuntime) -> Result<(), AllocError> {
-    let mut list = Blocks::from_vec(numbers_below(rt.alloc(), MANY)?)?;
-    assert!(rt; list.len() == MANY);
-    assert!(rt; are_below(&list, MANY));
-    let place = list.place_at(700);
-    list.insert(place, 7)?;
-    assert!(rt; list.len() == MANY + 1);
-    assert!(rt; list.iter().nth(700) == Some(&7));
-    assert!(rt; Blocks::<usize>::new(rt.alloc()).is_empty());
-    Ok(())
-}
-
 /// A number that is put into a list of one full block.
 struct Inserting;
 
@@ -116,13 +106,13 @@ impl Tried for Inserting {
     }
 }
 
-/// A list of three numbers.
+/// A list of numbers that fill more than two blocks.
 struct OfVec;
 
 fn is_of_vec<A: Allocator + Copy>(alloc: A) -> bool {
-    match numbers_below(alloc, 3) {
+    match numbers_below(alloc, SEVERAL) {
         Ok(numbers) => match Blocks::from_vec(numbers) {
-            Ok(list) => are_below(&list, 3),
+            Ok(list) => are_below(&list, SEVERAL),
             Err(_) => false,
         },
         Err(_) => false,
@@ -131,11 +121,11 @@ fn is_of_vec<A: Allocator + Copy>(alloc: A) -> bool {
 
 impl Tried for OfVec {
     fn tried<A: Allocator + Copy>(alloc: A) -> Outcome {
-        let Ok(numbers) = numbers_below(alloc, 3) else {
+        let Ok(numbers) = numbers_below(alloc, SEVERAL) else {
             return Outcome::Unready;
         };
         match Blocks::from_vec(numbers) {
-            Ok(list) => Outcome::done_if(are_below(&list, 3)),
+            Ok(list) => Outcome::done_if(are_below(&list, SEVERAL)),
             Err(_) => Outcome::refused_if(is_of_vec(alloc)),
         }
     }

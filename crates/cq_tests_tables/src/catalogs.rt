@@ -19,14 +19,6 @@ fn is_travel(catalog: &Catalog) -> bool {
 }
 
 #[test]
-fn catalogs(rt: HostRuntime) -> Result<(), Fail> {
-    let catalog = travel_catalog(rt.alloc())?;
-    let copy = catalog.copy()?;
-    assert!(rt; is_travel(&catalog) && is_travel(&copy));
-    Ok(())
-}
-
-#[test]
 fn refusals_of_a_declaration(rt: HostRuntime) -> Result<(), Fail> {
     let mut catalog = travel_catalog(rt.alloc())?;
     for (name, arity, fault) in [

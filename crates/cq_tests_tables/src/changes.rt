@@ -1,20 +1,20 @@
-//! Groundings kept under row changes: the worked rows by calls, and lists of changes from a generator, after each of
-//! which the groundings are those that `all` finds.
+//! Groundings kept under row changes: the worked row by calls, after each of which they are those that `all` finds, and
+//! each growth refused in turn.
 
 use crate::samples::{delete, insert, pairs};
 use cq_atom::{Meter, Query, Row};
 use cq_ground::Groundings;
-use cq_rel::{Catalog, CatalogFault, Tables};
+use cq_rel::Tables;
 use cq_tests_growths::{Outcome, Tried, refusals};
 use cq_text::{Form, print_values, read_ground_atom, read_query};
 use std::alloc::{AllocError, Allocator, Global};
 use std::test::Fail;
 
 /// Both ways of a pair.
-pub const WAYS: &str = "{} R(x, y) <- T(x, y), T(y, x)";
+const WAYS: &str = "{} R(x, y) <- T(x, y), T(y, x)";
 
 /// Brings the groundings up to the row of the text, which the tables have got.
-pub fn gain<A: Allocator + Copy>(
+fn gain<A: Allocator + Copy>(
     alloc: A,
     query: &Query<A>,
     tables: &Tables<A>,
@@ -87,7 +87,8 @@ fn are(alloc: Global, found: &Groundings, wanted: &str) -> Result<bool, AllocErr
     Ok(told.as_str() == wanted)
 }
 
-/// The first change after which the groundings or the visits are others than told.
+/// The first change after which the groundings or the visits are others than told, or the groundings others than those that
+/// `all` finds.
 fn other_change(
     alloc: Global,
     query: &Query,
@@ -100,6 +101,7 @@ fn other_change(
         if !change(alloc, query, tables, found, text, &mut meter)
             || meter.count() != *visits
             || !are(alloc, found, wanted)?
+            || !are_all(alloc, query, tables, found)
         {
             return Ok(Some(*text));
         }
@@ -134,107 +136,6 @@ const BOTH_WAYS: [(&str, u64, &str); 4] = [
 #[test]
 fn both_ways(rt: HostRuntime) -> Result<(), Fail> {
     let other = other_change_of(rt.alloc(), WAYS, BOTH_WAYS.as_slice())?;
-    assert!(rt; other.is_none(), "{other:?}");
-    Ok(())
-}
-
-/// A generator of numbers, the same for the same start.
-#[derive(Drop)]
-struct Draws {
-    state: u64,
-}
-
-impl Draws {
-    /// The next number, from 0 to 3.
-    fn next(&mut self) -> u64 {
-        self.state = self
-            .state
-            .wrapping_mul(6364136223846793005)
-            .wrapping_add(1442695040888963407);
-        (self.state >> 33) % 4
-    }
-}
-
-/// The text of a row of `T`, or, one time in four, of `S`.
-fn drawn_row(alloc: Global, draws: &mut Draws) -> Result<String, AllocError> {
-    let first = draws.next();
-    let second = draws.next();
-    if draws.next() == 0 {
-        return format!(in alloc; "S({first})");
-    }
-    format!(in alloc; "T({first}, {second})")
-}
-
-/// Whether after each of the changes that are drawn the groundings are those that `all` finds.
-fn keep(
-    alloc: Global,
-    query: &Query,
-    tables: &mut Tables,
-    found: &mut Groundings,
-    draws: &mut Draws,
-) -> Result<bool, AllocError> {
-    for _ in 0..30 {
-        let text = drawn_row(alloc, draws)?;
-        let changed = change(
-            alloc,
-            query,
-            tables,
-            found,
-            text.as_str(),
-            &mut Meter::new(),
-        );
-        if !changed || !are_all(alloc, query, tables, found) {
-            return Ok(false);
-        }
-    }
-    Ok(true)
-}
-
-/// Tables over `T` of arity 2 and `S` of arity 1, without rows.
-fn begun(alloc: Global) -> Result<Tables, CatalogFault> {
-    let mut catalog = Catalog::empty(alloc);
-    catalog.declare("T", 2)?;
-    catalog.declare("S", 1)?;
-    Ok(Tables::begin(catalog)?)
-}
-
-/// Whether one list of changes is kept for the query of that text.
-fn keep_of(alloc: Global, text: &str, draws: &mut Draws) -> Result<bool, AllocError> {
-    let (Ok(query), Ok(mut tables)) = (read_query(alloc, text.as_bytes(), Form::One), begun(alloc))
-    else {
-        return Err(AllocError);
-    };
-    let mut found = Groundings::all(alloc, &query, &tables, &mut Meter::new())?;
-    keep(alloc, &query, &mut tables, &mut found, draws)
-}
-
-const QUERIES: [&str; 8] = [
-    WAYS,
-    "{} R(x) <- T(x, x)",
-    "{} R(x, z) <- T(x, y), T(y, z)",
-    "{} R(x, y) <- T(x, y), T(1, x)",
-    "{} R(x, y) <- T(x, y), T(y, z), T(z, x)",
-    "{} R(x, y) <- S(x), S(y), T(x, y)",
-    "{} R(x, z) <- T(x, y), T(z, z), S(2)",
-    "{} R(1) <- T(1, 2), S(3)",
-];
-
-/// The first query of which one of 25 lists of changes is not kept.
-fn other_list(alloc: Global) -> Result<Option<&'static str>, AllocError> {
-    let mut draws = Draws { state: 20110612 };
-    for text in QUERIES {
-        for _ in 0..25 {
-            if !keep_of(alloc, text, &mut draws)? {
-                return Ok(Some(text));
-            }
-        }
-    }
-    Ok(None)
-}
-
-#[test]
-fn two_hundred_lists_of_changes(rt: HostRuntime) -> Result<(), Fail> {
-    let other = other_list(rt.alloc())?;
     assert!(rt; other.is_none(), "{other:?}");
     Ok(())
 }

@@ -2,8 +2,9 @@
 
 use cq_atom::{Row, Value};
 use cq_csv::{CsvFault, all_records, read_csv};
+use cq_devices::Counted;
 use cq_refusing::Refusing;
-use cq_text::{Counted, print_row};
+use cq_text::print_row;
 use std::alloc::{AllocError, Allocator, Global};
 use std::io::{self, ErrorKind, Read};
 use std::mem;
@@ -68,6 +69,14 @@ fn csv_to_inserts(rt: HostRuntime) {
             1,
             ["T(\"\u{feff}1\")"].as_slice(),
         ),
+        // What looks like a number and is none.
+        (
+            b"--1,+1,1 ,-9223372036854775809,99999999999999999999999999999999999999,\xc2\x80",
+            6,
+            [
+                "T(\"--1\", \"+1\", \"1 \", \"-9223372036854775809\", \"99999999999999999999999999999999999999\", \"\u{80}\")",
+            ].as_slice(),
+        ),
         // No byte, one byte, quotes in the middle, commas in quotes, spaces, numbers at their ends.
         (b"", 8, [].as_slice()),
         (b"x", 1, [r#"T("x")"#].as_slice()),
@@ -106,6 +115,8 @@ fn csv_faults(rt: HostRuntime) {
         (b"\xff\na,b", 1, Some(CsvFault::Text { index: 0 })),
         (b"\"a\nb\",1", 2, Some(CsvFault::Text { index: 0 })),
         (b"1,2\n3,\x7f\n4", 2, Some(CsvFault::Text { index: 1 })),
+        (b"a\tb", 1, Some(CsvFault::Text { index: 0 })),
+        (b"\0", 1, Some(CsvFault::Text { index: 0 })),
         (b"1,2,3,4,5,6,7,8", 8, None),
         (b"1,2,3,4,5,6,7,8,9", 8, Some(CsvFault::Width { index: 0 })),
         (LONG, 1, None),

@@ -1,6 +1,6 @@
 //! Groundings: the worked rows by calls. Those of other scripts stand in the cases.
 
-use crate::samples::{delete, insert, pairs, travel};
+use crate::samples::{pairs, travel};
 use cq_atom::Meter;
 use cq_ground::{Groundings, reads};
 use cq_rel::Tables;
@@ -68,16 +68,6 @@ fn worked_rows(rt: HostRuntime) -> Result<(), Fail> {
     Ok(())
 }
 
-#[test]
-fn kramer_waits(rt: HostRuntime) -> Result<(), Fail> {
-    let tables = travel(rt.alloc())?;
-    let mut meter = Meter::new();
-    let found = all(rt.alloc(), &tables, JERRY, &mut meter)?;
-    let copy = found.copy()?;
-    assert!(rt; meter.count() == 1 && are(rt.alloc(), &copy, 2, "(122)(123)"));
-    Ok(())
-}
-
 /// Whether the values of the row of that text are a grounding; `None` where the text is none of a row.
 fn has(alloc: Global, found: &Groundings, text: &str) -> Option<bool> {
     match read_ground_atom(alloc, text.as_bytes(), Form::One) {
@@ -115,24 +105,6 @@ fn kramer_and_jerry(rt: HostRuntime) -> Result<(), Fail> {
     let found = all(rt.alloc(), &tables, JERRY, &mut Meter::new())?;
     let other = other_grounding(rt.alloc(), &found, JERRYS.as_slice());
     assert!(rt; other.is_none() && !found.has(&[]), "{other:?}");
-    Ok(())
-}
-
-#[test]
-fn both_ways(rt: HostRuntime) -> Result<(), Fail> {
-    let ways = "{} R(x, y) <- T(x, y), T(y, x)";
-    let mut tables = pairs(rt.alloc(), [].as_slice())?;
-    assert!(rt; are_of(rt.alloc(), &tables, ways, 0, ""));
-    for (text, count, wanted) in [
-        ("T(1, 2)", 0, ""),
-        ("T(2, 1)", 2, "(1, 2)(2, 1)"),
-        ("T(1, 1)", 3, "(1, 1)(1, 2)(2, 1)"),
-    ] {
-        assert!(rt; insert(rt.alloc(), &mut tables, text) == Ok(()), "{text}");
-        assert!(rt; are_of(rt.alloc(), &tables, ways, count, wanted), "{text}");
-    }
-    assert!(rt; delete(rt.alloc(), &mut tables, "T(1, 2)") == Ok(()));
-    assert!(rt; are_of(rt.alloc(), &tables, ways, 1, "(1, 1)"));
     Ok(())
 }
 

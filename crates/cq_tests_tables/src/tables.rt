@@ -1,8 +1,8 @@
 //! Tables: the worked setup, the order of rows, and the refusals in order.
 
-use crate::samples::{delete, insert, of_arity, pairs, travel};
+use crate::samples::{delete, insert, of_arity, travel};
 use cq_atom::{Row, Value};
-use cq_rel::{RowFault, Tables};
+use cq_rel::{CatalogFault, RowFault, Tables};
 use cq_text::{Form, print_row, read_ground_atom};
 use std::alloc::Global;
 use std::test::Fail;
@@ -46,12 +46,6 @@ const FLIGHTS: [&str; 4] = [
     "Flights(136, \"Rome\")",
 ];
 
-const FLIGHTS_LEFT: [&str; 3] = [
-    "Flights(122, \"Paris\")",
-    "Flights(134, \"Paris\")",
-    "Flights(136, \"Rome\")",
-];
-
 /// Whether these are the worked tables.
 fn are_worked(alloc: Global, tables: &Tables) -> bool {
     are_rows(alloc, tables, "Flights", FLIGHTS.as_slice())
@@ -88,43 +82,6 @@ fn travel_setup(rt: HostRuntime) -> Result<(), Fail> {
     assert!(rt; are_worked(rt.alloc(), &tables));
     let other = other_there(rt.alloc(), &tables, THERE.as_slice());
     assert!(rt; other.is_none(), "{other:?}");
-    Ok(())
-}
-
-/// Deletes a row, and tells whether the others are left.
-fn lose_one(alloc: Global, tables: &mut Tables) -> bool {
-    delete(alloc, tables, "Flights(123, Paris)") == Ok(())
-        && are_rows(alloc, tables, "Flights", FLIGHTS_LEFT.as_slice())
-        && tables.count("Airlines") == Some(4)
-}
-
-#[test]
-fn copies_of_tables(rt: HostRuntime) -> Result<(), Fail> {
-    let tables = travel(rt.alloc())?;
-    let mut copy = tables.copy()?;
-    assert!(rt; lose_one(rt.alloc(), &mut copy) && are_worked(rt.alloc(), &tables));
-    Ok(())
-}
-
-// Numbers come before texts, and texts go by bytes.
-#[test]
-fn rows_in_order(rt: HostRuntime) -> Result<(), Fail> {
-    let falling = [
-        "T(\"b\", 1)",
-        "T(\"a\", \"1\")",
-        "T(\"a\", 1)",
-        "T(20, 1)",
-        "T(-3, 1)",
-    ];
-    let rising = [
-        "T(-3, 1)",
-        "T(20, 1)",
-        "T(\"a\", 1)",
-        "T(\"a\", \"1\")",
-        "T(\"b\", 1)",
-    ];
-    let tables = pairs(rt.alloc(), falling.as_slice())?;
-    assert!(rt; are_rows(rt.alloc(), &tables, "T", rising.as_slice()));
     Ok(())
 }
 
@@ -166,63 +123,81 @@ const THREES: [&str; 6] = [
     "T(4, 1, 3)",
 ];
 
-const ONE_AND_THREE: [&str; 2] = ["T(1, 5, 3)", "T(1, 2, 3)"];
+/// A column, the numbers that are looked for from it on, and the rows that have them.
+type Found = (usize, &'static [i64], &'static [&'static str]);
 
-const TWO: [&str; 4] = ["T(1, 2, 3)", "T(1, 2, 4)", "T(2, 2, 3)", "T(3, 2, 1)"];
-
-const TWO_THREE: [&str; 2] = ["T(2, 2, 3)", "T(1, 2, 3)"];
-
-const TWO_THREE_ONE: [&str; 1] = ["T(1, 2, 3)"];
-
-// In rows of three values, the first and the last are a run that goes round.
-#[test]
-fn rows_are_found_by_a_run_of_columns(rt: HostRuntime) -> Result<(), Fail> {
-    let tables = of_arity(rt.alloc(), 3, THREES.as_slice())?;
-    let one = Value::num(1);
-    let two = Value::num(2);
-    let three = Value::num(3);
-    let round = [&three, &one];
-    assert!(rt;
-        are_found(
-            rt.alloc(),
-            &tables,
-            2,
-            round.as_slice(),
-            ONE_AND_THREE.as_slice()
-        )
-    );
-    let whole = [&two, &three, &one];
-    assert!(rt; are_found(rt.alloc(), &tables, 1, &whole[..1], TWO.as_slice()));
-    assert!(rt; are_found(rt.alloc(), &tables, 1, &whole[..2], TWO_THREE.as_slice()));
-    assert!(rt;
-        are_found(
-            rt.alloc(),
-            &tables,
-            1,
-            whole.as_slice(),
-            TWO_THREE_ONE.as_slice()
-        )
-    );
-    assert!(rt; are_found(rt.alloc(), &tables, 0, &whole[..0], THREES.as_slice()));
-    assert!(rt; tables.rows_with("U", 0, &whole[..0]).next().is_none());
-    Ok(())
-}
+// The first and the last of three columns are a run that goes round.
+const THREES_FOUND: [Found; 5] = [
+    (2, &[3, 1], &["T(1, 5, 3)", "T(1, 2, 3)"]),
+    (
+        1,
+        &[2],
+        &["T(1, 2, 3)", "T(1, 2, 4)", "T(2, 2, 3)", "T(3, 2, 1)"],
+    ),
+    (1, &[2, 3], &["T(2, 2, 3)", "T(1, 2, 3)"]),
+    (1, &[2, 3, 1], &["T(1, 2, 3)"]),
+    (0, &[], &THREES),
+];
 
 const ONES: [&str; 2] = ["T(1)", "T(2)"];
 
-const SECOND: [&str; 1] = ["T(2)"];
-
 // A column beyond the arity turns nothing.
+const ONES_FOUND: [Found; 3] = [
+    (0, &[2], &["T(2)"]),
+    (1, &[2], &["T(2)"]),
+    (0, &[2, 1], &[]),
+];
+
+/// The number at that place; 0 where there is none.
+fn value_at(numbers: &[i64], place: usize) -> Value {
+    Value::num(numbers.get(place).copied().unwrap_or(0))
+}
+
+/// Whether the rows that have at most three numbers from the column on are those of the texts.
+fn is_found(alloc: Global, tables: &Tables, found: Found) -> bool {
+    let (column, numbers, texts) = found;
+    let values = [
+        value_at(numbers, 0),
+        value_at(numbers, 1),
+        value_at(numbers, 2),
+    ];
+    let wanted = [&values[0], &values[1], &values[2]];
+    are_found(
+        alloc,
+        tables,
+        column,
+        &wanted[..numbers.len().min(3)],
+        texts,
+    )
+}
+
+/// The place of the first that finds other rows.
+fn other_found(alloc: Global, tables: &Tables, found: &[Found]) -> Option<usize> {
+    for (place, one) in found.iter().enumerate() {
+        if !is_found(alloc, tables, *one) {
+            return Some(place);
+        }
+    }
+    None
+}
+
+/// The same over tables of that arity with these rows.
+fn other_found_of(
+    alloc: Global,
+    arity: usize,
+    rows: &[&str],
+    found: &[Found],
+) -> Result<Option<usize>, CatalogFault> {
+    let tables = of_arity(alloc, arity, rows)?;
+    Ok(other_found(alloc, &tables, found))
+}
+
 #[test]
-fn rows_of_one_value_are_found(rt: HostRuntime) -> Result<(), Fail> {
-    let tables = of_arity(rt.alloc(), 1, ONES.as_slice())?;
-    let one = Value::num(1);
-    let two = Value::num(2);
-    let both = [&two, &one];
-    assert!(rt; are_found(rt.alloc(), &tables, 0, &both[..1], SECOND.as_slice()));
-    assert!(rt; are_found(rt.alloc(), &tables, 1, &both[..1], SECOND.as_slice()));
-    assert!(rt; are_found(rt.alloc(), &tables, 0, both.as_slice(), &SECOND[..0]));
-    Ok(())
+fn rows_are_found_by_a_run_of_columns(rt: HostRuntime) {
+    let threes = other_found_of(rt.alloc(), 3, THREES.as_slice(), THREES_FOUND.as_slice());
+    assert!(rt; threes == Ok(None), "{threes:?}");
+    let ones = other_found_of(rt.alloc(), 1, ONES.as_slice(), ONES_FOUND.as_slice());
+    assert!(rt; ones == Ok(None), "{ones:?}");
 }
 
 /// The first of the texts whose row is not refused so, where it is inserted or deleted.

@@ -1,6 +1,6 @@
 //! Sources and sinks over std's devices, and devices that fail.
 
-use cq_text::{Counted, Failed, Sink, Source, write_all};
+use cq_devices::{Counted, Failed, Sink, Source, write_all};
 use std::io::{self, ErrorKind, Read, Write};
 
 /// Gives one byte a read, and fails at the second one.

@@ -1,10 +1,11 @@
 //! Each growth of a call refused in turn.
 
 use cq_atom::{Query, Row};
+use cq_devices::{Counted, WholeFault, read_whole};
 use cq_tests_growths::{Outcome, Tried, refusals};
 use cq_text::{
-    Counted, Form, TextFault, WholeFault, print_atom, print_query, print_row, print_values,
-    push_escaped, read_command, read_ground_atom, read_query, read_whole,
+    Form, TextFault, print_atom, print_query, print_row, print_values, push_escaped, read_command,
+    read_ground_atom, read_query,
 };
 use std::alloc::{AllocError, Allocator};
 use std::io::{self, Read};

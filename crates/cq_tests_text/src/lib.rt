@@ -1,5 +1,5 @@
-//! Tests of `cq_text`: each public call once with ample memory, texts and their faults, devices that fail, and each
-//! growth refused in turn. The faults of whole lines stand in the cases. Nothing but tests is here, and no crate stands
+//! Tests of `cq_text`: texts read and printed, lines and counts at their limits, devices that fail, and each growth refused
+//! in turn. The faults of whole lines stand in the cases. Nothing but tests is here, and no crate stands
 //! on this one.
 #![tactic(auto)]
 

@@ -1,11 +1,10 @@
-//! Queries, atoms, rows and values, read and printed.
+//! Queries, rows and values, read and printed.
 
-use cq_atom::Query;
 use cq_text::{
-    Form, Kind, TextFault, one_reading, print_atom, print_query, print_row, print_values,
-    read_ground_atom, read_query,
+    Form, TextFault, one_reading, print_query, print_row, print_values, read_ground_atom,
+    read_query,
 };
-use std::alloc::{AllocError, Global};
+use std::alloc::Global;
 
 /// Whether the text is read as a query that is printed so.
 fn is_query(alloc: Global, text: &str, printed: &str) -> Result<bool, TextFault> {
@@ -43,44 +42,6 @@ fn queries(rt: HostRuntime) {
     ] {
         assert!(rt; is_query(rt.alloc(), text, printed) == Ok(true), "{text}");
     }
-}
-
-/// The fault of the text as a query's, if it has one.
-fn query_fault(alloc: Global, text: &str) -> Option<TextFault> {
-    read_query(alloc, text.as_bytes(), Form::One).err()
-}
-
-#[test]
-fn faults_of_queries(rt: HostRuntime) {
-    for (text, kind, offset) in [
-        ("", Kind::Shape, 0),
-        ("# {} R(1) <-", Kind::Token, 0),
-        ("{} R(1) <- #", Kind::Token, 11),
-        ("{A(x)} R(1) <-", Kind::Unbound, 3),
-    ] {
-        let fault = TextFault::At { kind, offset };
-        assert!(rt; query_fault(rt.alloc(), text) == Some(fault), "{text}");
-    }
-}
-
-/// Whether the heads of the query are one atom that is printed so.
-fn has_head(alloc: Global, query: &Query, printed: &str) -> Result<bool, AllocError> {
-    match query.heads() {
-        [head] => Ok(print_atom(alloc, head)?.as_str() == printed),
-        _ => Ok(false),
-    }
-}
-
-/// The same of the query of that text.
-fn is_head(alloc: Global, text: &str, printed: &str) -> Result<bool, TextFault> {
-    let query = read_query(alloc, text.as_bytes(), Form::One)?;
-    Ok(has_head(alloc, &query, printed)?)
-}
-
-#[test]
-fn atoms(rt: HostRuntime) {
-    let text = "{} R(1,y,Z) <- T(y)";
-    assert!(rt; is_head(rt.alloc(), text, "R(1, y, \"Z\")") == Ok(true));
 }
 
 /// Whether the text is read as a row that is printed so, as its relation and its values in brackets.
@@ -128,27 +89,5 @@ fn rows(rt: HostRuntime) {
     ] {
         let told = is_row(rt.alloc(), text, relation, values, printed);
         assert!(rt; told == Ok(true), "{text}");
-    }
-}
-
-/// The fault of the text as a ground atom's, if it has one.
-fn row_fault(alloc: Global, text: &str) -> Option<TextFault> {
-    read_ground_atom(alloc, text.as_bytes(), Form::One).err()
-}
-
-#[test]
-fn faults_of_rows(rt: HostRuntime) {
-    for (text, kind, offset) in [
-        ("", Kind::Shape, 0),
-        ("#", Kind::Token, 0),
-        ("t(1)", Kind::Shape, 0),
-        ("T(x)", Kind::Shape, 2),
-        ("T()", Kind::Shape, 2),
-        ("T(1", Kind::Shape, 3),
-        ("T(1) ,", Kind::Shape, 5),
-        ("T(1,2,3,4,5,6,7,8,9", Kind::Limit, 18),
-    ] {
-        let fault = TextFault::At { kind, offset };
-        assert!(rt; row_fault(rt.alloc(), text) == Some(fault), "{text}");
     }
 }

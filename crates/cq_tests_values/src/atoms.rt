@@ -1,7 +1,7 @@
 //! Atoms, rows, valuations and `unify`.
 
 use crate::samples::{ONE, Sample, TWO, U, X, Y, atom, row};
-use cq_atom::{Atom, Bad, Meter, Row, Term, Valuation, Value, unify};
+use cq_atom::{Atom, Bad, Meter, Row, Valuation, Value, unify};
 use std::alloc::Global;
 
 /// Whether the atom has that relation and as many terms.
@@ -94,37 +94,6 @@ fn valuations(rt: HostRuntime) {
     assert!(rt; other.is_none(), "{other:?}");
     assert!(rt; number_at(&valuation, "x") == Some(3) && number_at(&valuation, "y") == Some(2));
     assert!(rt; number_at(&valuation, "X").is_none());
-}
-
-/// The atom `R(x, y)` where `x` is 1.
-fn under_one(alloc: Global) -> Result<Atom, Bad> {
-    let mut valuation = Valuation::empty(alloc);
-    bind(&mut valuation, "x", 1)?;
-    let pair = atom(alloc, "R", [X, Y].as_slice())?;
-    Ok(pair.under(&valuation)?)
-}
-
-/// Whether the terms are 1 and the variable.
-fn are_one_and(terms: &[Term], name: &str) -> bool {
-    match terms {
-        [first, second] => is_one(first) && second.as_variable() == Some(name),
-        _ => false,
-    }
-}
-
-fn is_one(term: &Term) -> bool {
-    match term.as_constant() {
-        Some(value) => value.as_num() == Some(1),
-        None => false,
-    }
-}
-
-#[test]
-fn under(rt: HostRuntime) {
-    match under_one(rt.alloc()) {
-        Ok(made) => assert!(rt; made.relation() == "R" && are_one_and(made.terms(), "y")),
-        Err(bad) => assert!(rt; false, "{bad:?}"),
-    }
 }
 
 /// Whether the atoms unify.

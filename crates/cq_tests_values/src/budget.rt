@@ -1,5 +1,4 @@
 //! Tests of `cq_budget`: what is counted, what is refused, and two threads at once.
 
 mod bytes;
-mod refusals;
 mod threads;

@@ -1,19 +1,18 @@
-//! Edits, and copies of them.
+//! Copies of edits.
 
-use crate::samples::{ONE, TWO, query, row};
+use crate::samples::query;
 use cq_atom::{Bad, Edit, EditKind, Name};
 use cq_tests_growths::{Outcome, Tried, refusals};
-use std::alloc::{Allocator, Global};
+use std::alloc::Allocator;
 
 const LONG_NAME: &str = "kramer_who_flies_to_Rome_1";
 
-/// The kind of an edit, how long its name is, and how many variables or values it has.
-fn kind_of<A: Allocator>(edit: &Edit<A>) -> (&str, usize, usize) {
+/// Whether the edit posts a query of two variables under the name.
+fn is_posting<A: Allocator>(edit: &Edit<A>) -> bool {
     match edit {
-        EditKind::Post { name, query } => ("post", name.as_str().len(), query.variables().len()),
-        EditKind::Withdraw { name } => ("withdraw", name.as_str().len(), 0),
-        EditKind::Insert { row } => ("insert", 0, row.values().len()),
-        EditKind::Delete { row } => ("delete", 0, row.values().len()),
+        EditKind::Post { name, query } => name.as_str() == LONG_NAME
+            && query.variables().len() == 2,
+        _ => false,
     }
 }
 
@@ -23,46 +22,12 @@ fn posting<A: Allocator + Copy>(alloc: A) -> Result<Edit<A>, Bad> {
     Ok(EditKind::Post { name, query })
 }
 
-fn withdrawal(alloc: Global) -> Result<Edit, Bad> {
-    let name = Name::new(alloc, "kramer")?;
-    Ok(EditKind::Withdraw { name })
-}
-
-fn insertion(alloc: Global) -> Result<Edit, Bad> {
-    let row = row(alloc, "T", [ONE].as_slice())?;
-    Ok(EditKind::Insert { row })
-}
-
-fn deletion(alloc: Global) -> Result<Edit, Bad> {
-    let row = row(alloc, "T", [ONE, TWO].as_slice())?;
-    Ok(EditKind::Delete { row })
-}
-
-/// Whether an edit was made of that kind, and a copy of it too.
-fn is_kind(made: Result<Edit, Bad>, kind: (&str, usize, usize)) -> bool {
-    let Ok(edit) = made else {
-        return false;
-    };
-    match edit.copy() {
-        Ok(copy) => kind_of(&edit) == kind && kind_of(&copy) == kind,
-        Err(_) => false,
-    }
-}
-
-#[test]
-fn edits_of_each_kind(rt: HostRuntime) {
-    assert!(rt; is_kind(posting(rt.alloc()), ("post", 26, 2)));
-    assert!(rt; is_kind(withdrawal(rt.alloc()), ("withdraw", 6, 0)));
-    assert!(rt; is_kind(insertion(rt.alloc()), ("insert", 0, 1)));
-    assert!(rt; is_kind(deletion(rt.alloc()), ("delete", 0, 2)));
-}
-
 /// A copy of an edit.
 struct Copying;
 
 fn copied<A: Allocator + Clone>(edit: &Edit<A>) -> Outcome {
     match edit.copy() {
-        Ok(copy) => Outcome::done_if(kind_of(&copy) == ("post", 26, 2)),
+        Ok(copy) => Outcome::done_if(is_posting(&copy)),
         Err(_) => Outcome::refused_if(edit.copy().is_ok()),
     }
 }

@@ -3,7 +3,7 @@
 //! Names and texts of up to 22 bytes take no memory, and so longer ones stand here.
 
 use crate::samples::{ONE, Sample, X, Y, atom, query, row};
-use cq_atom::{Atom, Bad, Name, Query, Row, Valuation, Value};
+use cq_atom::{Atom, Bad, Name, Query, Row, Term, Valuation, Value};
 use cq_tests_growths::{Outcome, Tried, refusals};
 use std::alloc::{AllocError, Allocator};
 
@@ -144,10 +144,35 @@ fn refused_growth_in_copies_of_rows(rt: HostRuntime) {
 /// An atom under a valuation.
 struct UnderRome;
 
+fn is_rome<A: Allocator>(term: &Term<A>) -> bool {
+    match term.as_constant() {
+        Some(value) => value.as_text() == Some(CITY),
+        None => false,
+    }
+}
+
+/// Whether the atom is `R(x, y)` where `x` is Rome.
+fn is_under<A: Allocator>(atom: &Atom<A>) -> bool {
+    match atom.terms() {
+        [first, second] => {
+            atom.relation() == "R" && is_rome(first) && second.as_variable() == Some("y")
+        }
+        _ => false,
+    }
+}
+
+fn is_put_under<A: Allocator + Copy>(
+    atom: &Atom<A>,
+    valuation: &Valuation<A>,
+) -> Result<bool, AllocError> {
+    let made = atom.under(valuation)?;
+    Ok(is_under(&made))
+}
+
 fn atom_under<A: Allocator + Copy>(atom: &Atom<A>, valuation: &Valuation<A>) -> Outcome {
-    match atom.under(valuation) {
-        Ok(made) => Outcome::done_if(made.terms().len() == 2),
-        Err(_) => Outcome::refused_if(atom.under(valuation).is_ok()),
+    match is_put_under(atom, valuation) {
+        Ok(right) => Outcome::done_if(right),
+        Err(_) => Outcome::refused_if(is_put_under(atom, valuation) == Ok(true)),
     }
 }
 

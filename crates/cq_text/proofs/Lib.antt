@@ -17,7 +17,6 @@ pub mod Refusals
 pub mod Runs
 pub mod Scan
 pub mod Taken
-mod Ties
 pub mod Utf8
 pub mod Walks
 pub mod Words

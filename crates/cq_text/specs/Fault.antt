@@ -55,67 +55,59 @@ pub record Place : Type 0 where
 abbrev pub opening : Place
 opening = record { commas = 0; atoms = 0; most = None }
 
--- The numbers behind these words are counts with a range.
-abbrev pub most_behind : (form : Form) → List ℕ → Option ℕ → Option ℕ
-most_behind form w most = if bytes_eq w (codes "relation") then Some (most_terms form) else (if bytes_eq w (codes "limits") then Some max_count else (if bytes_eq w (codes "board") then Some max_form else most))
-
-abbrev pub behind_token : (form : Form) → Place → TokenContent → Place
-behind_token form p (Mark Comma) = record { commas = p.commas + 1; atoms = p.atoms; most = None }
-behind_token form p (Mark OpenParen) = record { commas = 0; atoms = p.atoms; most = None }
-behind_token form p (Mark CloseParen) = record { commas = 0; atoms = p.atoms + 1; most = None }
-behind_token form p (Mark OpenBrace) = opening
-behind_token form p (Mark CloseBrace) = opening
-behind_token form p (Mark Arrow) = opening
-behind_token form p (Word w) = record { commas = p.commas; atoms = p.atoms; most = most_behind form w p.most }
-behind_token form p (Literal v) = p
-behind_token form p (Bad kind) = p
-behind_token form p Finish = p
-
-unfoldable pub place_behind : (form : Form) → List TokenContent → Place
-place_behind form ts = fold (behind_token form) opening ts
-
 -- A count that is 0, negative or above the most.
 abbrev pub is_out_of_range : Option ℕ → ValueContent → Bool
 is_out_of_range None v = false
 is_out_of_range (Some most) (Number n) = not (nat_le 1 (count_of n) && nat_le (count_of n) most)
 is_out_of_range (Some most) (Text t) = false
 
--- A long identifier, a term too many, the first token of an atom too many, a count out of its range.
-abbrev pub is_over : (form : Form) → Place → TokenContent → Bool
-is_over form p (Word w) = nat_lt max_name (length w) || nat_le (most_terms form) p.commas || nat_le (most_atoms form) p.atoms
-is_over form p (Literal v) = nat_le (most_terms form) p.commas || is_out_of_range p.most v
-is_over form p (Mark s) = false
-is_over form p (Bad kind) = false
-is_over form p Finish = false
+module _ (form : Form) where
+  -- The numbers behind these words are counts with a range.
+  abbrev pub most_behind : List ℕ → Option ℕ → Option ℕ
+  most_behind w most = if bytes_eq w (codes "relation") then Some (most_terms form) else (if bytes_eq w (codes "limits") then Some max_count else (if bytes_eq w (codes "board") then Some max_form else most))
 
-abbrev pub IsOver : (form : Form) → List TokenContent → TokenContent → Type 0
-IsOver form before t = IsTrue (is_over form (place_behind form before) t)
+  abbrev pub behind_token : Place → TokenContent → Place
+  behind_token p (Mark Comma) = record { commas = p.commas + 1; atoms = p.atoms; most = None }
+  behind_token p (Mark OpenParen) = record { commas = 0; atoms = p.atoms; most = None }
+  behind_token p (Mark CloseParen) = record { commas = 0; atoms = p.atoms + 1; most = None }
+  behind_token p (Mark _) = opening
+  behind_token p (Word w) = record { commas = p.commas; atoms = p.atoms; most = most_behind w p.most }
+  behind_token p _ = p
 
--- ---- faults of tokens
+  unfoldable pub place_behind : List TokenContent → Place
+  place_behind ts = fold behind_token opening ts
 
--- The kind of fault that a token is after those before it: its own flaw, else `Shape` where nothing completes them, else `Limit`.
-abbrev pub IsFault : (form : Form) → (List TokenContent → Type 0) → List TokenContent → TokenContent → Option Kind → Kind → Type 0
-IsFault form Whole before t (Some flaw) kind = kind ≡ flaw
-IsFault form Whole before t None kind =
-    ((kind ≡ Shape) × (IsViable Whole (before ++ (t ∷ [])) → ⊥))
-    ⊎ ((kind ≡ Limit) × IsViable Whole (before ++ (t ∷ [])) × IsOver form before t)
+  -- A long identifier, a term too many, the first token of an atom too many, a count out of its range.
+  abbrev pub is_over : Place → TokenContent → Bool
+  is_over p (Word w) = nat_lt max_name (length w) || nat_le (most_terms form) p.commas || nat_le (most_atoms form) p.atoms
+  is_over p (Literal v) = nat_le (most_terms form) p.commas || is_out_of_range p.most v
+  is_over p _ = false
 
--- The first fault of the lexemes after those before, of a text that ends at end.
-abbrev pub FirstTokenFault : (form : Form) → (List TokenContent → Type 0) → List TokenContent → List LexemeContent → ℕ → Kind → ℕ → Type 0
-FirstTokenFault form Whole before [] end kind offset = (Whole before → ⊥) × (kind ≡ Shape) × (offset ≡ end)
-FirstTokenFault form Whole before (l ∷ ls) end kind offset =
-    (IsFault form Whole before l.token (flaw l.token) kind × (offset ≡ l.at))
-    ⊎ (IsViable Whole (before ++ (l.token ∷ [])) × (IsOver form before l.token → ⊥) × FirstTokenFault form Whole (before ++ (l.token ∷ [])) ls end kind offset)
+  abbrev pub IsOver : List TokenContent → TokenContent → Type 0
+  IsOver before t = IsTrue (is_over (place_behind before) t)
+
+  -- ---- faults of tokens
+
+  -- The kind of fault that a token is after those before it: its own flaw, else `Shape` where nothing completes them, else `Limit`.
+  abbrev pub IsFault : (List TokenContent → Type 0) → List TokenContent → TokenContent → Option Kind → Kind → Type 0
+  IsFault Whole before t (Some flaw) kind = kind ≡ flaw
+  IsFault Whole before t None kind =
+      ((kind ≡ Shape) × (IsViable Whole (before ++ (t ∷ [])) → ⊥))
+      ⊎ ((kind ≡ Limit) × IsViable Whole (before ++ (t ∷ [])) × IsOver before t)
+
+  -- The first fault of the lexemes after those before, of a text that ends at end.
+  abbrev pub FirstTokenFault : (List TokenContent → Type 0) → List TokenContent → List LexemeContent → ℕ → Kind → ℕ → Type 0
+  FirstTokenFault Whole before [] end kind offset = (Whole before → ⊥) × (kind ≡ Shape) × (offset ≡ end)
+  FirstTokenFault Whole before (l ∷ ls) end kind offset =
+      (IsFault Whole before l.token (flaw l.token) kind × (offset ≡ l.at))
+      ⊎ (IsViable Whole (before ++ (l.token ∷ [])) × (IsOver before l.token → ⊥) × FirstTokenFault Whole (before ++ (l.token ∷ [])) ls end kind offset)
 
 -- ---- unbound variables
 
 -- Behind a query's brace a lower-case identifier is a variable: whether the body lacks it.
 abbrev pub is_unbound : List AtomRecord → TokenContent → Bool
 is_unbound body (Word w) = begins_with_lower w && not (is_bound body (Variable w))
-is_unbound body (Mark s) = false
-is_unbound body (Literal v) = false
-is_unbound body (Bad kind) = false
-is_unbound body Finish = false
+is_unbound body _ = false
 
 -- The offset of the first unbound variable.
 abbrev pub first_unbound_at : List AtomRecord → List LexemeContent → Option ℕ
@@ -124,15 +116,7 @@ first_unbound_at body (l ∷ ls) = if is_unbound body l.token then Some l.at els
 
 abbrev pub is_brace : TokenContent → Bool
 is_brace (Mark OpenBrace) = true
-is_brace (Mark CloseBrace) = false
-is_brace (Mark OpenParen) = false
-is_brace (Mark CloseParen) = false
-is_brace (Mark Comma) = false
-is_brace (Mark Arrow) = false
-is_brace (Word w) = false
-is_brace (Literal v) = false
-is_brace (Bad kind) = false
-is_brace Finish = false
+is_brace _ = false
 
 -- The lexemes behind the first opening brace.
 abbrev pub behind_brace : List LexemeContent → List LexemeContent
@@ -145,34 +129,35 @@ IsUnboundAt ls query offset = first_unbound_at query.body (behind_brace ls) ≡ 
 
 -- ---- texts
 
--- A text of a command fits the grammar and its limits, and has an unbound variable.
-abbrev pub UnboundInCommand : (form : Form) → List LexemeContent → ℕ → Type 0
-UnboundInCommand form ls offset = (name : List ℕ) × (query : QueryRecord) × FitsGrammar form ls (Edit (Post name query)) × IsUnboundAt ls query offset
-
-abbrev pub UnboundInQuery : (form : Form) → List LexemeContent → ℕ → Type 0
-UnboundInQuery form ls offset = (query : QueryRecord) × FitsQueryGrammar form ls query × IsUnboundAt ls query offset
-
--- A text that is too long has its fault at the limit. Any other has the first fault of its tokens, or else that of a variable.
-abbrev pub FirstFaultOf : (form : Form) → (List TokenContent → Type 0) → (List LexemeContent → ℕ → Type 0) → List ℕ → Kind → ℕ → Type 0
-FirstFaultOf form Whole UnboundIn text kind offset =
-    ((most_bytes form < length text) × (kind ≡ Limit) × (offset ≡ most_bytes form))
-    ⊎ ((length text ≤ most_bytes form) × (FirstTokenFault form Whole [] (lexemes_of text) (length text) kind offset ⊎ ((kind ≡ Unbound) × UnboundIn (lexemes_of text) offset)))
-
--- The first fault of a text that is read as a command: a blank text that is not too long has none.
-abbrev pub FirstFault : (form : Form) → List ℕ → Kind → ℕ → Type 0
-FirstFault form text kind offset = (length text ≤ most_bytes form → IsTrue (is_blank text) → ⊥) × FirstFaultOf form IsCommandText (UnboundInCommand form) text kind offset
-
--- The first fault of a text that is read as a query.
-abbrev pub FirstQueryFault : (form : Form) → List ℕ → Kind → ℕ → Type 0
-FirstQueryFault form text kind offset = FirstFaultOf form IsLoneQuery (UnboundInQuery form) text kind offset
-
 -- A ground atom has no variable, so none that is unbound.
 abbrev pub UnboundInRow : List LexemeContent → ℕ → Type 0
 UnboundInRow ls offset = ⊥
 
--- The first fault of a text that is read as a ground atom.
-abbrev pub FirstRowFault : (form : Form) → List ℕ → Kind → ℕ → Type 0
-FirstRowFault form text kind offset = FirstFaultOf form IsLoneRow UnboundInRow text kind offset
+module _ (form : Form) where
+  -- A text of a command fits the grammar and its limits, and has an unbound variable.
+  abbrev pub UnboundInCommand : List LexemeContent → ℕ → Type 0
+  UnboundInCommand ls offset = (name : List ℕ) × (query : QueryRecord) × FitsGrammar form ls (Edit (Post name query)) × IsUnboundAt ls query offset
+
+  abbrev pub UnboundInQuery : List LexemeContent → ℕ → Type 0
+  UnboundInQuery ls offset = (query : QueryRecord) × FitsQueryGrammar form ls query × IsUnboundAt ls query offset
+
+  -- A text that is too long has its fault at the limit. Any other has the first fault of its tokens, or else that of a variable.
+  abbrev pub FirstFaultOf : (List TokenContent → Type 0) → (List LexemeContent → ℕ → Type 0) → List ℕ → Kind → ℕ → Type 0
+  FirstFaultOf Whole UnboundIn text kind offset =
+      ((most_bytes form < length text) × (kind ≡ Limit) × (offset ≡ most_bytes form))
+      ⊎ ((length text ≤ most_bytes form) × (FirstTokenFault form Whole [] (lexemes_of text) (length text) kind offset ⊎ ((kind ≡ Unbound) × UnboundIn (lexemes_of text) offset)))
+
+  -- The first fault of a text that is read as a command: a blank text that is not too long has none.
+  abbrev pub FirstFault : List ℕ → Kind → ℕ → Type 0
+  FirstFault text kind offset = (length text ≤ most_bytes form → IsTrue (is_blank text) → ⊥) × FirstFaultOf IsCommandText UnboundInCommand text kind offset
+
+  -- The first fault of a text that is read as a query.
+  abbrev pub FirstQueryFault : List ℕ → Kind → ℕ → Type 0
+  FirstQueryFault text kind offset = FirstFaultOf IsLoneQuery UnboundInQuery text kind offset
+
+  -- The first fault of a text that is read as a ground atom.
+  abbrev pub FirstRowFault : List ℕ → Kind → ℕ → Type 0
+  FirstRowFault text kind offset = FirstFaultOf IsLoneRow UnboundInRow text kind offset
 
 -- ---- one reading
 

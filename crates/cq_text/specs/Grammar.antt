@@ -88,10 +88,7 @@ IsSentence ts Show = ts ≡ Word (codes "show") ∷ []
 -- An identifier is no longer than a name.
 abbrev pub IsShort : TokenContent → Type 0
 IsShort (Word w) = length w ≤ max_name
-IsShort (Mark s) = Unit {0}
-IsShort (Literal v) = Unit {0}
-IsShort (Bad kind) = Unit {0}
-IsShort Finish = Unit {0}
+IsShort _ = Unit {0}
 
 abbrev pub FewTerms : (form : Form) → AtomRecord → Type 0
 FewTerms form atom = length atom.terms ≤ most_terms form
@@ -101,16 +98,12 @@ FitsQuery form query = (length query.posts ≤ most_atoms form) × (length query
     × AllByRecursion (FewTerms form) query.posts × AllByRecursion (FewTerms form) query.heads × AllByRecursion (FewTerms form) query.body
 
 abbrev pub FitsCommand : (form : Form) → CommandContent → Type 0
-FitsCommand form Blank = Unit {0}
 FitsCommand form (Setup (Relation name arity)) = (1 ≤ arity) × (arity ≤ most_terms form)
-FitsCommand form (Setup (Board other)) = Unit {0}
 FitsCommand form (Setup (Limits pool journal)) = (1 ≤ pool) × (pool ≤ max_count) × (1 ≤ journal) × (journal ≤ max_count)
 FitsCommand form (Edit (Post name query)) = FitsQuery form query
-FitsCommand form (Edit (Withdraw name)) = Unit {0}
 FitsCommand form (Edit (Insert row)) = length row.values ≤ most_terms form
 FitsCommand form (Edit (Delete row)) = length row.values ≤ most_terms form
-FitsCommand form Publish = Unit {0}
-FitsCommand form Show = Unit {0}
+FitsCommand form _ = Unit {0}
 
 -- ---- the range restriction
 
@@ -123,15 +116,7 @@ IsRestricted query = AreBound query.body query.posts × AreBound query.body quer
 
 abbrev pub IsRestrictedCommand : CommandContent → Type 0
 IsRestrictedCommand (Edit (Post name query)) = IsRestricted query
-IsRestrictedCommand Blank = Unit {0}
-IsRestrictedCommand (Setup (Relation name arity)) = Unit {0}
-IsRestrictedCommand (Setup (Board form)) = Unit {0}
-IsRestrictedCommand (Setup (Limits pool journal)) = Unit {0}
-IsRestrictedCommand (Edit (Withdraw name)) = Unit {0}
-IsRestrictedCommand (Edit (Insert row)) = Unit {0}
-IsRestrictedCommand (Edit (Delete row)) = Unit {0}
-IsRestrictedCommand Publish = Unit {0}
-IsRestrictedCommand Show = Unit {0}
+IsRestrictedCommand _ = Unit {0}
 
 -- ---- what a text stands for
 

@@ -8,4 +8,3 @@ pub mod Fault
 pub mod Views
 pub mod Print
 pub mod Steps
-pub mod Device

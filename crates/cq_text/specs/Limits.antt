@@ -1,4 +1,4 @@
--- The limits of texts that no single form has, and of reads. (this project's profile)
+-- The limits of texts that no single form has. (this project's profile)
 use Rattle.std.specs.Prelude.{ℕ}
 
 -- The most bytes of a line or of a query's text in any form.
@@ -12,11 +12,3 @@ max_form = 2
 -- The most that `limits` may name, of pending queries and of journal entries.
 abbrev pub max_count : ℕ
 max_count = 1000000
-
--- The most reads of one call that reads a source to its end.
-abbrev pub max_reads : ℕ
-max_reads = 1048576
-
--- The most bytes that one read of such a call asks for.
-abbrev pub max_piece : ℕ
-max_piece = 4096

@@ -22,7 +22,5 @@ tokens_of ls = map (λ l. l.token) ls
 -- The kind of fault that a token is wherever it stands.
 abbrev pub flaw : TokenContent → Option Kind
 flaw (Bad kind) = Some kind
-flaw (Mark s) = None
-flaw (Word w) = None
-flaw (Literal v) = None
 flaw Finish = Some Shape
+flaw _ = None

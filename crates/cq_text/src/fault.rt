@@ -1,4 +1,4 @@
-//! What is wrong with a text, and why a source was not read whole.
+//! What is wrong with a text.
 
 use std::alloc::{AllocError, AllocFailed};
 use thiserror::Error;
@@ -36,20 +36,6 @@ pub enum TextFault {
     NoMemory,
 }
 
-/// Why a source was not read whole.
-#[derive(Clone, Copy, Debug, PartialEq, Eq, Error)]
-pub enum WholeFault {
-    /// The source failed, or gave no end. Reads count from 1.
-    #[error("read failed at turn {turn}")]
-    Read {
-        /// The number of the read that failed.
-        turn: u32,
-    },
-    /// An allocation failed.
-    #[error("out of memory")]
-    NoMemory,
-}
-
 impl From<AllocError> for TextFault {
     ghost use Rattle.std.specs.Prelude.{◌≡◌};
     ghost use Rattle.cq_text.specs.declared.fault.TextFault.TheVariants.{NoMemory};
@@ -69,27 +55,5 @@ impl<T: Drop> From<AllocFailed<T>> for TextFault {
 
     fn from(_e: AllocFailed<T>) -> TextFault {
         TextFault::NoMemory
-    }
-}
-
-impl From<AllocError> for WholeFault {
-    ghost use Rattle.std.specs.Prelude.{◌≡◌};
-    ghost use Rattle.cq_text.specs.declared.fault.WholeFault.TheVariants.{NoMemory};
-
-    ghost from_gives = { λ _ e. e ≡ NoMemory };
-
-    fn from(_e: AllocError) -> WholeFault {
-        WholeFault::NoMemory
-    }
-}
-
-impl<T: Drop> From<AllocFailed<T>> for WholeFault {
-    ghost use Rattle.std.specs.Prelude.{◌≡◌};
-    ghost use Rattle.cq_text.specs.declared.fault.WholeFault.TheVariants.{NoMemory};
-
-    ghost from_gives = { λ _ e. e ≡ NoMemory };
-
-    fn from(_e: AllocFailed<T>) -> WholeFault {
-        WholeFault::NoMemory
     }
 }

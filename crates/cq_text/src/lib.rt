@@ -1,19 +1,16 @@
-//! The text form of queries and commands, and the devices that text comes from and goes to.
+//! The text form of queries and commands.
 //!
 //! The room above uses `read_command`: a line is read exactly as what it stands for, and any other
 //! line is refused with its first fault, by kind and offset. `read_query` and `read_ground_atom` do the
 //! same with a query and with a row alone. `specs/Lexing` says which tokens a text
 //! has, `specs/Grammar` which of them stand for what, and `specs/Fault` which fault is the first.
 //! `read_field` reads a field of CSV as the value that `specs/Field` gives it.
-//! Bytes come from a `Source` and go to a `Sink`, which count their calls; `Counted` makes either of
-//! a device of std, and `read_whole` reads all that a source has.
 //!
-//! Not here: what a command does, and cutting a script into lines.
+//! Not here: what a command does, cutting a script into lines, and the devices that bytes come from and go to.
 #![tactic(auto)]
 
 mod binding;
 mod command;
-mod counted;
 mod fault;
 mod field;
 mod form;
@@ -23,22 +20,15 @@ mod printing;
 mod quoting;
 mod reading;
 mod room;
-mod sink;
-mod source;
 mod token;
-mod whole;
 mod word;
 
 pub use command::{Command, CommandKind, SetupLine};
-pub use counted::Counted;
-pub use fault::{Kind, TextFault, WholeFault};
+pub use fault::{Kind, TextFault};
 pub use field::read_field;
 pub use form::Form;
-pub use limits::{MAX_BYTES, MAX_COUNT, MAX_FORM, MAX_PIECE, MAX_READS};
+pub use limits::{MAX_BYTES, MAX_COUNT, MAX_FORM};
 pub use printing::{
     print_atom, print_query, print_row, print_values, push_escaped, push_query, push_values,
 };
 pub use reading::{one_reading, read_command, read_ground_atom, read_query};
-pub use sink::{Sink, write_all};
-pub use source::{Failed, Source};
-pub use whole::read_whole;

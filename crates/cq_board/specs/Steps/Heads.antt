@@ -5,7 +5,7 @@ use Rattle.std.specs.List.{All, flat_map, enumerate_from}
 use Rattle.std.specs.Str.{bytes_eq}
 use denote.Ref.{Bor}
 use Rattle.cq_atom.specs.Atom.{AtomRecord}
-use Rattle.cq_findings.specs.Findings.{FindingMap}
+use Rattle.cq_grounded.specs.Grounded.{GroundedMap}
 use Rattle.cq_board.specs.declared.heads.Group.{Group}
 use Rattle.cq_board.specs.Pool.{PendingQuery, name_of}
 use Rattle.cq_board.specs.Steps.Linear.{IsLinear}
@@ -21,8 +21,8 @@ abbrev pub head_if : List ℕ → ℕ → ℕ → ℕ × AtomRecord → List Hea
 head_if relation arity number (place, atom) = if is_of relation arity atom then (number, place, atom) ∷ [] else []
 
 -- Those of the query at a place, which has that number.
-abbrev pub heads_at : List ℕ → ℕ → FindingMap → ℕ × ℕ → List HeadRecord
-heads_at relation arity findings (number, place) = flat_map (head_if relation arity number) (enumerate_from 0 (query_at findings place).heads)
+abbrev pub heads_at : List ℕ → ℕ → GroundedMap → ℕ × ℕ → List HeadRecord
+heads_at relation arity grounded (number, place) = flat_map (head_if relation arity number) (enumerate_from 0 (query_at grounded place).heads)
 
 -- Those of all pending queries.
 abbrev pub heads_of : List ℕ → ℕ → List PendingQuery → List HeadRecord

@@ -1,7 +1,7 @@
 -- Runs of edges that lead to one postcondition.
 use Rattle.std.specs.Prelude.{ℕ, List, [], ◌∷◌, if◌then◌else◌}
 use Rattle.std.specs.List.{prefix_len}
-use Rattle.cq_match.specs.declared.edge.Edge.{Edge}
+use Rattle.cq_atom.specs.declared.edge.Edge.{Edge}
 use Rattle.cq_match.specs.Graph.{leads_to, is_crowd}
 use Rattle.cq_board.specs.declared.link.Crowd.{Crowd}
 use Rattle.cq_board.specs.Pool.{PendingQuery}

@@ -1,7 +1,8 @@
 -- What contracts see of two states that take turns, and what their type says. Their type is private.
 use Rattle.std.specs.Prelude.{◌≡◌, ◌⊎◌, ℕ, ◌≤◌, List, ◌++◌, [], ◌∷◌, length, fold, take}
 use Rattle.cq_desk.specs.declared.journal.Entry.{Entry}
-use Rattle.cq_desk.specs.Replies.{journal_edits}
+use Rattle.cq_desk.specs.declared.reply.Reply.{Reply}
+use Rattle.cq_desk.specs.Replies.{accepted, entries_by, journal_edits}
 
 -- The content before the first edit, the accepted edits with their authors, how many of them there may be, and how many are published.
 pub record TurnsRecord (C E : Type 0) : Type 0 where
@@ -10,9 +11,9 @@ pub record TurnsRecord (C E : Type 0) : Type 0 where
   pub journal : List (Entry E)
   pub published : ℕ
 
--- The same after this edit of this author was entered.
-abbrev pub entered : {C E : Type 0} → ℕ → E → TurnsRecord C E → TurnsRecord C E
-entered author edit turns = record turns { journal = turns.journal ++ record { author = author; edit = edit } ∷ [] }
+-- The same after this edit of this author had this reply.
+abbrev pub replied : {C E W : Type 0} → ℕ → E → Reply W → TurnsRecord C E → TurnsRecord C E
+replied author edit reply turns = record turns { journal = turns.journal ++ entries_by author (accepted (edit ∷ []) (reply ∷ [])) }
 
 -- The same after all was published.
 abbrev pub published : {C E : Type 0} → TurnsRecord C E → TurnsRecord C E

@@ -3,7 +3,7 @@ use Rattle.std.specs.Prelude.{◌≡◌, ◌↔◌, ⊤, ℕ, ◌+◌, ◌/◌, 
 use Rattle.std.specs.List.{Contains}
 use Rattle.cq_atom.specs.declared.limits.TheConstants.{MAX_ATOMS}
 use Rattle.cq_atom.specs.Atom.{AtomRecord}
-use Rattle.cq_match.specs.declared.edge.Edge.{Edge}
+use Rattle.cq_atom.specs.declared.edge.Edge.{Edge}
 use Rattle.cq_index.specs.Index.{AtomMap, candidates_of, IsPartnerAt}
 use Rattle.cq_links.specs.declared.asking.Side.{Side}
 use Rattle.cq_links.specs.declared.asking.Side.TheVariants.{Heads, Posts}

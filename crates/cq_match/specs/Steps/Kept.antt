@@ -1,7 +1,7 @@
 -- How a matcher keeps its graph: nodes by their places, and edges with the nodes that they leave.
 use Rattle.std.specs.Prelude.{◌≡◌, ℕ, ◌+◌, ◌<◌, ◌≤◌, ◌⊎◌, Bool, true, false, not, ◌&&◌, ◌==◌, List, [], ◌∷◌, ◌++◌, length, map, filter, count_by, slice_index_or, if◌then◌else◌}
 use Rattle.std.specs.List.{All, Contains, list_any}
-use Rattle.cq_match.specs.declared.edge.Edge.{Edge}
+use Rattle.cq_atom.specs.declared.edge.Edge.{Edge}
 use Rattle.cq_match.specs.declared.graph.Place.{Place}
 use Rattle.cq_match.specs.declared.graph.Out.{Out}
 use Rattle.cq_match.specs.Graph.{leads_to}

@@ -2,7 +2,7 @@
 use Rattle.std.specs.Prelude.{◌≡◌, ℕ, Bool, false, if◌then◌else◌, ◌+◌, ◌<◌, ◌≤◌, nat_eq, List, length, slice_index, slice_index_or}
 use Rattle.std.specs.List.{All, list_any}
 use Rattle.std.specs.Set.{is_member}
-use Rattle.cq_match.specs.declared.edge.Edge.{Edge}
+use Rattle.cq_atom.specs.declared.edge.Edge.{Edge}
 use Rattle.cq_match.specs.declared.settle.Offer.{Offer}
 use Rattle.cq_match.specs.Matched.{is_supplied}
 use Rattle.cq_match.specs.Steps.Settle.{feeds}

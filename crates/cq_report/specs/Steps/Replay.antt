@@ -1,7 +1,7 @@
 -- What a replay leaves behind, from the state that it began in.
 use Rattle.std.specs.Prelude.{◌≡◌, ◌≤◌, ℕ, List, [], ◌++◌, length, Option}
 use Rattle.std.specs.Io.KnownBytes.{Consumes, IsAtEnd}
-use Rattle.cq_text.specs.Limits.{max_piece}
+use Rattle.cq_devices.specs.Limits.{max_piece}
 use Rattle.cq_report.specs.declared.output.Output.{Output}
 use Rattle.cq_report.specs.declared.fault.RunFault.{RunFault}
 use Rattle.cq_report.specs.Machine.{State}

@@ -5,7 +5,7 @@ use Rattle.std.proofs.KnownBytes.{Appends-trans, Appends-nil}
 use Rattle.cq_report.specs.declared.output.Output.{Output}
 use Rattle.cq_report.specs.declared.fault.RunFault.{RunFault}
 use Rattle.cq_report.specs.declared.fault.RunFault.TheVariants as faults
-use Rattle.cq_text.specs.Device.{TakesFront}
+use Rattle.cq_devices.specs.Device.{TakesFront}
 use Rattle.cq_report.specs.Run.{failures_of}
 use Rattle.cq_report.specs.Steps.Written.{Passes, Puts, Breaks}
 

@@ -6,21 +6,21 @@ use Rattle.cq_board.specs.Pool.{PoolRecord}
 use Rattle.cq_atom.specs.Edit.{Edit}
 use Rattle.cq_desk.specs.Replies.{journal_edits}
 use Rattle.cq_desk.specs.declared.journal.Entry.{Entry}
-use Rattle.cq_report.specs.declared.fault.RunFault.{RunFault}
-use Rattle.cq_report.specs.declared.fault.RunFault.TheVariants as runs
 use Rattle.cq_sessions.specs.declared.fault.ServeFault.{ServeFault}
 use Rattle.cq_sessions.specs.declared.fault.ServeFault.TheVariants as serves
-use Rattle.cq_sessions.specs.declared.seat.Done.{Done}
+use Rattle.cq_sessions.specs.declared.fault.SessionsFault.{SessionsFault}
+use Rattle.cq_sessions.specs.declared.fault.SessionsFault.TheVariants as faults
+use Rattle.cq_sessions.specs.declared.task.Done.{Done}
 use Rattle.cq_text.specs.declared.form.Form.{Form}
 use Rattle.cq_sessions.specs.Script.{entries_from, replies_from, sheets_from}
 use Rattle.cq_sessions.specs.Sessions.{FileServed, FilesServed, knowns_before, entered_by}
 use Rattle.cq_sessions.specs.Steps.Sheets.{SheetRecord, BytesServed, numbers_of}
 
 -- How a fault of serving is told.
-abbrev pub run_fault : ServeFault → RunFault
-run_fault serves.Places = runs.Places
-run_fault serves.Thread = runs.Thread
-run_fault serves.NoMemory = runs.NoMemory
+abbrev pub sessions_fault : ServeFault → SessionsFault
+sessions_fault serves.Places = faults.Places
+sessions_fault serves.Thread = faults.Thread
+sessions_fault serves.NoMemory = faults.NoMemory
 
 -- These are the clients and the sheets of what all threads left.
 abbrev pub AreDone : {C A : Type 0} → List (Result (Done C A) ServeFault) → List C → List SheetRecord → Type 0

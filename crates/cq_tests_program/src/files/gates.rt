@@ -1,9 +1,9 @@
 //! Two files whose threads are there at the same time.
 
 use crate::files::postings::{order_told, posting_files};
+use cq_devices::Counted;
 use cq_room::Gate;
 use cq_sessions::run_sessions_past;
-use cq_text::Counted;
 use std::alloc::Global;
 use std::hint::spin_loop;
 use std::sync::Wait;

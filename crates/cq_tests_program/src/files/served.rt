@@ -2,9 +2,9 @@
 
 use crate::devices::Expecting;
 use crate::runs;
-use cq_report::{Numbering, RunFault};
-use cq_sessions::run_sessions;
-use cq_text::Counted;
+use cq_devices::Counted;
+use cq_report::Numbering;
+use cq_sessions::{SessionsFault, run_sessions};
 use std::alloc::{AllocError, Allocator, Global};
 use std::io::Write;
 use std::sync::Wait;
@@ -17,7 +17,7 @@ fn ran<T: Threads + Wait + Sync, A: Allocator + Copy + Send + Sync, W: Write + D
     setup: &[u8],
     files: &[Vec<u8, A>],
     writer: W,
-) -> Option<(Result<(), RunFault>, W)> {
+) -> Option<(Result<(), SessionsFault>, W)> {
     if files.is_empty() || files.len() > 16 {
         return None;
     }
@@ -52,10 +52,10 @@ pub fn ran_copies<T: Threads + Wait + Sync, A: Allocator + Copy + Send + Sync, W
     setup: &[u8],
     files: &[&[u8]],
     writer: W,
-) -> Option<(Result<(), RunFault>, W)> {
+) -> Option<(Result<(), SessionsFault>, W)> {
     match copies(alloc, files) {
         Ok(files) => ran(rt, alloc, setup, &files, writer),
-        Err(_) => Some((Err(RunFault::NoMemory), writer)),
+        Err(_) => Some((Err(SessionsFault::NoMemory), writer)),
     }
 }
 
@@ -66,7 +66,7 @@ pub fn told<T: Threads + Wait + Sync, A: Allocator + Copy + Send + Sync>(
     setup: &[u8],
     files: &[&[u8]],
     expected: &[u8],
-) -> Option<(Result<(), RunFault>, usize)> {
+) -> Option<(Result<(), SessionsFault>, usize)> {
     let writer = Expecting::new(expected, usize::MAX);
     let (ended, writer) = ran_copies(rt, alloc, setup, files, writer)?;
     Some((ended, writer.rest.len()))

@@ -1,13 +1,8 @@
 //! Each growth of a call refused in turn.
 
-use crate::devices::{Expecting, OneLine, Pieces};
-use crate::lines::edit;
-use crate::report::reports::with_one_row;
+use crate::devices::{Expecting, OneLine};
 use crate::runs;
-use crate::runs::{Told, WELL, is_whole};
-use cq_atom::Edit;
-use cq_board::Board;
-use cq_render::report;
+use crate::runs::{Told, WELL};
 use cq_report::{Numbering, RunFault};
 use cq_tests_growths::{ENOUGH, Outcome, Refusing, Tried, refusals};
 use std::alloc::{Allocator, Global};
@@ -89,82 +84,4 @@ fn lengths_written(alloc: Global) -> Option<u64> {
 #[test]
 fn replies_before_a_refused_growth(rt: HostRuntime) {
     assert!(rt; matches!(lengths_written(rt.alloc()), Some(6..)));
-}
-
-const BEFORE: &str = "relation Flights 2 rows 1\n";
-
-const AFTER: &str = "relation Flights 2 rows 1
-query a matched
-  text {R(1)} R(x) <- Flights(x, y)
-  post 0 providers 1
-    a head 0
-  groundings 1 (x, y)
-    (122, \"Paris\")
-";
-
-/// Whether that is the report on the board.
-fn is_report<A: Allocator + Copy>(alloc: A, board: &Board<A>, wanted: &str) -> bool {
-    match report(alloc, board) {
-        Ok(text) => text.as_str() == wanted,
-        Err(_) => false,
-    }
-}
-
-/// A query posted.
-struct Posting;
-
-fn admitted<A: Allocator + Copy>(alloc: A, board: &mut Board<A>, edit: &Edit<A>) -> Outcome {
-    match board.admit(edit) {
-        Ok(told) => Outcome::done_if(told.is_none()),
-        Err(_) => Outcome::refused_if(
-            is_report(alloc, board, BEFORE)
-                && board.admit(edit) == Ok(None)
-                && is_report(alloc, board, AFTER),
-        ),
-    }
-}
-
-impl Tried for Posting {
-    fn tried<A: Allocator + Copy>(alloc: A) -> Outcome {
-        let Ok(mut board) = with_one_row(alloc) else {
-            return Outcome::Unready;
-        };
-        match edit(alloc, "post a {R(1)} R(x) <- Flights(x, y)") {
-            Ok(edit) => admitted(alloc, &mut board, &edit),
-            Err(_) => Outcome::Unready,
-        }
-    }
-}
-
-// A refused growth in an edit leaves the report on the board, and the same edit then succeeds.
-#[test]
-fn refused_growth_in_admit(rt: HostRuntime) {
-    assert!(rt; matches!(refusals::<Posting>(rt.alloc()), Ok(6..)));
-}
-
-/// The script read whole.
-struct ReadingWhole;
-
-fn is_read<A: Allocator + Copy>(alloc: A) -> Result<bool, RunFault> {
-    let pieces = Pieces {
-        rest: SCRIPT,
-        most: 3,
-    };
-    is_whole(alloc, pieces, SCRIPT)
-}
-
-impl Tried for ReadingWhole {
-    fn tried<A: Allocator + Copy>(alloc: A) -> Outcome {
-        match is_read(alloc) {
-            Ok(right) => Outcome::done_if(right),
-            Err(fault) => {
-                Outcome::refused_if(fault == RunFault::NoMemory && is_read(alloc) == Ok(true))
-            }
-        }
-    }
-}
-
-#[test]
-fn refused_growth_in_read_whole(rt: HostRuntime) {
-    assert!(rt; matches!(refusals::<ReadingWhole>(rt.alloc()), Ok(4..)));
 }

@@ -2,8 +2,8 @@
 
 use crate::lines::{BoardLike, FLIGHTS, Line, board, edit};
 use cq_atom::Edit;
-use cq_board::{Board, Why};
-use cq_desk::{Answer, Event, Floor, FloorFault, StepFault, looks_never_fall};
+use cq_board::{Board, Why, published_board, working_board};
+use cq_desk::{Answer, Event, Floor, FloorFault, Reply, StepFault, looks_never_fall};
 use std::alloc::{AllocError, Global};
 
 /// What is done on a floor.
@@ -17,7 +17,7 @@ enum Turn {
     Hear(u64),
 }
 
-type Told = Result<Answer, StepFault<Why>>;
+type Told = Result<Answer<Why>, StepFault>;
 
 /// What is done, and what is answered to it.
 type Step = (Turn, Told);
@@ -75,7 +75,10 @@ fn other_of(
 
 const STEPS: [Step; 8] = [
     (Turn::Look(0), Ok(Answer::Looked(0))),
-    (Turn::Enter(Line::Answer), Ok(Answer::Entered(1))),
+    (
+        Turn::Enter(Line::Answer),
+        Ok(Answer::Replied(Reply::Entered(1))),
+    ),
     (Turn::Look(0), Ok(Answer::Looked(0))),
     (Turn::Publish, Ok(Answer::Published(1))),
     (Turn::Look(0), Ok(Answer::Looked(1))),
@@ -86,18 +89,30 @@ const STEPS: [Step; 8] = [
 
 /// The journal's limit is met before the name that is taken.
 const JOURNAL_FULL: [Step; 4] = [
-    (Turn::Enter(Line::Answer), Ok(Answer::Entered(1))),
-    (Turn::Enter(Line::Other), Ok(Answer::Entered(2))),
-    (Turn::Enter(Line::Answer), Err(StepFault::JournalFull)),
+    (
+        Turn::Enter(Line::Answer),
+        Ok(Answer::Replied(Reply::Entered(1))),
+    ),
+    (
+        Turn::Enter(Line::Other),
+        Ok(Answer::Replied(Reply::Entered(2))),
+    ),
+    (
+        Turn::Enter(Line::Answer),
+        Ok(Answer::Replied(Reply::JournalFull)),
+    ),
     (Turn::Publish, Ok(Answer::Published(2))),
 ];
 
 /// The pool's limit is met before the name that is taken.
 const POOL_FULL: [Step; 2] = [
-    (Turn::Enter(Line::Answer), Ok(Answer::Entered(1))),
     (
         Turn::Enter(Line::Answer),
-        Err(StepFault::Not(Why::PoolFull)),
+        Ok(Answer::Replied(Reply::Entered(1))),
+    ),
+    (
+        Turn::Enter(Line::Answer),
+        Ok(Answer::Replied(Reply::Not(Why::PoolFull))),
     ),
 ];
 
@@ -120,8 +135,8 @@ fn limits(rt: HostRuntime) {
 
 /// How many queries the working board and the published one have, and what a look answers.
 fn shown(floor: &mut Floor<Board>, session: usize) -> (usize, usize, Option<u64>) {
-    let working = floor.working_board().len();
-    let published = floor.published_board().len();
+    let working = working_board(floor).len();
+    let published = published_board(floor).len();
     (working, published, floor.look(session))
 }
 
@@ -155,11 +170,23 @@ fn boards_and_looks(rt: HostRuntime) {
 
 /// A flight to Paris and a query for one are published. Then the flight goes to Rome.
 const FLIGHT_GOES: [Step; 6] = [
-    (Turn::Enter(Line::Paris), Ok(Answer::Entered(1))),
-    (Turn::Enter(Line::Asked), Ok(Answer::Entered(2))),
+    (
+        Turn::Enter(Line::Paris),
+        Ok(Answer::Replied(Reply::Entered(1))),
+    ),
+    (
+        Turn::Enter(Line::Asked),
+        Ok(Answer::Replied(Reply::Entered(2))),
+    ),
     (Turn::Publish, Ok(Answer::Published(2))),
-    (Turn::Enter(Line::NoParis), Ok(Answer::Entered(3))),
-    (Turn::Enter(Line::Rome), Ok(Answer::Entered(4))),
+    (
+        Turn::Enter(Line::NoParis),
+        Ok(Answer::Replied(Reply::Entered(3))),
+    ),
+    (
+        Turn::Enter(Line::Rome),
+        Ok(Answer::Replied(Reply::Entered(4))),
+    ),
     (Turn::Look(0), Ok(Answer::Looked(2))),
 ];
 

@@ -1,7 +1,7 @@
 //! Desks over a tally.
 
 use crate::tally::{Full, Tally};
-use cq_desk::{Desk, NoMemory, Plain, Refused};
+use cq_desk::{Answer, Desk, NoMemory, Plain, Reply};
 use std::alloc::{Allocator, Global};
 
 /// A desk over a tally that is published by one state.
@@ -38,27 +38,19 @@ enum Call {
 }
 
 /// A call, what it answers, and the bytes of the working state and of the shown one behind it.
-type Step = (
-    Call,
-    Result<u64, Refused<Full>>,
-    &'static [u8],
-    &'static [u8],
-);
+type Step = (Call, Answer<Full>, &'static [u8], &'static [u8]);
 
-fn told(desk: &mut TallyDesk, call: Call) -> Result<u64, Refused<Full>> {
+fn told(desk: &mut TallyDesk, call: Call) -> Result<Answer<Full>, NoMemory> {
     match call {
-        Call::Enter(author, byte) => desk.enter(author, byte),
-        Call::Publish => match desk.publish(&()) {
-            Ok(count) => Ok(count),
-            Err(NoMemory) => Err(Refused::NoMemory),
-        },
+        Call::Enter(author, byte) => Ok(Answer::Replied(desk.enter(author, byte)?)),
+        Call::Publish => Ok(Answer::Published(desk.publish(&())?)),
     }
 }
 
 /// The place of the first step that comes out otherwise.
 fn other_step(desk: &mut TallyDesk, steps: &[Step]) -> Option<usize> {
     for (place, (call, wanted, working, shown)) in steps.iter().enumerate() {
-        if told(desk, *call) != *wanted || !stands(desk, working, shown) {
+        if told(desk, *call) != Ok(*wanted) || !stands(desk, working, shown) {
             return Some(place);
         }
     }
@@ -67,28 +59,68 @@ fn other_step(desk: &mut TallyDesk, steps: &[Step]) -> Option<usize> {
 
 /// Two entries, a publish, a third entry that a second publish shows, and two refusals.
 const STEPS: [Step; 7] = [
-    (Call::Enter(4, 10), Ok(1), &[10], &[]),
-    (Call::Enter(5, 11), Ok(2), &[10, 11], &[]),
-    (Call::Publish, Ok(2), &[10, 11], &[10, 11]),
-    (Call::Enter(4, 12), Ok(3), &[10, 11, 12], &[10, 11]),
     (
-        Call::Enter(4, 13),
-        Err(Refused::Not(Full)),
+        Call::Enter(4, 10),
+        Answer::Replied(Reply::Entered(1)),
+        &[10],
+        &[],
+    ),
+    (
+        Call::Enter(5, 11),
+        Answer::Replied(Reply::Entered(2)),
+        &[10, 11],
+        &[],
+    ),
+    (Call::Publish, Answer::Published(2), &[10, 11], &[10, 11]),
+    (
+        Call::Enter(4, 12),
+        Answer::Replied(Reply::Entered(3)),
         &[10, 11, 12],
         &[10, 11],
     ),
-    (Call::Publish, Ok(3), &[10, 11, 12], &[10, 11, 12]),
-    (Call::Publish, Ok(3), &[10, 11, 12], &[10, 11, 12]),
+    (
+        Call::Enter(4, 13),
+        Answer::Replied(Reply::Not(Full)),
+        &[10, 11, 12],
+        &[10, 11],
+    ),
+    (
+        Call::Publish,
+        Answer::Published(3),
+        &[10, 11, 12],
+        &[10, 11, 12],
+    ),
+    (
+        Call::Publish,
+        Answer::Published(3),
+        &[10, 11, 12],
+        &[10, 11, 12],
+    ),
 ];
 
 /// The limit of the journal, which holds three entries, is looked at before the state.
 const LIMIT_FIRST: [Step; 4] = [
-    (Call::Enter(0, 1), Ok(1), &[1], &[]),
-    (Call::Enter(0, 2), Ok(2), &[1, 2], &[]),
-    (Call::Enter(0, 3), Ok(3), &[1, 2, 3], &[]),
+    (
+        Call::Enter(0, 1),
+        Answer::Replied(Reply::Entered(1)),
+        &[1],
+        &[],
+    ),
+    (
+        Call::Enter(0, 2),
+        Answer::Replied(Reply::Entered(2)),
+        &[1, 2],
+        &[],
+    ),
+    (
+        Call::Enter(0, 3),
+        Answer::Replied(Reply::Entered(3)),
+        &[1, 2, 3],
+        &[],
+    ),
     (
         Call::Enter(0, 4),
-        Err(Refused::JournalFull),
+        Answer::Replied(Reply::JournalFull),
         &[1, 2, 3],
         &[],
     ),

@@ -2,13 +2,13 @@
 
 use crate::desk::growths::is_borne;
 use crate::tally::{Full, Tally};
-use cq_desk::{Answer, Event, Floor, FloorFault, Live, NoMemory, StepFault};
+use cq_desk::{Answer, Event, Floor, FloorFault, Live, NoMemory, Reply, StepFault};
 use cq_tests_growths::{Outcome, Tried, refusals};
 use std::alloc::{Allocator, Global};
 
 type TallyFloor<A = Global> = Floor<Tally<A>, A>;
 
-type Told = Result<Answer, StepFault<Full>>;
+type Told = Result<Answer<Full>, StepFault>;
 
 /// A floor over an empty tally.
 fn floor<A: Allocator + Copy>(
@@ -86,9 +86,9 @@ fn have_seen<L: Live>(floor: &Floor<L>, first: u64, second: u64) -> bool {
 
 /// A look shows no more than is published.
 const LOOKS: [Asked; 4] = [
-    (Turn::Enter(1, 5), Ok(Answer::Entered(1))),
+    (Turn::Enter(1, 5), Ok(Answer::Replied(Reply::Entered(1)))),
     (Turn::Publish, Ok(Answer::Published(1))),
-    (Turn::Enter(0, 6), Ok(Answer::Entered(2))),
+    (Turn::Enter(0, 6), Ok(Answer::Replied(Reply::Entered(2)))),
     (Turn::Look(1), Ok(Answer::Looked(1))),
 ];
 
@@ -118,9 +118,9 @@ fn two_sessions(rt: HostRuntime) {
 /// The tests in their order: the session, the count that is heard, the journal's limit, the state.
 const IN_ORDER: [Asked; 6] = [
     (Turn::Hear(1, 7), Err(StepFault::NoSession)),
-    (Turn::Enter(0, 1), Ok(Answer::Entered(1))),
-    (Turn::Enter(0, 2), Ok(Answer::Entered(2))),
-    (Turn::Enter(0, 3), Ok(Answer::Entered(3))),
+    (Turn::Enter(0, 1), Ok(Answer::Replied(Reply::Entered(1)))),
+    (Turn::Enter(0, 2), Ok(Answer::Replied(Reply::Entered(2)))),
+    (Turn::Enter(0, 3), Ok(Answer::Replied(Reply::Entered(3)))),
     (Turn::Enter(1, 4), Err(StepFault::NoSession)),
     (Turn::Look(1), Err(StepFault::NoSession)),
 ];
@@ -134,8 +134,8 @@ fn refusals_in_order(rt: HostRuntime) {
     match (floor(rt.alloc(), 3, 1), floor(rt.alloc(), 4, 1)) {
         (Ok(mut three), Ok(mut four)) => {
             assert!(rt; refuses_in_order(&mut three) && refuses_in_order(&mut four));
-            assert!(rt; enters(&mut three, 0, 4) == Err(StepFault::JournalFull));
-            assert!(rt; enters(&mut four, 0, 4) == Err(StepFault::Not(Full)));
+            assert!(rt; enters(&mut three, 0, 4) == Ok(Answer::Replied(Reply::JournalFull)));
+            assert!(rt; enters(&mut four, 0, 4) == Ok(Answer::Replied(Reply::Not(Full))));
         }
         _ => assert!(rt; false),
     }
@@ -160,9 +160,9 @@ fn events<A: Allocator + Copy>(alloc: A, from: usize) -> Result<Vec<Event<u8>, A
 }
 
 const ANSWERS: [Told; 5] = [
-    Ok(Answer::Entered(1)),
+    Ok(Answer::Replied(Reply::Entered(1))),
     Err(StepFault::NoSession),
-    Ok(Answer::Entered(2)),
+    Ok(Answer::Replied(Reply::Entered(2))),
     Ok(Answer::Published(2)),
     Ok(Answer::Looked(2)),
 ];
@@ -198,13 +198,13 @@ impl Tried for Step {
 
 fn entered<A: Allocator + Copy>(floor: &mut TallyFloor<A>) -> Outcome {
     match enters(floor, 0, 5) {
-        Ok(_) => published(floor),
+        Ok(Answer::Replied(Reply::Entered(_))) => published(floor),
         Err(StepFault::NoMemory) => Outcome::refused_if(
             stands(floor, &[], &[])
-                && enters(floor, 0, 5) == Ok(Answer::Entered(1))
+                && enters(floor, 0, 5) == Ok(Answer::Replied(Reply::Entered(1)))
                 && stands(floor, &[5], &[]),
         ),
-        Err(_) => Outcome::Wrong,
+        _ => Outcome::Wrong,
     }
 }
 

@@ -2,7 +2,7 @@
 
 use crate::desk::desks::{TallyDesk, desk, stands};
 use crate::tally::{Full, Tally, list};
-use cq_desk::{End, Live, NoMemory, Plain, Refused, Submitted};
+use cq_desk::{End, Live, NoMemory, Plain, Reply, Submitted};
 use cq_refusing::Refusing;
 use cq_tests_growths::{ENOUGH, Outcome, Tried, refusals};
 use std::alloc::{Allocator, Global};
@@ -76,16 +76,18 @@ fn called<A: Allocator + Copy>(alloc: A, desk: &mut TallyDesk<A>, call: Call) ->
 
 fn entered<A: Allocator + Copy>(desk: &mut TallyDesk<A>) -> Outcome {
     match desk.enter(0, 5) {
-        Ok(_) => Outcome::done_if(stands(desk, &[5], &[])),
-        Err(Refused::NoMemory) => Outcome::refused_if(
-            stands(desk, &[], &[]) && desk.enter(0, 5) == Ok(1) && stands(desk, &[5], &[]),
+        Ok(Reply::Entered(_)) => Outcome::done_if(stands(desk, &[5], &[])),
+        Err(NoMemory) => Outcome::refused_if(
+            stands(desk, &[], &[])
+                && desk.enter(0, 5) == Ok(Reply::Entered(1))
+                && stands(desk, &[5], &[]),
         ),
-        Err(_) => Outcome::Wrong,
+        Ok(_) => Outcome::Wrong,
     }
 }
 
 fn entered_and_published<A: Allocator + Copy>(desk: &mut TallyDesk<A>) -> Outcome {
-    if desk.enter(0, 5) == Ok(1) && desk.enter(0, 6) == Ok(2) {
+    if desk.enter(0, 5) == Ok(Reply::Entered(1)) && desk.enter(0, 6) == Ok(Reply::Entered(2)) {
         published(desk, &[], &[5, 6])
     } else {
         Outcome::Unready
@@ -93,7 +95,10 @@ fn entered_and_published<A: Allocator + Copy>(desk: &mut TallyDesk<A>) -> Outcom
 }
 
 fn published_before<A: Allocator + Copy>(desk: &mut TallyDesk<A>) -> Outcome {
-    if desk.enter(0, 4) == Ok(1) && desk.publish(&()) == Ok(1) && desk.enter(0, 5) == Ok(2) {
+    if desk.enter(0, 4) == Ok(Reply::Entered(1))
+        && desk.publish(&()) == Ok(1)
+        && desk.enter(0, 5) == Ok(Reply::Entered(2))
+    {
         published(desk, &[4], &[4, 5])
     } else {
         Outcome::Unready

@@ -51,7 +51,7 @@ fn refused_edits_stop_nobody(rt: HostRuntime) {
 fn submits_to_the_limit(alloc: Global, desk: &mut TallyDesk) -> Result<bool, NoMemory> {
     let replies = [Reply::Entered(2), Reply::JournalFull, Reply::JournalFull];
     Ok(
-        desk.enter(0, 4) == Ok(1)
+        desk.enter(0, 4) == Ok(Reply::Entered(1))
             && submits(alloc, desk, &[5, 6, 7], &replies, 2)?
             && stands(desk, &[4, 5], &[4, 5]),
     )

@@ -7,7 +7,7 @@ use crate::room::growths::{are_stopped_behind, begins_again, sees};
 use crate::room::met::{Counts, Met, counted, met_by};
 use crate::room::seats::Seated;
 use crate::room::states::{Shared, Sight, both_edits};
-use cq_desk::{Desk, End, Refused};
+use cq_desk::{Desk, End, NoMemory, Reply};
 use cq_room::{Pair, Parts, Room, RoomFault, RoomName, Session, Watched};
 use std::alloc::Allocator;
 use std::marker::Brand;
@@ -33,11 +33,11 @@ trait Desking<R, A> {
 }
 
 /// What an answer to the edit of that number means.
-fn entered<W: Drop>(answer: Result<u64, Refused<W>>, number: u64) -> Met {
+fn entered<W: Drop>(answer: Result<Reply<W>, NoMemory>, number: u64) -> Met {
     match answer {
-        Ok(entry) => Met::Nothing.if_right(entry == number),
-        Err(Refused::NoMemory) => Met::Enter,
-        Err(_) => Met::Wrong,
+        Ok(Reply::Entered(entry)) => Met::Nothing.if_right(entry == number),
+        Err(NoMemory) => Met::Enter,
+        Ok(_) => Met::Wrong,
     }
 }
 

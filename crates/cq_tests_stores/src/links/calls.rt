@@ -2,9 +2,8 @@
 
 use crate::stores::{Copied, Store, go_on_with_copy};
 use crate::texts::{Given, query};
-use cq_atom::{Meter, Query};
+use cq_atom::{Edge, Meter, Query};
 use cq_links::Links;
-use cq_match::Edge;
 use std::alloc::{AllocError, Allocator};
 
 /// Provider, head, waiter and postcondition of an edge.

@@ -1,7 +1,7 @@
 //! The worked rows.
 
 use crate::links::calls::{Call, Posting};
-use crate::stores::{Apart, other_apart, other_of};
+use crate::stores::other_of;
 use cq_links::Links;
 
 // A ring of three, each of whom waits for what the next one offers; the last closes it.
@@ -76,17 +76,5 @@ const COMERS: &[Call] = &[
 #[test]
 fn removed_queries_are_gone(rt: HostRuntime) {
     let other = other_of::<_, Links>(rt.alloc(), &[TWO_OF_RING, COMERS, &[THIRD, ALONE]]);
-    assert!(rt; other == Ok(None), "{other:?}");
-}
-
-/// The last query of the ring closes it in each of two copies, and the original has it in neither case.
-const APART: Apart<'static, Call> = Apart {
-    before: &[TWO_OF_RING],
-    calls: &[(1, THIRD), (2, THIRD), (0, Call::Has(2, false)), (0, THIRD)],
-};
-
-#[test]
-fn copies_are_apart(rt: HostRuntime) {
-    let other = other_apart::<_, Links>(rt.alloc(), &APART);
     assert!(rt; other == Ok(None), "{other:?}");
 }

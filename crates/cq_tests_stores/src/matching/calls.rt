@@ -4,7 +4,8 @@ use crate::matching::edges::{Ends, edges_of};
 use crate::matching::listed::shows_waiters;
 use crate::matching::twin::Twin;
 use crate::stores::Store;
-use cq_match::{Edge, Matcher};
+use cq_atom::Edge;
+use cq_match::Matcher;
 use std::alloc::{AllocError, Allocator};
 
 /// A node, its postcondition, and how many providers this has.

@@ -1,6 +1,6 @@
 //! Edges as the tables have them.
 
-use cq_match::Edge;
+use cq_atom::Edge;
 use std::alloc::{AllocError, Allocator};
 
 /// An edge: its provider, the head, its waiter and the postcondition.

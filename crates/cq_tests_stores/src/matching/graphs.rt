@@ -1,9 +1,10 @@
 //! Worked graphs: what is asked of each, and the answer, which was worked out by hand.
 
 use crate::matching::edges::{Ends, edges_of};
-use crate::matching::listed::{Fell, fall_as, finds_matched, rests_on};
+use crate::matching::listed::{Fell, fall_as, finds_matched, lead_into, rests_on};
 use crate::stores::{Store, other_of};
-use cq_match::{Edge, is_crowd};
+use cq_atom::Edge;
+use cq_match::is_crowd;
 use std::alloc::{AllocError, Allocator};
 
 /// What is asked of a graph, and the answer.
@@ -14,6 +15,8 @@ pub enum Asked {
     Falling(&'static [Fell]),
     /// The part of these falls on which the node rests.
     PartFor(usize, &'static [Fell]),
+    /// The edges that lead to the waiter.
+    EdgesInto(usize, &'static [Ends]),
 }
 
 /// A graph, and what is asked of it.
@@ -45,6 +48,7 @@ impl<A: Allocator + Copy> Store<A> for Scratch {
             Asked::Matched(wanted) => finds_matched(alloc, graph.nodes, edges, wanted),
             Asked::Falling(wanted) => fall_as(alloc, graph.nodes, edges, wanted),
             Asked::PartFor(node, wanted) => rests_on(alloc, graph.nodes, edges, *node, wanted),
+            Asked::EdgesInto(waiter, wanted) => lead_into(alloc, edges, *waiter, wanted),
         }
     }
 }

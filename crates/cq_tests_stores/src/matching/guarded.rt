@@ -6,8 +6,8 @@ ghost use Rattle.cq_match.specs.Matched.{numbers};
 ghost use Rattle.cq_match.specs.Matcher.{is_apart};
 ghost use Rattle.cq_tests_stores.specs.Guarded.{HavePosts, HasEnds, IsTaken};
 
-use cq_atom::Meter;
-use cq_match::{Edge, Matcher};
+use cq_atom::{Edge, Meter};
+use cq_match::Matcher;
 use std::alloc::{AllocError, Allocator, Global};
 use std::marker::Model;
 use std::mem::{drop, replace};

@@ -3,8 +3,7 @@
 
 use crate::matching::edges::edge;
 use crate::matching::guarded::Guarded;
-use cq_atom::Meter;
-use cq_match::Edge;
+use cq_atom::{Edge, Meter};
 use std::alloc::{AllocError, Allocator};
 
 const SIZE: usize = 10_000;

@@ -6,14 +6,16 @@ ghost use Rattle.std.specs.List.Sorted.{IsNonDecreasingBy};
 ghost use Rattle.cq_match.specs.Matched.{numbers};
 ghost use Rattle.cq_tests_stores.specs.Guarded.{HasEnds};
 
-use cq_match::{Edge, Fall, Matcher, Reason, falling, greatest, part_for};
+use crate::matching::edges::{Ends, edges_of};
+use cq_atom::Edge;
+use cq_match::{Fall, Matcher, Parts, Reason, edges_into, falling, greatest, part_for};
 use std::alloc::{AllocError, Allocator};
 
 /// No node of a test has more postconditions.
-pub const MOST_POSTS: u8 = 3;
+const MOST_POSTS: u8 = 3;
 
 /// Whether a node of that number is in the list.
-pub fn is_listed(nodes: &[(usize, u8, bool)], number: usize) -> bool
+fn is_listed(nodes: &[(usize, u8, bool)], number: usize) -> bool
     ensures { result ≡ list_any (λ node. number == node.0) nodes.now }
 {
     nodes.iter().any(|node| number == node.0)
@@ -107,7 +109,32 @@ fn are_grouped(edges: &[Edge]) -> bool
     true
 }
 
-/// Whether the lists are a graph, with its edges sorted by their waiters, on whose falls the node rests by this part.
+/// Whether these edges lead to the waiter, of edges that are sorted by their waiters.
+pub fn lead_into<A: Allocator + Copy>(
+    alloc: A,
+    edges: &[Edge],
+    waiter: usize,
+    wanted: &[Ends],
+) -> Result<bool, AllocError> {
+    if !are_grouped(edges) {
+        return Ok(false);
+    }
+    let wanted = edges_of(alloc, wanted)?;
+    Ok(edges_into(edges, waiter) == wanted.as_slice())
+}
+
+/// Whether the node rests by this part.
+fn rests_by<A: Allocator + Copy>(
+    parts: &Parts<'_, A>,
+    node: usize,
+    wanted: &[Fell],
+) -> Result<bool, AllocError> {
+    let part = parts.part(node)?;
+    Ok(are_as(&part, wanted))
+}
+
+/// Whether the lists are a graph, with its edges sorted by their waiters, on whose falls the node rests by this part, asked for
+/// alone and as one of all parts.
 pub fn rests_on<A: Allocator + Copy>(
     alloc: A,
     nodes: &[(usize, u8, bool)],
@@ -120,7 +147,11 @@ pub fn rests_on<A: Allocator + Copy>(
     }
     let falls = falling(alloc, nodes, edges)?;
     let part = part_for(alloc, edges, &falls, node)?;
-    Ok(are_as(&part, wanted))
+    if !are_as(&part, wanted) {
+        return Ok(false);
+    }
+    let parts = Parts::begin(alloc, edges, &falls)?;
+    rests_by(&parts, node, wanted)
 }
 
 /// How many of the edges lead to the postcondition.

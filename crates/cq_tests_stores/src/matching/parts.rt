@@ -94,9 +94,36 @@ const PARTS_OF_RINGS: &[Graph] = &[
     },
 ];
 
+const EDGES_OF_WAITERS: &[Graph] = &[
+    // Three lead to 2, among others.
+    Graph {
+        nodes: NODES,
+        edges: EDGES,
+        asked: Asked::EdgesInto(2, &[(5, 0, 2, 2), (9, 0, 2, 1), (1, 0, 2, 0)]),
+    },
+    // The last ones lead to 8.
+    Graph {
+        nodes: NODES,
+        edges: EDGES,
+        asked: Asked::EdgesInto(8, &[(5, 0, 8, 1), (1, 0, 8, 0), (3, 0, 8, 1)]),
+    },
+    // None leads to 7.
+    Graph {
+        nodes: NODES,
+        edges: EDGES,
+        asked: Asked::EdgesInto(7, &[]),
+    },
+];
+
 #[test]
 fn worked_parts(rt: HostRuntime) {
     let other = other_of::<_, Scratch>(rt.alloc(), &[PARTS_OF_FALLS, PARTS_OF_RINGS]);
+    assert!(rt; other == Ok(None), "{other:?}");
+}
+
+#[test]
+fn worked_edges_into_waiters(rt: HostRuntime) {
+    let other = other_of::<_, Scratch>(rt.alloc(), &[EDGES_OF_WAITERS]);
     assert!(rt; other == Ok(None), "{other:?}");
 }
 

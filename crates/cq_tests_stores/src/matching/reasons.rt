@@ -9,7 +9,8 @@ ghost use Rattle.cq_tests_stores.specs.Reasons.{AreNumbered};
 use crate::matching::edges::edge;
 use crate::matching::graphs::{Asked, Graph, Scratch};
 use crate::stores::other_of;
-use cq_match::{Edge, Fall, Reason, falling};
+use cq_atom::Edge;
+use cq_match::{Fall, Reason, falling};
 use std::alloc::{AllocError, Allocator};
 
 // Nodes 4 and 5 are not able, and nothing supplies node 9. Then node 2 falls, two of whose postconditions are fed by

@@ -2,16 +2,16 @@
 
 use crate::matching::guarded::Guarded;
 use crate::matching::listed::is_shown;
-use cq_atom::Meter;
-use cq_match::{Edge, Matcher};
+use cq_atom::{Edge, Meter};
+use cq_match::Matcher;
 use std::alloc::{AllocError, Allocator, Global};
 
 /// A matcher, and lists of the nodes and edges that it must have.
 #[derive(Drop)]
 pub struct Twin<A: Allocator = Global> {
     pub kept: Guarded<A>,
-    pub nodes: Vec<(usize, u8, bool), A>,
-    pub edges: Vec<Edge, A>,
+    nodes: Vec<(usize, u8, bool), A>,
+    edges: Vec<Edge, A>,
     /// It counts how many edges lost their matched providers to removals and to nodes that were able no longer.
     pub meter: Meter,
     /// How many of the listed edges did so.
@@ -68,12 +68,11 @@ impl<A: Allocator + Copy> Twin<A> {
 
     /// Whether the matcher shows what the lists have, and the meter has counted what they have lost.
     pub fn holds(&self, alloc: A) -> Result<bool, AllocError> {
-        Ok(self.meter.count() == self.lost && self.is_shown_by(alloc, self.kept.matcher())?)
-    }
-
-    /// Whether that matcher shows what the lists have.
-    pub fn is_shown_by(&self, alloc: A, matcher: &Matcher<A>) -> Result<bool, AllocError> {
-        is_shown(alloc, matcher, &self.nodes, &self.edges, self.places)
+        let matcher = self.kept.matcher();
+        Ok(
+            self.meter.count() == self.lost
+                && is_shown(alloc, matcher, &self.nodes, &self.edges, self.places)?,
+        )
     }
 }
 

@@ -1,7 +1,7 @@
 //! The worked roster with ample memory.
 
 use crate::roster::calls::Call;
-use crate::stores::{Apart, other_apart, other_of};
+use crate::stores::other_of;
 use cq_roster::{Roster, Seat};
 
 const CYD: Seat<&str> = Seat {
@@ -40,12 +40,6 @@ pub const STANDS: &[Call] = &[
     Call::At("dot", None),
 ];
 
-#[test]
-fn seats_stand_as_they_came(rt: HostRuntime) {
-    let other = other_of::<_, Roster>(rt.alloc(), &[WORKED, STANDS]);
-    assert!(rt; other == Ok(None), "{other:?}");
-}
-
 /// The first name goes, and comes again at a place of its own.
 const AGAIN: &[Call] = &[
     Call::Leave("cyd", 7),
@@ -67,23 +61,5 @@ const AGAIN: &[Call] = &[
 #[test]
 fn posted_again_goes_last(rt: HostRuntime) {
     let other = other_of::<_, Roster>(rt.alloc(), &[WORKED, AGAIN]);
-    assert!(rt; other == Ok(None), "{other:?}");
-}
-
-/// A name leaves the roster, and each of two copies still has it.
-const APART: Apart<'static, Call> = Apart {
-    before: &[WORKED],
-    calls: &[
-        (0, Call::Leave("ann", 0)),
-        (1, Call::Stands(SEATS)),
-        (1, Call::At("ann", Some(0))),
-        (2, Call::Stands(SEATS)),
-        (0, Call::Stands(&[CYD, BOB])),
-    ],
-};
-
-#[test]
-fn copy_stands_by_itself(rt: HostRuntime) {
-    let other = other_apart::<_, Roster>(rt.alloc(), &APART);
     assert!(rt; other == Ok(None), "{other:?}");
 }

@@ -11,7 +11,7 @@ loop-number-preserved g c =
     let s = c.index-seats-number.result in
     record {
       kept = λ relation arity.
-          let test : ℕ × ℕ → List HeadRecord = heads_at relation arity c.args.findings.now in
+          let test : ℕ × ℕ → List HeadRecord = heads_at relation arity c.args.grounded.now in
           c.in_ok-put_heads_at.ensures.heads relation arity ∙ ap (λ (found : List HeadRecord). found ++ test (i, (get_or seats i s).now.place)) (c.loop-number.invariant.kept relation arity)
           ∙ sym (flat_more_by test (λ s. s.now.place) seats i s c.loop-number-test.true);
       told = c.in_ok-put_heads_at.ensures.told c.loop-number.invariant.told;

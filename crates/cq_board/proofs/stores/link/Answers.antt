@@ -3,7 +3,7 @@ use Rattle.std.specs.FinMap as map
 use Rattle.std.specs.List.{All, Any, Contains}
 use Rattle.cq_atom.specs.Atom.{AtomRecord}
 use Rattle.cq_links.specs.Links.{LinkMap, ends_of, IsLink, Touches}
-use Rattle.cq_match.specs.declared.edge.Edge.{Edge}
+use Rattle.cq_atom.specs.declared.edge.Edge.{Edge}
 use Rattle.cq_match.specs.Matched.{numbers}
 use Rattle.cq_match.specs.Matcher.{is_apart}
 use Rattle.cq_board.specs.Steps.Stores.{AddsLinks}
@@ -12,17 +12,17 @@ use Rattle.cq_board.proofs.stores.link.Goals as goal
 use Rattle.cq_board.proofs.stores.link.Goals.{then-is_err, else-is_err}
 
 pub seat-seated-requires-clause-free : goal.seat-seated-requires-clause-free
-seat-seated-requires-clause-free g c = let s = c.requires.stores in free-seat c.args.roster.now s.1 c.args.links.now c.args.matcher.now s.0 s.2 c.args.place s.3
+seat-seated-requires-clause-free g c = let s = c.requires.stores in free-seat _ s.0 s.2 c.args.place s.3
 
 pub seat-seated-requires-clause-no_node : goal.seat-seated-requires-clause-no_node
-seat-seated-requires-clause-no_node g c = let s = c.requires.stores in free-node c.args.roster.now s.1 c.args.links.now c.args.matcher.now s.0 s.2 c.args.place s.3
+seat-seated-requires-clause-no_node g c = let s = c.requires.stores in free-node _ s.0 s.2 c.args.place s.3
 
 pub seat-seated-requires-clause-touch : goal.seat-seated-requires-clause-touch
 seat-seated-requires-clause-touch g c =
     let s = c.requires.stores in
     let exact = subst (λ (l : LinkMap). (edge : Edge) → Contains c.in_ok-edges.edges.items edge ↔ (IsLink l edge × Touches c.args.place edge)) c.in_ok-edges.ensures.ok c.in_ok-edges.ensures.exact in
     subst (λ (es : List Edge). All (λ (edge : Edge). is_apart c.args.place edge ≡ false) es) (sym c.deref.ensures.value)
-    (posted-touch c.args.roster.now s.1 c.args.links.now c.args.matcher.now s.0 s.2 c.args.place s.3 c.args.name.now c.args.query.now c.in_ok-edges.edges.items exact)
+    (posted-touch _ s.0 s.2 c.args.place s.3 c.args.name.now c.args.query.now c.in_ok-edges.edges.items exact)
 
 pub seat-seated-requires-clause-ends : goal.seat-seated-requires-clause-ends
 seat-seated-requires-clause-ends g c =
@@ -30,7 +30,7 @@ seat-seated-requires-clause-ends g c =
     let exact = subst (λ (l : LinkMap). (edge : Edge) → Contains c.in_ok-edges.edges.items edge ↔ (IsLink l edge × Touches c.args.place edge)) c.in_ok-edges.ensures.ok c.in_ok-edges.ensures.exact in
     let known = subst (λ (b : Bool). All (λ (edge : Edge). Contains (numbers ((c.args.place, length c.args.query.now.posts, b) ∷ c.args.matcher.now.nodes)) edge.provider × Any (λ (node : ℕ × ℕ × Bool). (node.0 ≡ edge.waiter) × (edge.post < node.1)) ((c.args.place, length c.args.query.now.posts, b) ∷ c.args.matcher.now.nodes)) c.in_ok-edges.edges.items)
     (sym s.4)
-    (posted-ends c.args.roster.now s.1 c.args.links.now c.args.matcher.now s.0 s.2 c.args.place s.3 c.args.name.now c.args.query.now c.in_ok-edges.edges.items exact) in
+    (posted-ends _ s.0 s.2 c.args.place s.3 c.args.name.now c.args.query.now c.in_ok-edges.edges.items exact) in
     subst (λ (ps : List AtomRecord). All (λ (edge : Edge). Contains (numbers ((c.args.place, length ps, c.args.able) ∷ c.args.matcher.now.nodes)) edge.provider × Any (λ (node : ℕ × ℕ × Bool). (node.0 ≡ edge.waiter) × (edge.post < node.1)) ((c.args.place, length ps, c.args.able) ∷ c.args.matcher.now.nodes)) c.deref.result.now)
     (sym c.posts.ensures.value)
     (subst (λ (es : List Edge). All (λ (edge : Edge). Contains (numbers ((c.args.place, length c.args.query.now.posts, c.args.able) ∷ c.args.matcher.now.nodes)) edge.provider × Any (λ (node : ℕ × ℕ × Bool). (node.0 ≡ edge.waiter) × (edge.post < node.1)) ((c.args.place, length c.args.query.now.posts, c.args.able) ∷ c.args.matcher.now.nodes)) es)
@@ -40,7 +40,7 @@ pub remove-requires : goal.remove-requires
 remove-requires g c =
     let s = c.requires.stores in
     ap (λ (l : LinkMap). map.get l c.args.place) c.in_ok-edges.ensures.ok
-    ∙ get-inserted c.args.links.now c.args.place (free-links c.args.roster.now s.1 c.args.links.now c.args.matcher.now s.0 s.2 c.args.place s.3) (ends_of c.args.query.now)
+    ∙ get-inserted c.args.links.now c.args.place (free-links _ s.0 s.2 c.args.place s.3) (ends_of c.args.query.now)
 
 pub returns-clause-edges : goal.returns-clause-edges
 returns-clause-edges g c =
@@ -64,6 +64,6 @@ returns-clause-err_links g c =
       | then-is_err w ↦
           on-err c.seat-seated.result (c.if-is_err.links ≡ c.args.links.now)
           (w.links-is ∙ w.remove.ensures ∙ ap (λ (l : LinkMap). map.remove l c.args.place) c.in_ok-edges.ensures.ok
-          ∙ remove-inserted c.args.links.now c.args.place (free-links c.args.roster.now s.1 c.args.links.now c.args.matcher.now s.0 s.2 c.args.place s.3) (ends_of c.args.query.now))
+          ∙ remove-inserted c.args.links.now c.args.place (free-links _ s.0 s.2 c.args.place s.3) (ends_of c.args.query.now))
       | else-is_err w ↦ succeeded c.seat-seated.result (c.if-is_err.links ≡ c.args.links.now) (sym c.is_err.ensures.value ∙ w.if-is_err.false)
     ]

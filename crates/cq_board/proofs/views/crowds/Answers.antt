@@ -1,5 +1,5 @@
 use Rattle.std.proofs.Common.{◌≡◌, ◌<◌, ℕ, ◌++◌, List, drop, map, sym, ap, subst, ◌∙◌, arith}
-use Rattle.cq_match.specs.declared.edge.Edge.{Edge}
+use Rattle.cq_atom.specs.declared.edge.Edge.{Edge}
 use Rattle.cq_board.specs.Named.{crowd_read}
 use Rattle.cq_board.specs.Steps.Runs.{run_length, crowd_at}
 use Rattle.cq_board.proofs.Crowds.{IsCounting, counting-starts, counting-continues, counting-ends, counting-waiter, first_is, none_is, run_length-le, run_length-some}

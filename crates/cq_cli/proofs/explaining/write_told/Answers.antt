@@ -1,11 +1,8 @@
 use Rattle.std.proofs.Common.{List, ℕ, sym, subst, map}
-use Rattle.std.proofs.lemmas.Result.{IfOk-weaker}
 use Rattle.cq_cli.specs.Explained.{IsExplained}
 use Rattle.cq_cli.proofs.explaining.write_told.Goals as goal
 
 pub returns-clause-ok : goal.returns-clause-ok
 returns-clause-ok g c =
     let names = map (λ name. name.now) c.args.names.now in
-    IfOk-weaker c.write_lines.result _ _
-    (λ done taken. (c.deref.result.now, subst (λ (text : List ℕ). IsExplained c.args.board.now names text) (sym c.deref.ensures) c.in_ok-text.ensures, taken))
-    c.write_lines.ensures.ok
+    (c.deref.result.now, subst (λ (text : List ℕ). IsExplained c.args.board.now names text) (sym c.deref.ensures) c.in_ok-text.ensures, c.in_ok-write_text.ensures.ok)

@@ -7,7 +7,7 @@ use Rattle.cq_cli.proofs.sessions.read_files.Goals as goal
 pub loop-path-preserved : goal.loop-path-preserved
 loop-path-preserved g c =
     rw c.in-Ok.ensures.items
-    (paired-next (g.S.Shelf.held c.args.shelf.now) (λ path. path.now) (λ file. file.items) c.args.paths.now c.loop-path.path-index _ c.loop-path.files.items c.in_ok-bytes.bytes c.loop-path-test.true c.loop-path.invariant c.in_ok-bytes.ensures.held)
+    (paired-next (g.S.Shelf.held c.args.shelf.now) (λ path. path.now) (λ file. file.items) c.args.paths.now c.loop-path.path-index _ c.loop-path.files.items c.in_ok-bytes.bytes c.loop-path-test.true c.loop-path.invariant c.in_ok-bytes.ensures)
 
 pub returns-clause-held : goal.returns-clause-held
 returns-clause-held g c =

@@ -1,11 +1,11 @@
-use Rattle.std.proofs.Common.{sym, ◌∙◌}
-use Rattle.cq_cli.proofs.Telling.{ended_failed, where_failed}
+use Rattle.cq_cli.proofs.Telling.{ended_not_refused, ended_reported, not_refused, where_failed}
 use Rattle.cq_cli.proofs.views.say_choice.Goals as goal
 
 pub end_with-requires : goal.end_with-requires
 end_with-requires g c = where_failed c.show_choice-shown.result c.requires.errors
 
-pub returns-clause-failed : goal.returns-clause-failed
-returns-clause-failed g c failed =
-    let told = c.show_choice-shown.ensures in
-    ended_failed c.show_choice-shown.result _ _ _ _ _ _ told.either told.kind told.turn told.write_failures (sym c.end_with.ensures.ended ∙ failed)
+pub returns-clause-failures : goal.returns-clause-failures
+returns-clause-failures g c = rw c.end_with.ensures.ended (ended_reported _ _ c.show_choice-shown.result c.show_choice-shown.ensures.either c.show_choice-shown.ensures.failures)
+
+pub returns-clause-refused : goal.returns-clause-refused
+returns-clause-refused g c = rw c.end_with.ensures.ended (not_refused _ _ _ _ _ (ended_not_refused c.show_choice-shown.result c.show_choice-shown.ensures.either))

@@ -1,6 +1,6 @@
 use Rattle.std.proofs.Common.{◌+◌, List, length, sum, vec_len}
 use Rattle.std.specs.List.{All}
-use Rattle.cq_match.specs.declared.edge.Edge.{Edge}
+use Rattle.cq_atom.specs.declared.edge.Edge.{Edge}
 use Rattle.cq_match.specs.Steps.Places.{AreOffersOf}
 use Rattle.cq_match.proofs.Union.{HasEnds}
 use Rattle.cq_match.proofs.Waves.{Waving, SoFar}

@@ -1,24 +1,40 @@
-use Rattle.std.proofs.Common.{◌≡◌, ℕ, suc, ◌-◌, ◌<◌, inr, get_or, length, reverse, refl, subst, arith}
-use Rattle.cq_match.specs.Steps.Resting.{no_fall, Walking}
-use Rattle.cq_match.proofs.Wanting.{walked, walked-out, empty-list}
+use Rattle.std.proofs.Common.{◌≡◌, ◌<◌, ◌≤◌, true, false, length, filter, eqb, nat_eq, get_or, reverse, arith}
+use Rattle.std.specs.HashMap.{get}
+use Rattle.cq_match.specs.Steps.Resting.{feeds_from, no_fall}
+use Rattle.cq_match.proofs.Wanting.{all-less, last-below, set-came, set-comes, still-below, stepped, none-wanted, walked-out}
 use Rattle.cq_match.proofs.resting.walk.Goals as goal
 
-pub loop-left-preserved : goal.loop-left-preserved
-loop-left-preserved g c =
+pub loop-place-preserved : goal.loop-place-preserved
+loop-place-preserved g c =
     let edges = c.args.edges.now in
     let falls = c.args.falls.now in
-    let left = c.loop-left.left in
-    let before : left ≡ suc (left - 1) = omega (arith, c.loop-left-test.true) in
-    let low : left - 1 < length falls = omega (arith, c.loop-left-test.true, c.loop-left.invariant.low) in
+    let places = get nat_eq c.args.places.now in
+    let good = c.requires.parts.good in
+    let table = c.requires.parts.placed in
+    let p = c.in-Some.place in
+    let fall = get_or falls p no_fall in
+    let wanted = c.loop-place.wanted.keys in
+    let rest = c.pop_last.new.self.keys in
+    let wanted' = c.want_next.new.wanted.keys in
+    let split = c.in-Some.ensures.removal in
+    let below = all-less p rest c.in-Some.ensures.all_below in
+    let under : p < c.loop-place.left = last-below wanted rest p c.loop-place.left split c.loop-place.invariant.below in
+    let inside : c.loop-place.left ≤ length falls = c.loop-place.invariant.low in
+    let low : p < length falls = omega (arith, under, inside) in
+    let fed = feeds_from places (filter (λ e. eqb e.waiter fall.node) edges) fall.reason in
+    let came = set-came c.pop_last.new.self c.want_next.new.wanted fed c.in_ok-want_next.ensures in
+    let comes = set-comes c.pop_last.new.self c.want_next.new.wanted fed c.in_ok-want_next.ensures in
     record {
-      low = omega (arith, c.loop-left.invariant.low);
-      walking = λ node good start.
-          walked edges falls good node (left - 1) c.loop-left.wanted.keys c.look_at.new.wanted.keys c.loop-left.part.items c.look_at.new.part.items (get_or falls (left - 1) no_fall) low refl
-          c.in_ok-look_at.ensures.part c.in_ok-look_at.ensures.wanted
-          (subst (λ (i : ℕ). Walking edges falls node i c.loop-left.wanted.keys (reverse c.loop-left.part.items)) before (c.loop-left.invariant.walking node good start));
+      low = omega (arith, low);
+      below = still-below edges falls good places table p low wanted wanted' rest split below came comes;
+      walking = λ node start.
+          stepped edges falls good places table p low wanted wanted' rest split below came comes
+          node c.loop-place.left c.loop-place.part.items c.push.new.self.items under inside c.in_ok-push.ensures.items (c.loop-place.invariant.walking node start);
     }
 
-pub returns-else-not-is_empty : goal.returns-else-not-is_empty
-returns-else-not-is_empty g c node good start =
-    walked-out c.args.edges.now c.args.falls.now good node c.loop-left.left c.loop-left.wanted.keys (reverse c.loop-left.part.items)
-    (inr (empty-list c.loop-left.wanted.keys (c.is_empty.ensures.0 c.if-not-is_empty.false))) (c.loop-left.invariant.walking node good start)
+pub returns : goal.returns
+returns g c node start =
+    let wanted = c.loop-place.wanted.keys in
+    walked-out c.args.edges.now c.args.falls.now c.requires.parts.good node c.loop-place.left wanted (reverse c.loop-place.part.items)
+    (none-wanted wanted (λ some. let never : false ≡ true = rw c.in_default.is at (c.pop_last.ensures.variant.1 some) in cc)) c.loop-place.invariant.low
+    (c.loop-place.invariant.walking node start)

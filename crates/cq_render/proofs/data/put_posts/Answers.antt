@@ -3,7 +3,7 @@ use Rattle.std.specs.List.{enumerate_from}
 use Rattle.json.specs.Json.{Json}
 use Rattle.json.specs.Tree.{json_tokens}
 use Rattle.cq_atom.specs.Atom.{AtomRecord}
-use Rattle.cq_match.specs.declared.edge.Edge.{Edge}
+use Rattle.cq_atom.specs.declared.edge.Edge.{Edge}
 use Rattle.cq_match.specs.Graph.{edges_to}
 use Rattle.cq_board.specs.Edges.{edges_of}
 use Rattle.cq_render.specs.Json.{post_json}

@@ -1,6 +1,6 @@
 use Rattle.std.proofs.Common.{◌+◌, drop, ap, arith, get_or}
 use Rattle.json.specs.Tree.{json_tokens}
-use Rattle.cq_match.specs.declared.edge.Edge.{Edge}
+use Rattle.cq_atom.specs.declared.edge.Edge.{Edge}
 use Rattle.cq_render.specs.Json.{provider_json}
 use Rattle.cq_render.proofs.Pieces.{got_at, nothing_left}
 use Rattle.cq_render.proofs.Arrays.{listed, listed_at, put_array}

@@ -19,6 +19,6 @@ returns g c =
     let first = subst (λ (name : List ℕ). c.put_heading.new.sheet ≡ c.args.sheet.now ++ heading_of name) c.as_str-name.ensures.bytes c.in_ok-put_heading.ensures in
     let posts = json_tokens (posts_json c.args.listing.now.board.now.pending shown.number query) in
     let found = key (codes "variables") ∷ (json_tokens (array_of (map values.string (variables_of query.body))) ++ key (codes "groundings") ∷ (json_tokens (array_of (map grounding_json shown.groundings.now)) ++ end_object ∷ [])) in
-    put_then c.args.sheet.now c.put_posts.new.sheet c.put_findings.new.sheet ((heading ++ key (codes "postconditions") ∷ []) ++ posts) found c.put_findings.result
+    put_then c.args.sheet.now c.put_posts.new.sheet c.put_grounded.new.sheet ((heading ++ key (codes "postconditions") ∷ []) ++ posts) found c.put_grounded.result
     (put_both c.args.sheet.now c.key.new.self c.put_posts.new.sheet (heading ++ key (codes "postconditions") ∷ []) posts
-    (put_both c.args.sheet.now c.put_heading.new.sheet c.key.new.self heading (key (codes "postconditions") ∷ []) first c.in_ok-key.ensures) c.in_ok-put_posts.ensures) c.put_findings.ensures
+    (put_both c.args.sheet.now c.put_heading.new.sheet c.key.new.self heading (key (codes "postconditions") ∷ []) first c.in_ok-key.ensures) c.in_ok-put_posts.ensures) c.put_grounded.ensures

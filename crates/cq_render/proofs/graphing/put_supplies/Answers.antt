@@ -2,7 +2,7 @@ use Rattle.std.proofs.Common.{◌≡◌, ◌+◌, ◌++◌, ℕ, List, length, d
 use Rattle.std.specs.Prelude.{string_bytes}
 use Rattle.std.specs.List.{flat_map, enumerate_from, slice_get}
 use Rattle.cq_atom.specs.Atom.{AtomRecord}
-use Rattle.cq_match.specs.declared.edge.Edge.{Edge}
+use Rattle.cq_atom.specs.declared.edge.Edge.{Edge}
 use Rattle.cq_match.specs.Graph.{edges_to}
 use Rattle.cq_board.specs.Edges.{edges_of}
 use Rattle.cq_render.specs.Graph.{supply}

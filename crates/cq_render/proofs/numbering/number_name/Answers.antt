@@ -4,8 +4,8 @@ use Rattle.std.specs.Option.{is_some}
 use Rattle.std.specs.HashMap.{get_by}
 use Rattle.std.proofs.lemmas.Slice.Eq.{bytes_eq-Decides}
 use Rattle.std.proofs.lemmas.Map.Text.{hash_map_updates_str}
-use Rattle.cq_match.proofs.Tests.{by_bool}
-use Rattle.cq_render.specs.Steps.Resting.{first_of}
+use Rattle.cq_render.proofs.Pieces.{by_bool}
+use Rattle.cq_render.specs.Steps.Numbering.{first_of}
 use Rattle.cq_render.proofs.Numbers.{first_alone, first_new}
 use Rattle.cq_render.proofs.numbering.number_name.Goals as goal
 

@@ -1,7 +1,7 @@
 use Rattle.std.proofs.Common.{◌≡◌, ℕ, ◌<◌, length, Bool, take, ap, ◌∙◌, sym, arith, bytes_eq, Some, None, if◌then◌else◌, get_or}
 use Rattle.std.specs.List.{position}
 use Rattle.std.specs.Prelude.{Option}
-use Rattle.cq_render.specs.Steps.Resting.{first_of}
+use Rattle.cq_render.specs.Steps.Numbering.{first_of}
 use Rattle.std.proofs.lemmas.List.{take_all}
 use Rattle.cq_render.proofs.Numbers.{number_is_place, position_more}
 use Rattle.cq_render.proofs.Walked.{names_of_shown}

@@ -2,7 +2,7 @@ use Rattle.std.proofs.Common.{◌≡◌, ◌+◌, ◌++◌, ℕ, List, length, d
 use Rattle.std.specs.Prelude.{string_bytes}
 use Rattle.std.specs.List.{flat_map, enumerate_from}
 use Rattle.cq_atom.specs.Atom.{AtomRecord}
-use Rattle.cq_match.specs.declared.edge.Edge.{Edge}
+use Rattle.cq_atom.specs.declared.edge.Edge.{Edge}
 use Rattle.cq_render.specs.Report.{count_line, provider_line, post_lines}
 use Rattle.cq_render.proofs.Pieces.{numbers_at, nothing_left}
 use Rattle.cq_render.proofs.Pages.{put_on, put_end}

@@ -1,7 +1,7 @@
 use Rattle.std.proofs.Common.{◌+◌, drop, ap, arith, get_or}
 use Rattle.std.specs.Prelude.{string_bytes}
 use Rattle.std.specs.List.{flat_map}
-use Rattle.cq_match.specs.declared.edge.Edge.{Edge}
+use Rattle.cq_atom.specs.declared.edge.Edge.{Edge}
 use Rattle.cq_render.specs.Report.{provider_line}
 use Rattle.cq_render.proofs.Pieces.{pieces_at, got_at, nothing_left}
 use Rattle.cq_render.proofs.Pages.{put_on, put_end}

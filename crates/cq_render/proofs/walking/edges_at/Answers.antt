@@ -1,8 +1,8 @@
 use Rattle.std.proofs.Common.{rules, ltb, leb, subst, sym}
 use Rattle.std.specs.List.Sorted.{IsNonDecreasingBy}
 use Rattle.std.proofs.lemmas.List.Sorted.{IsPartitionPoint-from_clause, IsPartitionedBy-ltb, IsPartitionedBy-leb, IsNonDecreasingBy-drop}
-use Rattle.cq_match.specs.declared.edge.Edge.{Edge}
-use Rattle.cq_match.proofs.Grouped.{between-by}
+use Rattle.cq_atom.specs.declared.edge.Edge.{Edge}
+use Rattle.cq_match.proofs.CallerLemmas.{between-by}
 use Rattle.cq_render.proofs.walking.edges_at.Goals as goal
 
 pub returns : goal.returns

@@ -1,5 +1,5 @@
 use Rattle.std.proofs.Common.{◌==◌, ◌∙◌, List, filter, ap}
-use Rattle.cq_match.specs.declared.edge.Edge.{Edge}
+use Rattle.cq_atom.specs.declared.edge.Edge.{Edge}
 use Rattle.cq_board.specs.Edges.{edges_of}
 use Rattle.cq_board.proofs.CallerLemmas.{edges-grouped}
 use Rattle.cq_render.proofs.Explained.{filter_both}

@@ -2,11 +2,12 @@ use Rattle.std.proofs.Common.{◌≡◌, ◌∙◌, ℕ, List, ap, sym, subst}
 use Rattle.std.specs.Prelude.{Ok, Err}
 use Rattle.cq_board.specs.Edits.{why, pool_after}
 use Rattle.cq_desk.specs.Machine.{answer_to}
-use Rattle.cq_report.specs.Reply.{refusal_line, answer_lines, reply_lines}
+use Rattle.cq_report.specs.Reply.{answer_lines, reply_lines}
 use Rattle.cq_report.specs.Machine.{after, shown}
 use Rattle.cq_report.specs.Steps.Put.{Put}
+use Rattle.cq_report.specs.Steps.Writing.{Puts-nothing}
 use Rattle.cq_report.proofs.Answering.{on_ok}
-use Rattle.cq_report.proofs.Refused.{refused_after, told_refusal}
+use Rattle.cq_report.proofs.Refused.{refused_after, told_fault}
 use Rattle.cq_report.proofs.happening.happen.Goals as goal
 
 pub returns-in-Ok : goal.returns-in-Ok
@@ -26,10 +27,10 @@ pub returns-in_default : goal.returns-in_default
 returns-in_default g c =
     let floor = c.args.floor.now in
     let event = c.args.event in
-    let refusal = c.in-Err.refusal in
-    let told : answer_to pool_after why floor.opening floor.limit floor.machine event ≡ Err refusal = told_refusal _ refusal c.in_default.not-NoMemory c.in-Err.ensures.answer in
+    let fault = c.in-Err.fault in
+    let told : answer_to pool_after why floor.opening floor.limit floor.machine event ≡ Err fault = told_fault _ fault c.in_default.not-NoMemory c.in-Err.ensures.answer in
     record {
-      state = on_ok c.put_reply.result _ (c.in-Err.ensures.err ∙ sym (refused_after floor event refusal told));
-      put = subst (λ (bytes : List ℕ). Put g.W.Sink.taken g.W.Sink.write_failures c.args.output.now c.put_reply.new.output bytes c.put_reply.result)
-          (sym (ap (reply_lines (shown (after floor event))) told)) (c.put_reply.ensures (refusal_line refusal) c.refusal_line.ensures);
+      state = c.in-Err.ensures.err ∙ sym (refused_after floor event fault told);
+      put = subst (λ (bytes : List ℕ). Put g.W.Sink.taken g.W.Sink.write_failures c.args.output.now c.args.output.now bytes (Ok tt))
+          (sym (ap (reply_lines (shown (after floor event))) told)) (Puts-nothing g.W.Sink.taken g.W.Sink.write_failures c.args.output.now);
     }

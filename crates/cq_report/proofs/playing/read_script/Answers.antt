@@ -1,16 +1,17 @@
 use Rattle.std.proofs.Common.{◌≡◌, List, IfSome}
 use Rattle.std.proofs.lemmas.Result.{on_ok_weaker}
 use Rattle.cq_board.specs.Pool.{PoolRecord}
-use Rattle.cq_text.specs.Device.{FailedAtTurn}
-use Rattle.cq_report.specs.declared.fault.RunFault.{RunFault}
+use Rattle.cq_devices.specs.Device.{FailedAtTurn}
 use Rattle.cq_report.specs.declared.numbering.Numbering.TheVariants.{Plain}
 use Rattle.cq_report.specs.Lines.{lines_of}
 use Rattle.cq_report.specs.Reading.{Reading}
 use Rattle.cq_report.specs.Output.{AreReadings, pool_left}
-use Rattle.cq_report.specs.Run.{IfRead, IsOfReading}
 use Rattle.cq_report.proofs.Ending.{Replayed-left, Replayed-readings}
-use Rattle.cq_report.proofs.Leaving.{all_of_reading, IsPlayed-pool, IsPlayed-on, IsPlayed-err, IsPlayed-unread}
+use Rattle.cq_report.proofs.Leaving.{never_written, IsPlayed-pool, IsPlayed-on, IsPlayed-turn, IsPlayed-unread}
 use Rattle.cq_report.proofs.playing.read_script.Goals as goal
+
+pub left_by-requires : goal.left_by-requires
+left_by-requires g c = never_written c.replay-ended.result _ c.replay-ended.ensures.write_failures
 
 pub returns-clause-board : goal.returns-clause-board
 returns-clause-board g c =
@@ -22,14 +23,11 @@ pub returns-clause-readings : goal.returns-clause-readings
 returns-clause-readings g c =
     IsPlayed-on _ c.replay-ended.result _ _ c.left_by.ensures (on_ok_weaker c.replay-ended.result (λ r. Replayed-readings _ _ Plain _ _ _ _ _ _ c.begin-machine.ensures.state r) c.replay-ended.ensures.ok)
 
-pub returns-clause-kind : goal.returns-clause-kind
-returns-clause-kind g c = IsPlayed-err _ c.replay-ended.result _ IsOfReading c.left_by.ensures tt (all_of_reading c.replay-ended.result _ c.replay-ended.ensures.kind c.replay-ended.ensures.write_failures)
-
 pub returns-clause-turn : goal.returns-clause-turn
 returns-clause-turn g c =
-    IsPlayed-err _ c.replay-ended.result _
-    (λ (fault : RunFault). IfRead fault (λ turn. FailedAtTurn turn (g.R.Source.reads_made c.args.reader.now) (g.R.Source.reads_made c.replay-ended.new.reader) (g.R.Source.failures_met c.args.reader.now) (g.R.Source.failures_met c.replay-ended.new.reader)))
-    c.left_by.ensures tt c.replay-ended.ensures.turn
+    IsPlayed-turn _ c.replay-ended.result _
+    (λ turn. FailedAtTurn turn (g.R.Source.reads_made c.args.reader.now) (g.R.Source.reads_made c.replay-ended.new.reader) (g.R.Source.failures_met c.args.reader.now) (g.R.Source.failures_met c.replay-ended.new.reader))
+    c.left_by.ensures c.replay-ended.ensures.turn
 
 pub returns-clause-read_failures : goal.returns-clause-read_failures
 returns-clause-read_failures g c = IsPlayed-unread _ c.replay-ended.result _ _ c.left_by.ensures c.replay-ended.ensures.read_failures

@@ -1,6 +1,7 @@
 use Rattle.std.proofs.Common.{◌≡◌, ◌∷◌, ◌++◌, ◌∙◌, [], ℕ, List, length, refl, sym, ap, subst, append_assoc, length-append, arith}
 use Rattle.std.proofs.lemmas.Result.{err_from_is_err_and}
 use Rattle.cq_report.specs.declared.fault.RunFault.TheVariants.{NoMemory}
+use Rattle.cq_report.specs.Steps.Replies.{fault_of_reply}
 use Rattle.cq_report.specs.Steps.Serving.{ServesOn, StopsOn}
 use Rattle.cq_report.proofs.Served.{ServesOn-nothing, ServesOn-then, ServesOn-front, StopsOn-then, StopsOn-starved, IsSound-nothing, IsSound-then}
 use Rattle.cq_report.specs.Steps.Writing.{Puts-nothing}
@@ -30,7 +31,7 @@ returns-in_err-serve_line-clause-err g c =
     let i = c.loop-last.invariant in
     let behind = c.in-Some.behind.now in
     rw (p.1, p.2)
-    (subst (λ (k : List ℕ). StopsOn g.W.Sink.taken g.W.Sink.write_failures c.args.output.now c.serve_line.new.output c.args.machine.now c.args.line.now k c.in_err-serve_line.field-0.0)
+    (subst (λ (k : List ℕ). StopsOn g.W.Sink.taken g.W.Sink.write_failures c.args.output.now c.serve_line.new.output c.args.machine.now c.args.line.now k (fault_of_reply c.in_err-serve_line.field-0.0))
     (cut_on i.done c.loop-last.rest.now c.in-Some.last.now behind c.args.piece.now i.cut c.in-Some.ensures.cut)
     (StopsOn-then _ _ _ _ _ _ _ _ _ i.done _ _ i.on (c.in_err-serve_line.ensures.err behind)))
 

@@ -1,12 +1,12 @@
-use Rattle.cq_text.specs.declared.limits.TheConstants.{MAX_PIECE}
+use Rattle.cq_devices.specs.declared.limits.TheConstants.{MAX_PIECE}
 use Rattle.std.proofs.Common.{◌≡◌, ◌++◌, [], ◌∙◌, arith, take, refl, sym, subst, inl, append-nil}
 use Rattle.cq_report.specs.Steps.Serving.{Served}
-use Rattle.cq_report.proofs.Ending.{Consumes-none}
+use Rattle.cq_report.proofs.Ending.{Consumes-none, reply_read}
 use Rattle.std.proofs.KnownBytes.{Consumes-nil, Consumes-trans, Consumes-kept}
 use Rattle.std.proofs.lemmas.List.{length-take}
 use Rattle.std.proofs.lemmas.Result.{err_from_is_err_and}
 use Rattle.cq_report.proofs.Served.{Served-nothing, Served-passed, Stopped-passing, Stopped-reading, IsSound-nothing, IsSound-then, IsSound-puts}
-use Rattle.cq_report.proofs.Starving.{IfMemory-weaker, RanOut-behind, RanOut-on, of_writing}
+use Rattle.cq_report.proofs.Starving.{IfMemory-weaker, RanOut-behind, RanOut-on}
 use Rattle.cq_report.proofs.running.serve_all.Goals as goal
 
 pub loop-i-init : goal.loop-i-init
@@ -127,4 +127,24 @@ returns-in_err-feed-clause-memory g c =
 pub returns-in_err-write_out-clause-memory : goal.returns-in_err-write_out-clause-memory
 returns-in_err-write_out-clause-memory g c =
     let p = err_from_is_err_and c.from_residual-in_err-write_out.result c.from_residual-in_err-write_out.ensures.1 in
-    rw (p.1, p.2) (of_writing _ _ c.in_err-write_out.ensures.fault)
+    rw (p.1, p.2) tt
+
+pub returns-in_err-finish-clause-read : goal.returns-in_err-finish-clause-read
+returns-in_err-finish-clause-read g c =
+    let p = err_from_is_err_and c.from_residual.result c.from_residual.ensures.1 in
+    rw (p.1, p.2) (reply_read c.in_err-finish.field-0.0 _)
+
+pub returns-in_err-finish-clause-turn : goal.returns-in_err-finish-clause-turn
+returns-in_err-finish-clause-turn g c =
+    let p = err_from_is_err_and c.from_residual.result c.from_residual.ensures.1 in
+    rw (p.1, p.2) (reply_read c.in_err-finish.field-0.0 _)
+
+pub returns-in_err-feed-clause-read : goal.returns-in_err-feed-clause-read
+returns-in_err-feed-clause-read g c =
+    let p = err_from_is_err_and c.from_residual-in_err-feed.result c.from_residual-in_err-feed.ensures.1 in
+    rw (p.1, p.2) (reply_read c.in_err-feed.field-0.0 _)
+
+pub returns-in_err-feed-clause-turn : goal.returns-in_err-feed-clause-turn
+returns-in_err-feed-clause-turn g c =
+    let p = err_from_is_err_and c.from_residual-in_err-feed.result c.from_residual-in_err-feed.ensures.1 in
+    rw (p.1, p.2) (reply_read c.in_err-feed.field-0.0 _)

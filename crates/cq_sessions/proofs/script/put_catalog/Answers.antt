@@ -3,7 +3,7 @@ use Rattle.std.specs.Prelude.{string_bytes}
 use Rattle.std.specs.List.{flat_map}
 use Rattle.cq_rel.specs.Tables.{declaration}
 use Rattle.cq_sessions.specs.Script.{declaration_line}
-use Rattle.cq_board.proofs.Pieces.{pieces_at}
+use Rattle.cq_board.proofs.CallerLemmas.{pieces_at}
 use Rattle.cq_render.proofs.CallerLemmas.{put_on}
 use Rattle.cq_sessions.proofs.script.put_catalog.Goals as goal
 

@@ -1,7 +1,7 @@
 use Rattle.std.proofs.Common.{◌+◌, drop}
 use Rattle.std.specs.Prelude.{string_bytes}
 use Rattle.cq_sessions.specs.Script.{entry_lines, entries_from}
-use Rattle.cq_board.proofs.Pieces.{read_at}
+use Rattle.cq_board.proofs.CallerLemmas.{read_at}
 use Rattle.cq_render.proofs.CallerLemmas.{put_on}
 use Rattle.cq_sessions.proofs.Pages.{entries_step}
 use Rattle.cq_sessions.proofs.script.put_entries.Goals as goal

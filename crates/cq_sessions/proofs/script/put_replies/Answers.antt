@@ -2,7 +2,7 @@ use Rattle.std.proofs.Common.{◌≡◌, ◌+◌, [], ◌∷◌, Some, drop, sub
 use Rattle.std.specs.Prelude.{string_bytes, option_map}
 use Rattle.std.specs.List.{slice_get}
 use Rattle.cq_sessions.specs.Script.{Sheet, replies_from}
-use Rattle.cq_board.proofs.Pieces.{read_at, got_of_map}
+use Rattle.cq_board.proofs.CallerLemmas.{read_at, got_of_map}
 use Rattle.cq_render.proofs.CallerLemmas.{put_on}
 use Rattle.cq_sessions.proofs.Pages.{replies_step}
 use Rattle.cq_sessions.proofs.script.put_replies.Goals as goal

@@ -1,6 +1,6 @@
 use Rattle.std.proofs.Common.{◌≡◌, ℕ, Bool, ◌<◌, ◌∙◌, List, subst, sym, nat_eq}
 use Rattle.std.specs.List.{All, Any, Contains, IsDistinct}
-use Rattle.cq_match.specs.declared.edge.Edge.{Edge}
+use Rattle.cq_atom.specs.declared.edge.Edge.{Edge}
 use Rattle.cq_match.specs.Matched.{numbers}
 use Rattle.cq_board.specs.Board.{nodes_of}
 use Rattle.cq_board.proofs.Waited.{nodes-distinct, edges-nodes}

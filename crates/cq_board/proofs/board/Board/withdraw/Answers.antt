@@ -9,10 +9,8 @@ use Rattle.cq_board.proofs.board.Board.withdraw.Goals as goal
 
 pub invariant_of-self : goal.invariant_of-self
 invariant_of-self g c =
-    let old = c.self.inside.stores in
-    let new = c.withdraw.new.stores in
     let rows = c.self.inside.tables.rows in
-    withdrawn_in c.self.inside.limits c.self.inside.tables old.roster new.roster old.findings new.findings old.links new.links old.matcher new.matcher c.self.invariant c.args.name.now
+    withdrawn_in c.self.inside.limits c.self.inside.tables c.self.inside.stores c.withdraw.new.self c.self.invariant c.args.name.now
     (c.withdraw.ensures.stores rows c.self.invariant.stores) (c.withdraw.ensures.left rows c.self.invariant.stores)
 
 pub returns-clause-ok : goal.returns-clause-ok
@@ -22,6 +20,5 @@ returns-clause-ok g c =
 
 pub returns-clause-changes : goal.returns-clause-changes
 returns-clause-changes g c =
-    let old = c.self.inside.stores in
     subst (λ (p : PoolRecord). c.withdraw.new.changes ≡ raised c.args.work.now.changes (lost p (edited p (Withdraw c.args.name.now)))) c.self.view_is
-    (c.withdraw.ensures.changes (pool_of c.self.inside.limits c.self.inside.tables (pending_of old.roster old.findings)) refl c.self.invariant.stores)
+    (c.withdraw.ensures.changes (pool_of c.self.inside.limits c.self.inside.tables (pending_of c.self.inside.stores)) refl c.self.invariant.stores)

@@ -2,8 +2,8 @@ use Rattle.std.proofs.Common.{rules, ◌≡◌, ◌<◌, [], ◌∷◌, ◌++◌
 use Rattle.cq_desk.proofs.Accepting.{entered}
 use Rattle.cq_desk.proofs.desk.Desk.enter.Goals as goal
 
-pub invariant_of-self-in-Ok-None : goal.invariant_of-self-in-Ok-None
-invariant_of-self-in-Ok-None g c = let d = c.self.inside in let js = d.journal.items in
+pub invariant_of-self-in-None : goal.invariant_of-self-in-None
+invariant_of-self-in-None g c = let d = c.self.inside in let js = d.journal.items in
     let is : c.push_reserved.new.self.items ≡ js ++ record { author = c.args.author; edit = c.args.edit } ∷ [] = search rules in
     let none : g.L.Live.why (g.L.Live.content d.working) c.args.edit ≡ None = search rules in
     let next : g.L.Live.content c.admit.new.self ≡ g.L.Live.after (g.L.Live.content d.working) c.args.edit = search rules in

@@ -1,6 +1,6 @@
 use Rattle.std.proofs.Common.{◌≡◌, suc, true, false, ◌+◌, ◌<◌, ◌∷◌, [], List, length, get_or, drop, sym, ap, ◌∙◌, subst, arith}
 use Rattle.std.proofs.lemmas.List.{get_or_default}
-use Rattle.cq_match.specs.declared.edge.Edge.{Edge}
+use Rattle.cq_atom.specs.declared.edge.Edge.{Edge}
 use Rattle.cq_match.specs.declared.graph.Out.{Out}
 use Rattle.cq_match.specs.declared.graph.Place.{Place}
 use Rattle.cq_match.specs.Steps.Kept.{is_live, edge_of, edges_left, edges_from, Pruning}

@@ -15,8 +15,8 @@ index-requires g c =
     let low = taken-placed places c.args.node (there places c.args.node c.args.self.now (ap (λ (m : MatcherRecord). m.nodes) (sym c.self.view_is)) c.requires) in
     omega (arith, c.self.inside.graph.places.ok.0)
 
-pub wake-requires-clause-unable : goal.wake-requires-clause-unable
-wake-requires-clause-unable g c =
+pub make_able-requires-clause-unable : goal.make_able-requires-clause-unable
+make_able-requires-clause-unable g c =
     let places = c.self.inside.graph.places.items in
     let node = c.args.node in
     let low = taken-placed places node (there places node c.args.self.now (ap (λ (m : MatcherRecord). m.nodes) (sym c.self.view_is)) c.requires) in

@@ -1,5 +1,5 @@
 use Rattle.std.proofs.Common.{◌≡◌, [], length, get_or, set, filter, count_by, eqb, sym, ap, ◌∙◌, arith, vec_capacity}
-use Rattle.cq_match.specs.declared.edge.Edge.{Edge}
+use Rattle.cq_atom.specs.declared.edge.Edge.{Edge}
 use Rattle.cq_match.specs.Graph.{leads_to}
 use Rattle.cq_match.specs.Matcher.{MatcherRecord, without, is_apart}
 use Rattle.cq_match.specs.Steps.Kept.{free, edges_from, edges_left, is_able}

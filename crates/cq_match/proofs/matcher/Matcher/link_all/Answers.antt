@@ -1,4 +1,4 @@
-use Rattle.cq_match.specs.declared.edge.Edge.{Edge}
+use Rattle.cq_atom.specs.declared.edge.Edge.{Edge}
 use Rattle.cq_match.proofs.matcher.Matcher.link_all.Goals as goal
 
 pub tidy-requires : goal.tidy-requires

@@ -1,6 +1,6 @@
 use Rattle.std.proofs.Common.{◌≡◌, ℕ, ◌+◌, Bool, nat_eq, filter, count_by, take}
 use Rattle.std.specs.Set.{is_member}
-use Rattle.cq_match.specs.declared.edge.Edge.{Edge}
+use Rattle.cq_atom.specs.declared.edge.Edge.{Edge}
 use Rattle.cq_match.specs.Matched.{is_matched}
 use Rattle.cq_match.specs.Matcher.{is_apart}
 use Rattle.cq_match.proofs.matcher.Matcher.link_all.Given as goal

@@ -2,7 +2,7 @@ use Rattle.std.proofs.Common.{◌≡◌, false, List, [], ◌∷◌, length, get
 use Rattle.std.specs.List.Sorted.{IsPermutation}
 use Rattle.std.proofs.lemmas.List.Sorted.{length_permutation}
 use Rattle.std.proofs.lemmas.Result.{IfOk-weaker}
-use Rattle.cq_match.specs.declared.edge.Edge.{Edge}
+use Rattle.cq_atom.specs.declared.edge.Edge.{Edge}
 use Rattle.cq_match.specs.Matcher.{MatcherRecord, has_node, leaves}
 use Rattle.cq_match.specs.Steps.Kept.{edges_left}
 use Rattle.cq_match.proofs.Bridge.{number-taken}

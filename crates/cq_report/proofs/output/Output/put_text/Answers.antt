@@ -2,7 +2,7 @@ use Rattle.std.proofs.Common.{◌≡◌, [], arith}
 use Rattle.std.proofs.lemmas.Result.{err_from_is_err_and}
 use Rattle.std.proofs.lemmas.List.{nil_from_length}
 use Rattle.cq_report.specs.Steps.Writing.{Puts-nothing}
-use Rattle.cq_report.proofs.Answering.{Put-led, Put-unled}
+use Rattle.cq_report.proofs.Answering.{Puts-led, Put-led, Put-unled}
 use Rattle.cq_report.proofs.Numbers.{led-bytes, some_of_length}
 use Rattle.cq_report.proofs.output.Output.put_text.Goals as goal
 
@@ -14,9 +14,15 @@ returns-then-is_empty g c =
 pub returns-in_err-put_lead : goal.returns-in_err-put_lead
 returns-in_err-put_lead g c =
     let p = err_from_is_err_and c.from_residual.result c.from_residual.ensures.1 in
-    rw (p.1, p.2) (Put-unled _ _ c.args.self.now _ c.args.text.now (led-bytes c.args.self.now.lead.now c.args.text.now (some_of_length c.args.text.now (grind arith))) _ c.in_err-put_lead.ensures.err c.in_err-put_lead.ensures.fault)
+    rw (p.1, p.2) (Put-unled _ _ c.args.self.now _ c.args.text.now (led-bytes c.args.self.now.lead.now c.args.text.now (some_of_length c.args.text.now (grind arith))) c.in_err-put_lead.ensures.err)
+
+pub returns-in_err-put : goal.returns-in_err-put
+returns-in_err-put g c =
+    let p = err_from_is_err_and c.from_residual-in_err-put.result c.from_residual-in_err-put.ensures.1 in
+    rw (p.1, p.2) (Put-led _ _ c.args.self.now _ _ c.args.text.now (led-bytes c.args.self.now.lead.now c.args.text.now (some_of_length c.args.text.now (grind arith))) c.in_ok-put_lead.ensures.ok
+    (rw c.as_bytes.ensures.value at c.in_err-put.ensures.err))
 
 pub returns : goal.returns
 returns g c =
-    Put-led _ _ c.args.self.now _ _ c.args.text.now (led-bytes c.args.self.now.lead.now c.args.text.now (some_of_length c.args.text.now (grind arith))) c.in_ok-put_lead.ensures.ok c.put.result
-    (rw c.as_bytes.ensures.value at c.put.ensures.ok) (rw c.as_bytes.ensures.value at c.put.ensures.err) c.put.ensures.fault
+    Puts-led _ _ c.args.self.now _ _ c.args.text.now (led-bytes c.args.self.now.lead.now c.args.text.now (some_of_length c.args.text.now (grind arith))) c.in_ok-put_lead.ensures.ok
+    (rw c.as_bytes.ensures.value at c.in_ok-put.ensures.ok)

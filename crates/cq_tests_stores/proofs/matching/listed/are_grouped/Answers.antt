@@ -1,6 +1,6 @@
 use Rattle.std.proofs.Common.{arith}
 use Rattle.std.proofs.lemmas.List.Sorted.{IsNonDecreasingBy-from_all_adjacent}
-use Rattle.cq_match.specs.declared.edge.Edge.{Edge}
+use Rattle.cq_atom.specs.declared.edge.Edge.{Edge}
 use Rattle.cq_tests_stores.proofs.matching.listed.are_grouped.Goals as goal
 
 pub returns : goal.returns

@@ -2,7 +2,7 @@ use Rattle.std.proofs.Common.{List, subst}
 use Rattle.std.specs.List.{All}
 use Rattle.std.proofs.lemmas.List.{take_all}
 use Rattle.std.proofs.lemmas.List.Elements.{All-more}
-use Rattle.cq_match.specs.declared.edge.Edge.{Edge}
+use Rattle.cq_atom.specs.declared.edge.Edge.{Edge}
 use Rattle.cq_tests_stores.specs.Guarded.{HasEnds}
 use Rattle.cq_tests_stores.proofs.matching.reasons.are_within.Goals as goal
 

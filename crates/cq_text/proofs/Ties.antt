@@ -1,8 +1,0 @@
--- The constants of the code are the numerals of the definitions.
-use Rattle.std.proofs.Common.{◌≡◌, refl}
-use Rattle.cq_text.specs.declared.limits.TheConstants.{MAX_PIECE}
-use Rattle.cq_text.specs.Limits.{max_piece}
-
--- No contract of this crate is stated with this one.
-pub MAX_PIECE-is : MAX_PIECE ≡ max_piece
-MAX_PIECE-is = refl
