@@ -24,7 +24,7 @@ ENTRY = re.compile(r"# entry \d+ session (\d+)\npost f(\d+)q(\d+) ")
 
 
 def postings(number, count, batch):
-    """The lines of a file of that number: pairs that wait for each other, with a publish behind each batch."""
+    """The lines of a file of that number: pairs that wait for each other, with a publish after each batch."""
     lines = []
     base = 2 * number * count
     for place in range(count):

@@ -97,7 +97,7 @@ def line(n):
 
 
 def long_line(n):
-    """A line of n bytes, and a good one behind it."""
+    """A line of n bytes, and a good one after it."""
     yield "#" * n, refused("Limit", MAX_LINE) if n > MAX_LINE else None
     yield "publish", "published 0"
 
@@ -127,7 +127,7 @@ FAULTS = [
 
 
 def faults(n):
-    """Lines of faults, behind more or fewer blanks."""
+    """Lines of faults, after more or fewer blanks."""
     for place in range(n):
         text, kind, offset = FAULTS[place % len(FAULTS)]
         blanks = place % 7
@@ -212,7 +212,7 @@ def rows(n):
 
 
 def rows_rising(n):
-    """Rows each of which comes behind all that are there."""
+    """Rows each of which comes after all that are there."""
     return in_order(n, range(n))
 
 
@@ -234,7 +234,7 @@ def rows_gone(n):
 
 
 def unmet(n):
-    """A body whose last atom meets no row, behind three that meet all n."""
+    """A body whose last atom meets no row, after three that meet all n."""
     query = "{} R(x) <- T(x), T(y), T(z), U(w)"
     yield "relation T 1", "ok"
     yield "relation U 1", "ok"

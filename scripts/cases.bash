@@ -34,12 +34,12 @@ read_case() {
     if [ -f "$script.stderr" ]; then cat -- "$script.stderr"; fi >"$room/wanted.err"
 }
 
-# Whether the script is one of `replay` that names no form itself: it must give the same behind a line `board 1`.
+# Whether the script is one of `replay` that names no form itself: it must give the same after a line `board 1`.
 is_of_form_one() {
     [ ! -f "$1.args" ] && ! grep -q '^[[:blank:]]*board' "$1"
 }
 
-# The script and its output behind that line, as two files.
+# The script and its output after that line, as two files.
 write_in_form_one() {
     { printf 'board 1\n' && cat -- "$1"; } >"$2"
     { printf 'ok\n' && cat -- "$1.stdout"; } >"$2.stdout"
@@ -61,7 +61,7 @@ compare_case() {
     fi
 }
 
-# Runs a case with a built program, and once more behind a line that names form 1, where it may have one.
+# Runs a case with a built program, and once more after a line that names form 1, where it may have one.
 run_case() {
     local script=$1 program=$2 words wanted
     read_case "$script"

@@ -8,7 +8,7 @@ unreading="cases/one_file_session cases/help_long cases/version_long cases/no_wo
 silent="cases/nothing cases/no_words cases/rows_first_record_at_fault"
 
 # Rows of: groups of cases; what is redirected; the status; what standard error says. `own` is what the case has, and
-# nothing behind the status is nothing. `gone` is a pipe that no reader has open any more.
+# nothing after the status is nothing. `gone` is a pipe that no reader has open any more.
 devices() {
     cat <<'ROWS'
 writers; >&-; 1; board: write failed
@@ -98,7 +98,7 @@ $path"; do
     done
 }
 
-# Paths that give no bytes: each is told, and nothing is served.
+# Paths that give no bytes: each is reported, and nothing is served.
 run_paths() {
     local program=$1 path long
     long=$(printf '%0300d' 0)

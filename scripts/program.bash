@@ -17,7 +17,7 @@ has_temporary() {
 # stamp cannot part, and one that is there is whole. `board.STAMP` is proved, `unproved.STAMP` is not.
 kept=$top/out
 # Puts into `crates` the crates of the repository that the program stands on, lowest first, and its own crate, and into
-# `seconds` what the proof of each takes, which stands behind its line of crates.txt.
+# `seconds` what the proof of each takes, which stands after its line of crates.txt.
 find_crates() {
     local -A uses=() seen=()
     local name parts

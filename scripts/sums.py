@@ -57,7 +57,7 @@ def words_in(text):
 
 
 def split_generics(text):
-    """A text that begins with generics in angle brackets: what stands in them, and what stands behind."""
+    """A text that begins with generics in angle brackets: what stands in them, and what stands after."""
     depth = 0
     for at, letter in enumerate(text):
         depth += (letter == "<") - (letter == ">" and text[at - 1] != "-")

@@ -11,7 +11,7 @@ use std::alloc::{AllocError, Allocator, Global};
 /// `EditKind` over the bytes of names and the records of queries and rows.
 #[derive(Drop)]
 pub enum EditKind<N, Q, R> {
-    /// Makes the query pending under the name, behind those that are pending.
+    /// Makes the query pending under the name, after those that are pending.
     Post {
         /// The query's name.
         name: N,

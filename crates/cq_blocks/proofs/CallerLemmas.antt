@@ -3,7 +3,7 @@ use Rattle.std.proofs.Common.{◌≡◌, ℕ, ◌≤◌, Bool, true, false, true
 use Rattle.std.specs.List.Sorted.{IsPartitionPoint}
 use Rattle.std.proofs.lemmas.Bool.{cases_lt}
 
--- where all that pass the one test pass the other, the place of the one is not behind that of the other
+-- where all that pass the one test pass the other, the place of the one is not after that of the other
 pub points-rise : {X : Type 0} (p q : X → Bool) (xs : List X) (i j : ℕ) → ((x : X) → p x ≡ true → q x ≡ true) → i ≤ length xs → IsPartitionPoint (λ y. p y ≡ true) (λ y. p y ≡ false) xs i
     → IsPartitionPoint (λ y. q y ≡ true) (λ y. q y ≡ false) xs j → i ≤ j
 points-rise p q [] i j implies within first second = omega (arith, within)

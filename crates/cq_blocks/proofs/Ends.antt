@@ -13,7 +13,7 @@ use Rattle.cq_blocks.specs.Blocks.{elements, begin_of, AreFilled, IsBetween}
 use Rattle.cq_blocks.proofs.Lists.{filled-at, flat-within}
 use Rattle.cq_blocks.proofs.Halving.{by_bool, next-begin, parted-block}
 
--- ---- one element, and those before it or behind it
+-- ---- one element, and those before it or after it
 
 module _ {X : Type 0} (p : X → Bool) (xs : List X) (parted : IsPartitionedBy p xs) where
   pub before-one : (n : ℕ) → n < length xs → HoldsAt (λ y. p y ≡ true) xs n → AllWithin (λ y. p y ≡ true) xs 0 (n + 1)

@@ -28,7 +28,7 @@ module _ {X : Type 0} (p : X → Bool) (bs : List (List X)) where
   abbrev Begins : Bool → ℕ → Type 0
   Begins b k = HoldsAt (λ y. p y ≡ b) (get_or bs k []) 0
 
-  -- low is the first block or begins with an element that passes, and high is behind the last block or begins with one that fails
+  -- low is the first block or begins with an element that passes, and high is after the last block or begins with one that fails
   pub record Halved (low high : ℕ) : Type 0 where
     pub before : (low ≡ 0) ⊎ Begins true low
     pub behind : (high ≡ length bs) ⊎ Begins false high

@@ -108,7 +108,7 @@ module _ {X : Type 0} where
       slice_get_read (elements bs) (length (elements bs)) (length (elements (take k bs)) + i) x refl (flat-within bs k i h within)
       (is ∙ sym (get_or-flat_map (λ b. b) bs k i [] x h within))
 
-  -- a block of one element behind the others
+  -- a block of one element after the others
   pub elements-push : (bs : List (List X)) (x : X) → elements (bs ++ (x ∷ []) ∷ []) ≡ insert (elements bs) (length (elements (take (length bs) bs)) + 0) x
   elements-push bs x =
       let all : take (length bs) bs ≡ bs = take_all (length bs) bs (omega arith) in

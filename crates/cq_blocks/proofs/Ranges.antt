@@ -58,7 +58,7 @@ module _ {X : Type 0} where
         ∙ ap (λ l. take f bs ++ get_or bs f [] ∷ l) (drop-take (suc f) (t - (f + 1)) bs)
         ∙ ap (λ n. take f bs ++ get_or bs f [] ∷ take (t - (f + 1)) (drop n bs)) (sym (add-one f))
 
-    -- what stands before a block that comes behind another
+    -- what stands before a block that comes after another
     up-to : (f t : ℕ) → f < t → t ≤ length bs → elements (take t bs) ≡ elements (take f bs) ++ (get_or bs f [] ++ elements (slice_range bs (f + 1) t))
     up-to f t less h = ap (λ l. elements l) (split-up-to f t less h) ∙ elements-append (take f bs) (get_or bs f [] ∷ slice_range bs (f + 1) t)
 

@@ -18,7 +18,7 @@ abbrev pub flats : {X : Type 0} → List (List X) → Result Place Place → Res
 flats bs (Ok place) = Ok (flat bs place)
 flats bs (Err place) = Err (flat bs place)
 
--- The place stands within a block or behind its last element, or else behind the last block.
+-- The place stands within a block or after its last element, or else after the last block.
 abbrev pub IsPlace : {X : Type 0} → List (List X) → Place → Type 0
 IsPlace bs place = (place.block ≤ length bs) × (place.index ≤ length (slice_index_or bs place.block []))
 
@@ -34,11 +34,11 @@ AreFilled bs = AllByRecursion (λ b. 0 < length b) bs
 abbrev pub IsBefore : {X : Type 0} → List (List X) → Place → Type 0
 IsBefore bs place = (place.block < length bs) × (place.index < length (slice_index_or bs place.block []))
 
--- In the blocks bs, a place within a block or behind its last element, that has as many elements before it as another has in the blocks cs.
+-- In the blocks bs, a place within a block or after its last element, that has as many elements before it as another has in the blocks cs.
 abbrev pub Stays : {X : Type 0} → List (List X) → Place → List (List X) → Place → Type 0
 Stays cs at bs place = (place.block < length bs) × (place.index ≤ length (slice_index_or bs place.block [])) × (flat bs place ≡ flat cs at)
 
--- The blocks with the k-th cut in two, behind its first n elements.
+-- The blocks with the k-th cut in two, after its first n elements.
 abbrev pub halved : {X : Type 0} → ℕ → ℕ → List (List X) → List (List X)
 halved n k bs = take k bs ++ take n (slice_index_or bs k []) ∷ drop n (slice_index_or bs k []) ∷ drop (suc k) bs
 

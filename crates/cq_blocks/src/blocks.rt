@@ -133,7 +133,7 @@ impl<T, A: Allocator> Blocks<T, A> {
         }
     }
 
-    /// Where the element stands that stands at the place, if there is one: behind the last element of a block is before the
+    /// Where the element stands that stands at the place, if there is one: after the last element of a block is before the
     /// first of the next.
     fn settle(&self, place: Place) -> Option<Place>
         requires { IsPlace self.now place }

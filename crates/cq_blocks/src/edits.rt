@@ -10,7 +10,7 @@ use std::alloc::{AllocError, AllocFailed, Allocator};
 /// How many elements a block has where an insertion first cuts it in halves.
 pub(crate) const MOST: usize = 128;
 
-/// Puts a block of one element behind the others.
+/// Puts a block of one element after the others.
 fn push_block<T: Drop, A: Allocator + Clone>(
     blocks: &mut Vec<Vec<T, A>, A>,
     element: T,
@@ -34,7 +34,7 @@ fn push_block<T: Drop, A: Allocator + Clone>(
     }
 }
 
-/// Cuts a block in two, behind as many of its elements as are asked.
+/// Cuts a block in two, after as many of its elements as are asked.
 fn cut<T: Drop, A: Allocator + Clone>(
     blocks: &mut Vec<Vec<T, A>, A>,
     block: usize,

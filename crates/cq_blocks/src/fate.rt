@@ -13,7 +13,7 @@ pub(crate) enum Fate {
     Stays,
     /// It is equal and does not pass.
     Goes,
-    /// It is not equal: it and those behind it stay.
+    /// It is not equal: it and those after it stay.
     Ends,
 }
 

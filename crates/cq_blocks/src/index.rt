@@ -19,7 +19,7 @@ pub(crate) fn index_in<T, A: Allocator>(blocks: &[Vec<T, A>], place: Place) -> u
     before + place.index
 }
 
-/// The place that has so many elements before it: before an element, unless it is behind all.
+/// The place that has so many elements before it: before an element, unless it is after all.
 pub(crate) fn place_in<T, A: Allocator>(blocks: &[Vec<T, A>], mut index: usize) -> Place
     requires { index ≤ length (elements (lists_of blocks.now)) }
     ensures place { IsPlace (lists_of blocks.now) result }

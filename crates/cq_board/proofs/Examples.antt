@@ -107,7 +107,7 @@ posted = refl
 name_taken : why (pool (kramer ∷ [])) (Post (codes "kramer") jerry.query) ≡ Some NameTaken
 name_taken = refl
 
--- A full pool is told before a taken name.
+-- A full pool is reported before a taken name.
 pool_full : why (pool (kramer ∷ jerry ∷ [])) (Post (codes "kramer") kramer.query) ≡ Some PoolFull
 pool_full = refl
 

@@ -1,4 +1,4 @@
--- What a board shows by the names of its queries, told in posting order.
+-- What a board shows by the names of its queries, in posting order.
 use Rattle.std.proofs.Common.{◌≡◌, ℕ, zero, suc, ◌<◌, ◌≤◌, Bool, false, List, [], ◌∷◌, length, map, get_or, sym, ap, subst, refl, ◌∙◌, Some, None}
 use Rattle.std.specs.Prelude.{option_map, unwrap_or}
 use Rattle.std.specs.List.{slice_get}

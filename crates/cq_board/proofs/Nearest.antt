@@ -85,7 +85,7 @@ module _ {X : Type 0} (lt : X → X → Bool) (order : IsStrictWeakOrder lt) whe
       (λ t. ap (take (suc k)) (put-first x z (take k xs) t) ∙ ap (λ l. x ∷ l) (take-take k z xs) ∙ sym (ap (take (suc k)) (put-first x z xs t)))
       (λ f. ap (take (suc k)) (put-later x z (take k xs) f) ∙ ap (λ l. z ∷ l) (take-put k x xs) ∙ sym (ap (take (suc k)) (put-later x z xs f)))
 
-  -- what is below none of them goes behind
+  -- what is below none of them goes after
   put-behind : (x : X) (xs : List X) → ((y : X) → In y xs → lt x y ≡ false) → put_in x xs ≡ xs ++ x ∷ []
   put-behind x [] h = refl
   put-behind x (z ∷ xs) h = put-later x z xs (h z (inl refl)) ∙ ap (λ l. z ∷ l) (put-behind x xs (λ y m. h y (inr m)))

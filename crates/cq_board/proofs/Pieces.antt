@@ -37,7 +37,7 @@ got_of_map f [] i x got = cc
 got_of_map f (y ∷ xs) zero x got = let same : y ≡ x = cc in ap (λ z. Some (f z)) same
 got_of_map f (y ∷ xs) (suc i) x got = got_of_map f xs i x got
 
--- nothing stands behind the last element
+-- nothing stands after the last element
 pub nothing_left : {X : Type 0} (xs : List X) (i : ℕ) → length xs ≡ i → drop i xs ≡ []
 nothing_left xs i e = drop_all i xs (omega arith)
 
@@ -46,7 +46,7 @@ ahead_at [] i x got = cc
 ahead_at (y ∷ xs) zero x got = let same : y ≡ x = cc in ap (λ z. z ∷ xs) same
 ahead_at (y ∷ xs) (suc i) x got = ahead_at xs i x got
 
--- the pieces from a place on: the one there, and those behind it
+-- the pieces from a place on: the one there, and those after it
 pub pieces_at : {X Y : Type 0} (f : X → List Y) (xs : List X) (i : ℕ) (x : X) → slice_get xs i ≡ Some x → flat_map f (drop i xs) ≡ f x ++ flat_map f (drop (i + 1) xs)
 pieces_at f xs i x got = let ahead : drop i xs ≡ x ∷ drop (i + 1) xs = rw add-one (ahead_at xs i x got) in ap (flat_map f) ahead
 
@@ -111,7 +111,7 @@ module _ {Y : Type 0} where
       (λ t. let more = front_len p xs ys (rw t at h) k in rw t (omega (arith, more)))
       (λ f. let no : false ≡ true = rw f at h in cc)
 
--- A front of a list and what is behind it, by the length of the front.
+-- A front of a list and what is after it, by the length of the front.
 pub record Cut {Y : Type 0} (whole front rest : List Y) (n : ℕ) : Type 0 where
   pub fits : n ≤ length whole
   pub front_is : take n whole ≡ front

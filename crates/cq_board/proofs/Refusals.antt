@@ -25,7 +25,7 @@ module _ (catalog : List Declaration) (part : Part) (atoms : List AtomRecord) (i
   pub answer_end : length atoms ≤ i → None ≡ answer_why catalog part 0 atoms
   answer_end h = sym (so_far ∙ ap (answer_why catalog part i) (drop_all i atoms h))
 
--- what is told of one atom, by its parts
+-- what is reported about one atom, by its parts
 pub arity_as : (catalog : List Declaration) (named : List ℕ) (terms : List TermContent) (a : AtomRecord) (place : ℕ) (r : Option Why) → named ≡ a.relation → terms ≡ a.terms → r ≡ arity_why (arity_in catalog named) (length terms) place
     → arity_why (arity_in catalog a.relation) (length a.terms) place ≡ r
 arity_as catalog named terms a place r e f h =

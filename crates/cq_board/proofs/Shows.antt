@@ -75,13 +75,13 @@ pub on_ok : {T E : Type 0} {P Q : Type 0} → (P → Q) → (r : Result T E) →
 on_ok f (Ok x) h = f h
 on_ok f (Err e) h = tt
 
--- a permutation of elements, behind others
+-- a permutation of elements, after others
 pub mapped-behind : {X Y : Type 0} (g : X → Y) (before next : List Y) (xs ys zs : List X) → IsPermutation xs ys → zs ≡ ys → next ≡ before ++ map g zs → IsPermutation (before ++ map g xs) next
 mapped-behind g before next xs ys zs moved same made =
     subst (IsPermutation (before ++ map g xs)) (sym (made ∙ ap (λ l. before ++ map g l) same))
     (IsPermutation-append_right before (map g xs) (map g ys) (IsPermutation-map g xs ys moved))
 
--- one more list is gathered, behind others
+-- one more list is gathered, after others
 pub gathered-behind : {X Y : Type 0} (f : X → List Y) (before now next : List Y) (xs : List X) (i : ℕ) (d : X) → i < length xs → IsPermutation (before ++ flat_map f (take i xs)) now
     → IsPermutation (now ++ f (get_or xs i d)) next → IsPermutation (before ++ flat_map f (take (i + 1) xs)) next
 gathered-behind f before now next xs i d low so_far made =
@@ -91,7 +91,7 @@ gathered-behind f before now next xs i d low so_far made =
     subst (λ ys. IsPermutation ys next) (append_assoc before (flat_map f (take i xs)) (f x) ∙ ap (λ ys. before ++ ys) more)
     (IsPermutation-trans ((before ++ flat_map f (take i xs)) ++ f x) (now ++ f x) next (IsPermutation-append_left (f x) (before ++ flat_map f (take i xs)) now so_far) made)
 
--- the lists of all places, gathered behind nothing, are all edges
+-- the lists of all places, gathered after nothing, are all edges
 pub all-numbered : {Y : Type 0} (g : Edge → Y) (places : List ℕ) (edges : List Edge) (first next : List Y) → All (λ (e : Edge). Contains places e.provider) edges → IsDistinct nat_eq places
     → first ≡ [] → IsPermutation (first ++ flat_map (λ p. map g (filter (leaves p) edges)) places) next → IsPermutation (map g edges) next
 all-numbered {Y} g places edges first next known distinct none made =

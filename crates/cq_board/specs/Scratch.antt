@@ -23,7 +23,7 @@ abbrev pub scratch_of : PoolRecord → List Edit → Result PoolRecord Why
 scratch_of pool [] = Ok pool
 scratch_of pool (edit ∷ edits) = or_refused (why pool edit) (scratch_of (edited pool edit) edits)
 
--- The pool is the one that is made, and a refusal is the one that there is. Want of memory says nothing.
+-- The pool is the one that is made, and a refusal is the one that there is. Out of memory says nothing.
 abbrev pub Makes : Result PoolRecord Why → Result PoolRecord ScratchFault → Type 0
 Makes made (Ok pool) = made ≡ Ok pool
 Makes made (Err (Refused reason)) = made ≡ Err reason

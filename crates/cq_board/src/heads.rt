@@ -45,7 +45,7 @@ fn is_still_linear<A: Allocator>(linear: bool, atom: &Atom<A>) -> bool
     linear && is_linear(atom.terms())
 }
 
-/// Puts the head behind the others of its group.
+/// Puts the head after the others of its group.
 fn push<'a, A: Allocator>(
     group: &mut Group<&'a Atom<A>, A>,
     head: &Head<&'a Atom<A>>,
@@ -278,8 +278,8 @@ impl<'a, A: Allocator + Copy> Heads<'a, A> {
     }
 
     /// What [`Board::near_misses`] tells of the board of which these are the heads. The time is that of the heads of the
-    /// postcondition's relation and arity, in posting order up to where no later one can be among the first three: behind
-    /// three with no difference; and where no variable stands twice in the postcondition or in one of these heads, behind
+    /// postcondition's relation and arity, in posting order up to where no later one can be among the first three: after
+    /// three with no difference; and where no variable stands twice in the postcondition or in one of these heads, after
     /// three with one.
     ///
     /// # Errors

@@ -22,7 +22,7 @@ pub struct NearMiss<N> {
     pub differences: usize,
 }
 
-/// How many near misses are told at most.
+/// How many near misses are reported at most.
 const MOST: usize = 3;
 
 fn differ<A: Allocator>(a: &Term<A>, b: &Term<A>) -> bool
@@ -72,7 +72,7 @@ fn is_nearer(one: &(usize, usize, u8), other: &(usize, usize, u8)) -> bool
     one < other
 }
 
-/// The place of a miss among sorted ones: behind those that it is not nearer than.
+/// The place of a miss among sorted ones: after those that it is not nearer than.
 fn place_for(kept: &[(usize, usize, u8)], miss: &(usize, usize, u8)) -> usize
     ensures { result ≡ prefix_len (λ other. not (is_nearer miss.now other)) kept.now }
 {
@@ -109,7 +109,7 @@ fn keep_head<A: Allocator>(
     Ok(())
 }
 
-/// Whether as many misses are kept as are told, each with so few differences.
+/// Whether as many misses are kept as are reported, each with so few differences.
 fn is_settled(kept: &[(usize, usize, u8)], least: usize) -> bool
     ensures many { IsTrue result → length kept.now ≡ 3 }
     ensures few { IsTrue result → All (λ miss. miss.0 ≤ least) kept.now }

@@ -20,7 +20,7 @@ use std::hash::{BuildHasherDefault, FoldHasher};
 /// Places, each with its number in posting order.
 type Places<A> = IndexSet<usize, BuildHasherDefault<FoldHasher>, A>;
 
-/// Puts the places of the seats behind those that are there, in their order.
+/// Puts the places of the seats after those that are there, in their order.
 fn add_places<A: Allocator + Copy>(
     places: &mut Places<A>,
     seats: &[&Seat<Name<A>>],

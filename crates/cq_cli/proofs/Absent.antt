@@ -1,4 +1,4 @@
--- The names under which no query is pending, told line by line.
+-- The names under which no query is pending, reported line by line.
 use Rattle.std.proofs.Common.{◌≡◌, ℕ, ◌+◌, ◌<◌, true, false, List, [], ◌∷◌, ◌++◌, length, map, take, get_or, refl, sym, ap, subst, ◌∙◌, append_assoc, append-nil}
 use Rattle.std.specs.Prelude.{not, Option, Some, None, IfSome}
 use Rattle.std.specs.List.{flat_map}
@@ -36,12 +36,12 @@ line_absent pool name f = rw f (sym (append-nil (absent_line name)))
 pub line_present : (pool : PoolRecord) (name : List ℕ) → is_some (state_of pool name) ≡ true → [] ≡ absent_lines pool (name ∷ [])
 line_present pool name t = rw t refl
 
--- nothing told leaves what was told
+-- nothing reported leaves what was reported
 pub told_nothing : (known : Option (List ℕ)) → Appends known known []
 told_nothing None = tt
 told_nothing (Some bytes) = sym (append-nil bytes)
 
--- what was told of the board that a script leaves, however its lines are read
+-- what was reported about the board that a script leaves, however its lines are read
 pub read_absent : (left : Option (List ℕ)) (board script : PoolRecord) (names : List (List ℕ)) (before after : Option (List ℕ)) → board ≡ script → IfSome left (λ input. (readings : List Reading) → AreReadings (lines_of input) readings → script ≡ pool_left readings)
     → Appends before after (absent_lines board names) → IfSome left (λ input. (readings : List Reading) → AreReadings (lines_of input) readings → Appends before after (absent_lines (pool_left readings) names))
 read_absent None board script names before after is reads taken = tt

@@ -55,7 +55,7 @@ paired-index related read (x ∷ xs) i d [] low all = absurd all
 paired-index related read (x ∷ xs) zero d (y ∷ ys) low all = (y, all.0)
 paired-index related read (x ∷ xs) (suc i) d (y ∷ ys) low all = paired-index related read xs i d ys (omega arith) all.1
 
--- ---- pieces, each with a separator behind it
+-- ---- pieces, each with a separator after it
 
 module _ {Y : Type 0} (separator : List Y) where
   abbrev pub closed : List (List Y) → List Y
@@ -79,7 +79,7 @@ module _ {Y : Type 0} (separator : List Y) where
 
 -- ---- what is read of a text so far
 
--- Texts of values, each with a comma behind it, and then a piece.
+-- Texts of values, each with a comma after it, and then a piece.
 abbrev pub IsBegun : List ℕ → List ValueContent → List ℕ → Type 0
 IsBegun text values piece = (texts : List (List ℕ)) × ArePaired StandsForValue texts values × (text ≡ closed (codes ",") texts ++ piece)
 

@@ -116,7 +116,7 @@ walk-quoted (b ∷ c ∷ bs) x e = go (λ d f. walk-quoted bs d f) (λ d f. walk
 abbrev IsCalm : TokenContent → Type 0
 IsCalm t = (flaw t ≡ None) × (t ≡ sign_token 44 → ⊥)
 
--- No comma stands first, and none cuts what the token takes behind its first byte.
+-- No comma stands first, and none cuts what the token takes after its first byte.
 record Steps (b : ℕ) (bs : List ℕ) (f : TokenContent × ℕ) : Type 0 where
   pub steps : IsCalm f.0 → ((b == 44) ≡ false) × (walk (place_behind Outside b) (take (f.1 - 1) bs) ≡ Some Outside)
 

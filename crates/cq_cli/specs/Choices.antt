@@ -1,4 +1,4 @@
--- What words behind `choice` stand for. (this project's profile)
+-- What words after `choice` stand for. (this project's profile)
 use Rattle.std.specs.Prelude.{◌≡◌, ⊤, ℕ, IsTrue, List, [], ◌∷◌, ◌++◌, codes}
 use Rattle.std.specs.List.{join_by}
 use Rattle.cq_atom.specs.Text.{is_name}

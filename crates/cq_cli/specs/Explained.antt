@@ -1,4 +1,4 @@
--- What is told of why queries wait. (this project's profile)
+-- Why queries wait, as the program reports it. (this project's profile)
 use Rattle.std.specs.Prelude.{ℕ, not, List, [], ◌∷◌, ◌++◌, filter, codes, Option}
 use Rattle.std.specs.List.{flat_map}
 use Rattle.std.specs.Option.{is_some}
@@ -21,14 +21,14 @@ IsWritten pool names before after = (text : List ℕ) × IsExplained pool names 
 abbrev pub absent_names : PoolRecord → List (List ℕ) → List (List ℕ)
 absent_names pool names = filter (λ name. not (is_some (state_of pool name))) names
 
--- Such a name, told in a line.
+-- Such a name, reported in a line.
 abbrev pub absent_line : List ℕ → List ℕ
 absent_line name = codes "board: no pending query " ++ name ++ codes "\n"
 
 abbrev pub absent_lines : PoolRecord → List (List ℕ) → List ℕ
 absent_lines pool names = flat_map absent_line (absent_names pool names)
 
--- All was told where there is no such name.
+-- All was reported where there is no such name.
 abbrev pub status_of_absent : List (List ℕ) → Status
 status_of_absent [] = Done
 status_of_absent (name ∷ names) = NotSo

@@ -15,7 +15,7 @@ use Rattle.cq_cli.specs.declared.rows.RowsFault.TheVariants.{BadName, BadArity, 
 abbrev pub is_arity_digit : ℕ → Bool
 is_arity_digit b = nat_le 49 b && nat_le b 57
 
--- The digit `1`, and one from `0` to `6` behind it.
+-- The digit `1`, and one from `0` to `6` after it.
 abbrev pub are_arity_digits : ℕ → ℕ → Bool
 are_arity_digits b c = (b == 49) && (nat_le 48 c && nat_le c 54)
 
@@ -43,7 +43,7 @@ insert_line row = codes "insert " ++ (printed_row row ++ codes "\n")
 abbrev pub rows_output : List RowRecord → List ℕ
 rows_output rows = flat_map insert_line rows
 
--- How a fault of reading CSV is told: that of a width with the arity that was wanted.
+-- How a fault of reading CSV is reported: that of a width with the arity that was wanted.
 abbrev pub told : CsvFault → ℕ → RowsFault
 told csv.BadName arity = BadName
 told csv.BadArity arity = BadArity

@@ -67,7 +67,7 @@ abbrev pub status_of_choices : ChoiceFault → Status
 status_of_choices (choices.Bad word) = Usage
 status_of_choices choices.NoMemory = NoMemory
 
--- How the program ends where this was told, or where that fault kept it from being told.
+-- How the program ends where this was reported, or where that fault kept it from being reported.
 abbrev pub ended : Result Status RunFault → Status
 ended (Ok status) = status
 ended (Err fault) = status_of_run fault

@@ -159,7 +159,7 @@ fn answer_task<
 }
 
 /// Does what is wanted, with no more than so many bytes of the heap out at a time, in all threads together, where a number of
-/// them is told.
+/// them is reported.
 fn answer_wanted<
     H: Files + Threads + Wait + Sync,
     A: Allocator + Copy + Send + Sync,

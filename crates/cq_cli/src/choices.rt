@@ -16,7 +16,7 @@ use thiserror::Error;
 /// Why words are no choice.
 #[derive(Clone, Copy, Debug, PartialEq, Eq, Error)]
 pub(crate) enum ChoiceFault<'a> {
-    /// The word is no name with values in brackets behind it.
+    /// The word is no name with values in brackets after it.
     #[error("bad choice: {word}")]
     Bad { word: &'a str },
     /// An allocation failed.
@@ -42,12 +42,12 @@ enum Place {
     Outside,
     /// Between quotes.
     Inside,
-    /// Between quotes, behind a backslash that escapes what follows.
+    /// Between quotes, after a backslash that escapes what follows.
     Escaped,
 }
 
 impl Place {
-    /// Behind a further byte.
+    /// After a further byte.
     fn behind(self, byte: u8) -> Place
         ensures { result ≡ place_behind self byte }
     {

@@ -24,7 +24,7 @@ use cq_render::{explain, explain_named};
 use cq_report::{RunFault, read_script};
 use std::alloc::{AllocError, Allocator, Global};
 
-/// What is told of these names; of all queries that wait where there is none.
+/// What is reported about these names; of all queries that wait where there is none.
 fn text_of<A: Allocator + Copy>(
     heap: A,
     board: &Board<A>,
@@ -114,7 +114,7 @@ fn tell_absent<A: Allocator + Copy, E: Sink>(
     Ok(Status::NotSo)
 }
 
-/// Writes what is told of the names.
+/// Writes what is reported about the names.
 fn write_told<A: Allocator + Copy, W: Sink>(
     heap: A,
     board: &Board<A>,
@@ -130,7 +130,7 @@ fn write_told<A: Allocator + Copy, W: Sink>(
     Ok(())
 }
 
-/// Writes what is told of the names, and tells those under which no query is pending.
+/// Writes what is reported about the names, and reports those under which no query is pending.
 fn write_explained<A: Allocator + Copy, W: Sink, E: Sink>(
     heap: A,
     board: &Board<A>,

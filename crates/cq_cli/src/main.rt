@@ -25,7 +25,7 @@ use std::env::Env;
 use std::io::ErrorKind;
 use std::process::ExitCode;
 
-/// What is told of words that are no text, in the form in which `clap` tells the other faults of words.
+/// What is reported about words that are no text, in the form in which `clap` reports the other faults of words.
 const NO_TEXT: &str = "error: invalid UTF-8 was detected in one or more arguments
 
 For more information, try '--help'.

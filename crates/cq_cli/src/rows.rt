@@ -116,7 +116,7 @@ fn print_rows<A: Allocator + Copy>(alloc: A, rows: &[Row<A>]) -> Result<String<A
     Ok(lines)
 }
 
-/// How a fault of reading CSV is told: that of a width with the arity that was wanted.
+/// How a fault of reading CSV is reported: that of a width with the arity that was wanted.
 fn told(fault: CsvFault, arity: usize) -> RowsFault
     ensures { result ≡ told fault arity }
 {

@@ -130,12 +130,12 @@ pub(crate) fn serve_files<
     ensures ok { OnOk result (WroteScript (S.held shelf.now) setup.now (map (λ path. path.now) paths.now) (W.taken sink.old) (W.taken sink.new)) }
     ensures err { IfErr result (λ fault. (IsOfWriting fault → ⊥) → sink.new ≡ sink.old) }
 
-    // No file and too many are told, and nothing else is told so.
+    // No file and too many are reported, and nothing else is reported so.
     ensures none { length paths.now ≡ 0 → result ≡ Err FilesFault.NoFile }
     ensures many { 16 < length paths.now → result ≡ Err FilesFault.TooMany }
     ensures count { IfErr result (λ fault. IsOfCount fault → (length paths.now ≡ 0) ⊎ (16 < length paths.now)) }
 
-    // The writer's failures rise where it is told that it failed.
+    // The writer's failures rise where it is reported that it failed.
     ensures failures { MatchResult result (λ _. W.write_failures sink.new ≡ W.write_failures sink.old) (λ fault. W.write_failures sink.new ≡ W.write_failures sink.old + failures_of fault) }
 {
     if paths.is_empty() {

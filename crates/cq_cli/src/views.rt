@@ -1,4 +1,4 @@
-//! What is told of the board that a script leaves.
+//! What is reported about the board that a script leaves.
 
 ghost use Rattle.std.specs.Prelude.{◌≡◌, ◌≢◌, ◌<◌, ◌+◌, ◌^◌, ◌↔◌, ◌⊎◌, ℕ, List, map, codes, string_bytes, IfOk, IfErr, IfSome, OnOk, MatchResult};
 ghost use Rattle.std.specs.Io.KnownBytes.{Appends};
@@ -24,7 +24,7 @@ use cq_render::{graph, json};
 use cq_report::{RunFault, read_script};
 use std::alloc::{AllocError, Allocator, Global};
 
-/// What is told of a board.
+/// What is reported about a board.
 #[derive(Clone, Copy, Debug, PartialEq, Eq)]
 pub(crate) enum View {
     /// The graph of who can supply whom.
@@ -33,7 +33,7 @@ pub(crate) enum View {
     Json,
 }
 
-/// What is told of a board, as one text.
+/// What is reported about a board, as one text.
 fn text_of<A: Allocator + Copy>(
     heap: A,
     board: &Board<A>,

@@ -157,7 +157,7 @@ docs/formats.md describes values and choices.";
 pub(crate) struct Wanted<'a> {
     /// What is to be done.
     pub(crate) task: Task<'a>,
-    /// How many bytes of memory that may take at a time; no bound where none is told.
+    /// How many bytes of memory that may take at a time; no bound where none is given.
     pub(crate) memory: Option<usize>,
 }
 
@@ -183,12 +183,12 @@ pub(crate) enum Task<'a> {
         /// The paths of the files.
         files: Vec<&'a str>,
     },
-    /// Something is told of the board that a script leaves.
+    /// Something is reported about the board that a script leaves.
     View {
-        /// What is told.
+        /// What is reported.
         view: View,
     },
-    /// It is told why queries of the board that a script leaves wait.
+    /// It is reported why queries of the board that a script leaves wait.
     Explain {
         /// The words that stand for the queries' names; none for all that wait.
         names: Vec<&'a str>,
@@ -361,7 +361,7 @@ fn numbering(asked: bool) -> Numbering {
     }
 }
 
-/// What a subcommand asks for, by its name and the words behind it.
+/// What a subcommand asks for, by its name and the words after it.
 fn task_of<'a>(
     alloc: Global,
     name: &str,

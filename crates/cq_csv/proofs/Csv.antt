@@ -50,7 +50,7 @@ shorter cfg s fields field c rest = few-if (is_end (step cfg s c).1) _ _ rest _ 
 few-left : (o : Option Read) (n : ℕ) (q : Read) → LeavesFew o n → o ≡ Some q → length q.2 ≤ n
 few-left o n q h e = rw e at h
 
--- behind the end of a text there is no record
+-- after the end of a text there is no record
 none-at-start : (cfg : Config) → next_record cfg st.StartRecord [] [] [] ≡ None
 unfolding next_record
 none-at-start cfg = refl
@@ -96,7 +96,7 @@ unfolding records_from
 none-more cfg zero s ys e = refl
 none-more cfg (suc n) s ys e = rw e refl
 
--- records that were read from the start, and what the text has behind them
+-- records that were read from the start, and what the text has after them
 pub record AreFirst (cfg : Config) (xs : List ℕ) (rows : List CsvRecord) : Type 0 where
   pub more : List CsvRecord
   pub whole : records cfg xs ≡ rows ++ more
@@ -108,7 +108,7 @@ are_first cfg xs rows s2 ys h =
     let count : length xs + 1 ≡ length rows + n = omega (arith, few) in
     record { more = records_from cfg n s2 ys; whole = begins_with cfg (length xs + 1) n st.StartRecord xs rows s2 ys count h }
 
--- they are all, where no record is behind them
+-- they are all, where no record is after them
 pub are_all : (cfg : Config) (xs : List ℕ) (rows : List CsvRecord) (s2 : State) (ys : List ℕ) → Reached cfg st.StartRecord xs rows s2 ys → next_record cfg s2 [] [] ys ≡ None → records cfg xs ≡ rows
 are_all cfg xs rows s2 ys h none =
     let few = few_records cfg st.StartRecord xs rows s2 ys h in
@@ -116,7 +116,7 @@ are_all cfg xs rows s2 ys h none =
     let count : length xs + 1 ≡ length rows + n = omega (arith, few) in
     begins_with cfg (length xs + 1) n st.StartRecord xs rows s2 ys count h ∙ ap (λ (l : List CsvRecord). rows ++ l) (none-more cfg n s2 ys none) ∙ append-nil rows
 
--- all records, and none behind them
+-- all records, and none after them
 joined : (cfg : Config) (n : ℕ) (s : State) (xs : List ℕ) (o : Option Read) → next_record cfg s [] [] xs ≡ o → ((p : Read) → next_record cfg s [] [] xs ≡ Some p → AreRecords cfg p.1 p.2 (records_from cfg n p.1 p.2))
     → AreRecords cfg s xs (records_next (records_from cfg n) o)
 unfolding Reached
@@ -196,7 +196,7 @@ module _ (arity : ℕ) where
   pub good_more : (read : List CsvRecord) (n : ℕ) (r : CsvRecord) → records_fault arity read ≡ None → length read ≡ n → record_fault arity (n, r) ≡ None → records_fault arity (read ++ (r ∷ [])) ≡ None
   good_more read n r good count e = first_behind 0 read (r ∷ []) good ∙ at_place (0 + length read) n r [] None (omega (arith, count)) e
 
-  -- a record at fault behind good ones
+  -- a record at fault after good ones
   pub first_bad : (read : List CsvRecord) (n : ℕ) (r : CsvRecord) (more : List CsvRecord) (fault : CsvFault) → records_fault arity read ≡ None → length read ≡ n → record_fault arity (n, r) ≡ Some fault
       → records_fault arity ((read ++ (r ∷ [])) ++ more) ≡ Some fault
   first_bad read n r more fault good count e =
@@ -277,7 +277,7 @@ module _ {V : Type 0} (h : List ℕ → Option V) (p : List ℕ → Bool) where
 
 -- ---- what was read
 
--- what holds of all bytes that were read holds of the bytes that the source told
+-- what holds of all bytes that were read holds of the bytes that the source reported
 of_input : (left left' : Option (List ℕ)) (bytes : List ℕ) (P : List ℕ → Type 0) → ReadWhole left left' bytes → P bytes → IfSome left P
 of_input None left' bytes P whole p = tt
 of_input (Some input) None bytes P whole p = absurd whole.read

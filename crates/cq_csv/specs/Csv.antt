@@ -13,7 +13,7 @@ use Rattle.cq_csv.specs.declared.fault.CsvFault.TheVariants.{BadName, BadArity, 
 abbrev pub CsvRecord : Type 0
 CsvRecord = List (List ℕ)
 
--- The records of bytes: those that the crate `csv` reads with its default settings, behind a byte order mark, and none of them is a header.
+-- The records of bytes: those that the crate `csv` reads with its default settings, after a byte order mark, and none of them is a header.
 abbrev pub csv_records : List ℕ → List CsvRecord
 csv_records bytes = records default_config (strip_bom bytes)
 

@@ -56,7 +56,7 @@ fn call_fault(relation: &str, arity: usize) -> Option<CsvFault>
 ///
 /// Before any read `BadName` unless the bytes are a name that begins with an upper-case letter, and then
 /// `BadArity` unless the arity is 1 to 16. `Device` tells the number, from 1, of the read that failed,
-/// and 1,048,577 where no read failed and none came to the end. Then the first record at fault is told, counted
+/// and 1,048,577 where no read failed and none came to the end. Then the first record at fault is reported, counted
 /// from 0: `Width` where the number of its fields is not the arity, else `Text` where a field is no
 /// value. `NoMemory` where an allocation failed.
 pub fn read_csv<A: Allocator + Copy, R: Source>(
@@ -69,7 +69,7 @@ pub fn read_csv<A: Allocator + Copy, R: Source>(
     requires reads { R.reads_made source.old < 2 ^ 62 }
     requires failures { R.failures_met source.old < 2 ^ 62 }
 
-    // A relation that cannot be is told before any read, and else never.
+    // A relation that cannot be is reported before any read, and else never.
     ensures refused { IfSome (call_fault relation.now arity) (λ fault. (result ≡ Err fault) × (source.new ≡ source.old)) }
     ensures call { IfErr result (λ fault. IfOfCall fault (call_fault relation.now arity ≡ Some fault)) }
 
@@ -77,7 +77,7 @@ pub fn read_csv<A: Allocator + Copy, R: Source>(
     ensures rows { IfOk result (λ rows. IfSome (R.left source.old) (λ input. (records_fault arity (csv_records input) ≡ None) × (rows.items ≡ map (row_of_record relation.now) (csv_records input)))) }
     ensures record { IfErr result (λ fault. IfOfRecord fault (IfSome (R.left source.old) (λ input. records_fault arity (csv_records input) ≡ Some fault))) }
 
-    // Either is told at the end of the bytes.
+    // Either is reported at the end of the bytes.
     ensures end { MatchResult result (λ _. IsAtEnd (R.left source.new)) (λ fault. IfOfRecord fault (IsAtEnd (R.left source.new))) }
 
     // Whose fault it was.

@@ -55,7 +55,7 @@ fn row_of<A: Allocator + Copy>(
     push_values(alloc, fields, index, &mut values)?;
     match Row::new(alloc, relation, values) {
         Ok(row) => Ok(row),
-        // The relation and the number of its values are good, so that only memory can be wanting.
+        // The relation and the number of its values are good, so that only memory can run out.
         Err(_) => Err(CsvFault::NoMemory),
     }
 }

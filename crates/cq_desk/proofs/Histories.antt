@@ -29,7 +29,7 @@ rest_is h p t is = sym (drop-append_seam h p) ∙ ap (drop (length h)) is
 pub told_length : {E : Type 0} (h p t : List E) → h ++ p ≡ t → length h + length p ≡ length t
 told_length h p t is = sym (length-append h p) ∙ ap length is
 
--- what is told stays the same where the same would be grown
+-- what is reported stays the same where the same would be grown
 pub same_told : {E : Type 0} (h k : List (List E)) (p q : List E) → grown k q ≡ grown h p → edits_of k ++ q ≡ edits_of h ++ p
 same_told h k p q is = sym (edits-grown k q) ∙ (ap edits_of is ∙ edits-grown h p)
 
@@ -50,6 +50,6 @@ begins_on xs ys zs p q = (p.0 ++ q.0, sym (append_assoc xs p.0 q.0) ∙ (ap (λ 
 pub begins_same : {A : Type 0} (xs ys : List A) → ys ≡ xs → IsPrefix xs ys
 begins_same xs ys is = ([], append-nil xs ∙ sym is)
 
--- what is told is a front of the journal
+-- what is reported is a front of the journal
 pub told_front : {E : Type 0} (t u es js : List E) (n : ℕ) → u ≡ t → t ≡ take n es → es ≡ js → IsPrefix u js
 told_front t u es js n same told is = subst (IsPrefix u) is (begins_told u n es (same ∙ told))

@@ -28,7 +28,7 @@ stepped after why floor event = record floor { machine = machine_after after why
 abbrev pub played : {C E W : Type 0} → (C → E → C) → (C → E → Option W) → StandingRecord C E → List (Event E) → StandingRecord C E
 played after why floor events = record floor { machine = machine_run after why floor.opening floor.limit floor.machine events }
 
--- Want of memory is answered only where an edit needs some: where the machine would enter it, or refuse it for the state's reason.
+-- Out of memory is answered only where an edit needs some: where the machine would enter it, or refuse it for the state's reason.
 abbrev pub MayWant : {W : Type 0} → Result (Answer W) StepFault → Type 0
 MayWant (Ok (Replied (Entered number))) = ⊤
 MayWant (Ok (Replied (Not reason))) = ⊤
@@ -39,7 +39,7 @@ abbrev pub IsTold : {W : Type 0} → Result (Answer W) StepFault → Result (Ans
 IsTold answer (Err NoMemory) = MayWant answer
 IsTold answer told = answer ≡ told
 
--- The first of the events that have not happened is one at which memory may be wanting.
+-- The first of the events that have not happened is one at which memory may run out.
 abbrev pub StopsAt : {C E W : Type 0} → (C → E → C) → (C → E → Option W) → StandingRecord C E → List (Event E) → Type 0
 StopsAt after why floor [] = ⊥
 StopsAt after why floor (event ∷ events) = MayWant (answer_to after why floor.opening floor.limit floor.machine event)

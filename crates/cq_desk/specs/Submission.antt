@@ -11,16 +11,16 @@ use Rattle.cq_desk.specs.Desk.{DeskRecord}
 abbrev pub AreTried : {E W : Type 0} → End → List E → List (Reply W) → Type 0
 AreTried end asked told = MatchEnd end (λ _. length told ≡ length asked) (length told < length asked) (length told ≡ length asked)
 
--- This author submits these edits to the old desk, which leaves the new one. They are told these replies and this end. What a publisher holds is told by three functions: its opening content, its
+-- This author submits these edits to the old desk, which leaves the new one. They are told these replies and this end. What a publisher holds is said by three functions: its opening content, its
 -- publications, and those among them that are shown.
 pub record IsSubmission {P C E W : Type 0} (after : C → E → C) (why : C → E → Option W) (opening_of : P → C) (history_of shown_of : P → History (Entry E)) (author : ℕ) (old new : DeskRecord P E) (asked : List E) (told : List (Reply W)) (end : End) : Type 0 where
   -- The journal may hold as many entries as before.
   pub limit : new.limit ≡ old.limit
   -- The opening content is as it was.
   pub opening : opening_of new.publisher ≡ opening_of old.publisher
-  -- The replies are those to the first of the edits, one after another behind what stood in the journal.
+  -- The replies are those to the first of the edits, in turn after what stood in the journal.
   pub replies : told ≡ replies_at after why (opening_of old.publisher) old.limit (journal_edits old.journal) (take (length told) asked)
-  -- Exactly the edits that were told a number are entered, under the author's number, behind what stood in the journal.
+  -- Exactly the edits that were told a number are entered, under the author's number, after what stood in the journal.
   pub journal : new.journal ≡ old.journal ++ entries_by author (accepted asked told)
   -- How many of the edits have a reply, by the end.
   pub tried : AreTried end asked told

@@ -115,7 +115,7 @@ impl<L: Live, P: Publisher<L>, A: Allocator + Copy> Desk<L, P, A> {
         }
     }
 
-    /// Publishes all that was entered, as one publication behind those that are there, and answers
+    /// Publishes all that was entered, as one publication after those that are there, and answers
     /// how many entries are published.
     ///
     /// # Errors

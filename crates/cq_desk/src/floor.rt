@@ -216,7 +216,7 @@ impl<L: Live, A: Allocator + Copy> Floor<L, A> {
         }
     }
 
-    /// Takes an event, and answers it. There is no answer where memory was wanting.
+    /// Takes an event, and answers it. There is no answer where memory ran out.
     fn take_step(&mut self, event: Event<L::Edit>) -> Option<Told<L::Why>>
         ensures { MatchOption result ((self.new ≡ self.old) × MayWant (answer_to L.after L.why self.old.opening self.old.limit self.old.machine event)) (λ told.
             (told ≡ answer_to L.after L.why self.old.opening self.old.limit self.old.machine event)
@@ -234,7 +234,7 @@ impl<L: Live, A: Allocator + Copy> Floor<L, A> {
     ///
     /// # Errors
     /// The answers to the events before the one at which an allocation failed. That one and those
-    /// behind it have not happened. There are none where there was no room for the answers.
+    /// after it have not happened. There are none where there was no room for the answers.
     pub fn play(
         &mut self,
         events: Vec<Event<L::Edit>, A>,

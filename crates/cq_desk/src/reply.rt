@@ -18,7 +18,7 @@ pub enum Reply<W> {
 pub enum End {
     /// All have replies, and what was entered is published. So many entries are.
     Published(u64),
-    /// An edit ran out of memory and has no reply, nor have those behind it. Those entered before
+    /// An edit ran out of memory and has no reply, nor have those after it. Those entered before
     /// it stay in the journal. Nothing was published.
     Stopped,
     /// All have replies. The publish ran out of memory.

@@ -12,7 +12,7 @@ use std::marker::Model;
 use std::mem;
 
 /// A journal and two states. One is shown, and has what the published entries leave. The other is worked on, and has what
-/// the whole journal leaves, but for a while behind a publish: a publish changes the two over, and what the other one
+/// the whole journal leaves, but for a while after a publish: a publish changes the two over, and what the other one
 /// lacks then it takes in before the next edit. Contracts see the opening content, the journal with its limit, and how
 /// much of it is published.
 #[derive(Drop)]

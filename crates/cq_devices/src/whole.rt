@@ -41,7 +41,7 @@ fn read_pieces<A: Allocator, R: Source>(
 
 /// Reads all that the source has left, by reads of up to 4,096 bytes, of which there are at most 1,048,576.
 ///
-/// The time is in proportion to the bytes. The source's calls are counted, and how many were made and how many failed is told
+/// The time is in proportion to the bytes. The source's calls are counted, and how many were made and how many failed is reported
 /// with every end, so that a reader without end ends as well.
 ///
 /// # Errors

@@ -40,7 +40,7 @@ out_of first count i k at out = by_bool (nat_le count i) (count ≤ i)
 pub more_block : (first i k : ℕ) → (k ≡ first + i → ⊥) → is_in_block first (i + 1) k ≡ is_in_block first i k
 more_block first i k other = grind (arith, nat_tests)
 
--- what a block puts at its own keys and behind them
+-- what a block puts at its own keys and after them
 pub own_put : (xs : List AtomRecord) (first i k : ℕ) → k ≡ first + i → cond (is_in_block first (length xs) k) (slice_get xs (k - first)) None ≡ slice_get xs i
 own_put xs first i k at = by_bool (is_in_block first (length xs) k) (cond (is_in_block first (length xs) k) (slice_get xs (k - first)) None ≡ slice_get xs i)
     (λ t. let off : k - first ≡ i = omega arith in rw (t, off) refl)

@@ -102,7 +102,7 @@ impl<A: Allocator + Copy> Links<A> {
     }
 
     /// Puts the query at the place, where none stands, and gives the edges that this makes, in no order
-    /// that anyone is told. The meter counts one test for each pair of atoms that is tested. Constant
+    /// that anyone is told of. The meter counts one test for each pair of atoms that is tested. Constant
     /// expected time for each atom of the query beside the tests, up to sorting what is tested.
     ///
     /// # Errors

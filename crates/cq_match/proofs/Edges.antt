@@ -151,7 +151,7 @@ edges-of_node places leaving v =
     let same : 0 + v ≡ v = omega arith in
     ap (λ m. filter (λ (e : Edge). eqb e.provider m) (edges_from places 0 leaving)) (sym same) ∙ edges-of places leaving v 0 ∙ ap (λ m. edges_left places m (get_or leaving v [])) same
 
--- ---- those of one provider that come behind some others
+-- ---- those of one provider that come after some others
 
 pub left-live : (places : List Place) (v : ℕ) (outs : List Out) (i : ℕ) (d : Out) → i < length outs → is_live places (get_or outs i d) ≡ true
     → edges_left places v (drop i outs) ≡ edge_of v (get_or outs i d) ∷ edges_left places v (drop (i + 1) outs)

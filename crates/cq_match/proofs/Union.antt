@@ -94,7 +94,7 @@ unable-slot false posts unable = omega arith
 abbrev pub HasEnds : Nodes → Edge → Type 0
 HasEnds nodes edge = Contains (numbers nodes) edge.provider × Any (λ node. (node.0 ≡ edge.waiter) × (edge.post < node.1)) nodes
 
--- behind its last postcondition a node has none that an edge could lead to
+-- after its last postcondition a node has none that an edge could lead to
 pub past-last : (ranked : Nodes) (edges : List Edge) (set : List ℕ) (p : ℕ) → IsRanked ranked → All (HasEnds ranked) edges → p < length ranked → is_supplied edges set (number_at ranked p) (posts_at ranked p) ≡ true → ⊥
 past-last ranked edges set p rising ends low e =
     let n = number_at ranked p in

@@ -160,7 +160,7 @@ module _ (edges : List Edge) (falls : List Fall) (good : FallsOnce edges falls) 
       let before : found.0 < suc i = found.1 in
       never-again falls good.once found.0 j (omega (arith, before, less)) low found.3
 
-  -- the node rests on no fall that lies above all wanted places and below those that are told
+  -- the node rests on no fall that lies above all wanted places and below those that are reported
   passed : (node left : ℕ) (wanted : List ℕ) (i : ℕ) → i < left → left ≤ length falls → ((w : ℕ) → In w wanted → w < i)
       → ((n : ℕ) → RestsOn edges falls node n → ((k : ℕ) × (left ≤ k) × (k < length falls) × (node_at falls k ≡ n)) ⊎ ((w : ℕ) × Contains wanted w × RestsOn edges falls (node_at falls w) n)) → RestsOn edges falls node (node_at falls i) → ⊥
   passed node left wanted i under inside above reached rests =

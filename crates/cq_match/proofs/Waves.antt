@@ -173,7 +173,7 @@ module _ (ranked : Nodes) (starts owners : List ℕ) (offers : List Offer) (risi
       round-low : (p : ℕ) → Contains round p → p < length ranked
       round-low p h = due-low counts p (All-contains (IsUnfed owners counts) waiting p w.due ((keeps p).0 h).0)
 
-      -- the reason told of a place is its first
+      -- the reason reported of a place is its first
       told-first : (p : ℕ) (r : Reason) → p < length ranked → IsFirstReason (λ k. get_or counts (get_or starts p 0 + k) 0 == 0) (get_or ranked p (0, 0, false)) r → IsFirstReason (is_unmet edges gone (number_at ranked p)) (get_or ranked p (0, 0, false)) r
       told-first p r low h = first-same (λ k. get_or counts (get_or starts p 0 + k) 0 == 0) (is_unmet edges gone (number_at ranked p)) (get_or ranked p (0, 0, false)) r (λ k inside. counts-tell p k low inside) h
 
@@ -220,7 +220,7 @@ module _ (ranked : Nodes) (starts owners : List ℕ) (offers : List Offer) (risi
           let less = rising (get_or round k 0) (get_or round (k + 1) 0) (grows k inside) (round-low (get_or round (k + 1) 0) (Contains-get_or round (k + 1) 0 inside)) in
           rw (here, next) less
 
-      -- What is told of the places of a round is a round.
+      -- What is reported about the places of a round is a round.
       pub is-round : IsRound ranked edges gone added
       is-round = record {
         each = λ fall. (added-next fall, next-added fall);

@@ -1,7 +1,7 @@
 //! Which nodes fall, why, and in which order.
 //!
 //! All places stand at first, as in `settle`, and fall in rounds: in each all those of which a slot is fed by no
-//! standing place. Their offers are counted no longer once the round is told, so that the reasons of a round are
+//! standing place. Their offers are counted no longer once the round is reported, so that the reasons of a round are
 //! those that the rounds before it make.
 
 ghost use Rattle.std.specs.Prelude.{◌≡◌, ◌==◌, ◌++◌, ◌<◌, ◌≤◌, ◌+◌, ◌↔◌, ◌⊎◌, ◌&&◌, not, ℕ, Bool, true, false, List, length, sum, count_by, slice_index, vec_len, IfOk, OnOk, SomeIndex, nat_eq};

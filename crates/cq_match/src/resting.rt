@@ -22,7 +22,7 @@ use std::marker::Model;
 /// The place of the fall of each node.
 type Places<A> = HashMap<usize, usize, BuildHasherDefault<FoldHasher>, A>;
 
-/// Places of falls that are still to be told.
+/// Places of falls that are still to be reported.
 type Wanted<A> = BTreeSet<usize, A>;
 
 /// The edges that lead to a waiter, which stand side by side. They are found by halving.

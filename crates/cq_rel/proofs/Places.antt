@@ -37,7 +37,7 @@ pub apart : (catalog : List Declaration) → IsDistinct bytes_eq (map relation_o
 apart [] h = tt
 apart (d ∷ ds) h = (undeclared d.relation ds (IsDistinct-head bytes_eq d.relation (map relation_of ds) h), apart ds (IsDistinct-tail bytes_eq d.relation (map relation_of ds) h))
 
--- what is declared behind d is not d's relation
+-- what is declared after d is not d's relation
 pub other : (d : Declaration) (ds : List Declaration) (name : List ℕ) (n : ℕ) → arity_in ds d.relation ≡ None → arity_in ds name ≡ Some n → bytes_eq name d.relation ≡ false
 other d ds name n free has =
     by_bool (bytes_eq name d.relation) (bytes_eq name d.relation ≡ false)

@@ -114,7 +114,7 @@ has_row tables row = list_any (same_row row) tables.rows
 abbrev pub rows_in : List ℕ → TablesRecord → List RowRecord
 rows_in relation tables = filter (λ r. bytes_eq relation r.relation) tables.rows
 
--- The values from the column on, counted from 0, and behind them those before it.
+-- The values from the column on, counted from 0, and after them those before it.
 abbrev pub turned : ℕ → List ValueContent → List ValueContent
 turned column values = drop column values ++ take column values
 
@@ -122,7 +122,7 @@ turned column values = drop column values ++ take column values
 abbrev pub first_order : List ValueContent → List ValueContent → Ordering
 first_order firsts values = values_order (take (length firsts) values) firsts
 
--- From the column on, going round behind the last, the row's values begin with these.
+-- From the column on, going round after the last, the row's values begin with these.
 abbrev pub has_turned : ℕ → List ValueContent → RowRecord → Bool
 has_turned column firsts r = is_eq (first_order firsts (turned column r.values))
 

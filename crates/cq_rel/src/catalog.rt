@@ -163,7 +163,7 @@ impl<A: Allocator> Catalog<A> {
 }
 
 impl<A: Allocator + Clone> Catalog<A> {
-    /// Declares a relation, behind those that are declared.
+    /// Declares a relation, after those that are declared.
     ///
     /// # Errors
     /// In this order: `BadName` unless the bytes are a name that begins with an upper-case letter;
@@ -179,7 +179,7 @@ impl<A: Allocator + Clone> Catalog<A> {
             return Err(fault);
         }
         let alloc = self.entries.allocator().clone()?;
-        // The bytes are a name, so that only memory can be wanting.
+        // The bytes are a name, so that only memory can run out.
         let Ok(relation) = Name::new(alloc, relation) else {
             return Err(CatalogFault::NoMemory);
         };

@@ -73,7 +73,7 @@ impl<A: Allocator> Tables<A> {
         Some(self.tables[place].rows())
     }
 
-    /// The rows of the relation whose values begin with these from the column on, going round behind the last column: in no
+    /// The rows of the relation whose values begin with these from the column on, going round after the last column: in no
     /// order that is promised, none where the relation is not declared, all where no value is given. Columns are counted
     /// from 0. Found by halving.
     pub fn rows_with(

@@ -40,13 +40,13 @@ filter_both {X} p q (x ∷ xs) =
     (λ f. rw t (rw f (filter_both p q xs))))
     (λ f. rw f (filter_both p q xs))
 
--- what is told where there are heads
+-- what is reported where there are heads
 pub missing_some : {X : Type 0} (pending : List PendingQuery) (read : X → NearMiss (List ℕ)) (near : List X) → (length near == 0) ≡ false
     → codes "no provider; near: " ++ join_by (near_words pending) (codes ", ") (map read near) ≡ missing_words pending (map read near)
 missing_some pending read [] many = absurd (let never : true ≡ false = many in cc)
 missing_some pending read (n ∷ near) many = refl
 
--- ---- what is told of a name
+-- ---- what is reported about a name
 
 pub by_state : (state : Option Bool) (pool : PoolRecord) (name text : List ℕ) → option_map_or not state false ≡ true → IsExplanation pool name text → IsToldBy state pool name text
 by_state None pool name text on told = absurd (let never : false ≡ true = on in cc)

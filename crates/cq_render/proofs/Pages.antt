@@ -10,7 +10,7 @@ module _ {T : Type 0} where
   pub put_both : (page page1 page2 one two : List T) → page1 ≡ page ++ one → page2 ≡ page1 ++ two → page2 ≡ page ++ (one ++ two)
   put_both page page1 page2 one two h k = k ∙ ap (λ (z : List T). z ++ two) h ∙ append_assoc page one two
 
-  -- a piece behind another, where the last may be refused
+  -- a piece after another, where the last may be refused
   pub put_then : {E : Type 0} (page page1 page2 one two : List T) (r : Result (Unit {0}) E) → page1 ≡ page ++ one → OnOk r (page2 ≡ page1 ++ two) → OnOk r (page2 ≡ page ++ (one ++ two))
   put_then page page1 page2 one two (Ok done) h k = put_both page page1 page2 one two h k
   put_then page page1 page2 one two (Err fault) h k = tt

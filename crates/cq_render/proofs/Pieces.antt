@@ -38,7 +38,7 @@ ahead xs i x got = rw add-one (ahead_suc xs i x got)
     ahead_suc (y ∷ xs) zero x got = let same : y ≡ x = cc in ap (λ z. z ∷ xs) same
     ahead_suc (y ∷ xs) (suc i) x got = ahead_suc xs i x got
 
--- the pieces from a place on: the one there, and those behind it
+-- the pieces from a place on: the one there, and those after it
 pub pieces_at : {X Y : Type 0} (f : X → List Y) (xs : List X) (i : ℕ) (x : X) → slice_get xs i ≡ Some x → flat_map f (drop i xs) ≡ f x ++ flat_map f (drop (i + 1) xs)
 pieces_at f xs i x got = ap (flat_map f) (ahead xs i x got)
 

@@ -66,7 +66,7 @@ module _ (pool : PoolRecord) (good : IsPool pool) (i : ℕ) (name : List ℕ) (n
 
 -- ---- all queries
 
--- those from a place on: the one there, and those behind it
+-- those from a place on: the one there, and those after it
 pub shown_at : (pool : PoolRecord) (i : ℕ) (posted : PendingQuery) → slice_get pool.pending i ≡ Some posted
     → map (shown_of pool) (enumerate_from i (drop i pool.pending)) ≡ (shown_of pool (i, posted) ∷ []) ++ map (shown_of pool) (enumerate_from (i + 1) (drop (i + 1) pool.pending))
 shown_at pool i posted here = ap (λ ps. map (shown_of pool) (enumerate_from i ps)) (ahead pool.pending i posted here)

@@ -58,13 +58,13 @@ wait_word count = if count == 1 then codes "waits" else codes "wait"
 abbrev pub only_words : List (List ℕ) → List ℕ
 only_words names = codes "only " ++ join_by (λ name. name) (codes ", ") names ++ codes ", who " ++ wait_word (length names)
 
--- What is told of an unmet postcondition, by its providers: all of them wait, or there is none, and then the heads are told that are nearest.
+-- What is reported about an unmet postcondition, by its providers: all of them wait, or there is none, and then the heads are named that are nearest.
 abbrev pub IsUnmetTold : List PendingQuery → List ℕ → ℕ → List (List ℕ) → List ℕ → Type 0
 IsUnmetTold pending name post [] words =
     (nearest : List (ℕ × ℕ × ℕ)) × AreNearest (misses_named name post pending) nearest × (words ≡ missing_words pending (map (miss_named pending) nearest))
 IsUnmetTold pending name post (provider ∷ providers) words = words ≡ only_words (provider ∷ providers)
 
--- A reason why the query of that name and number waits, once those wait that are told before it.
+-- A reason why the query of that name and number waits, once those wait that are named before it.
 abbrev pub IsReasonTold : List PendingQuery → List ℕ → ℕ → Reason → List ℕ → Type 0
 IsReasonTold pending name waiter NotAble words = words ≡ codes "no row for its body"
 IsReasonTold pending name waiter (Unmet post) words =
@@ -77,7 +77,7 @@ IsStep pending fall line =
     let name = name_of_number pending fall.node in
     (words : List ℕ) × IsReasonTold pending name fall.node fall.reason words × (line ≡ codes "  " ++ name ++ codes ": " ++ words ++ codes "\n")
 
--- What is told of a query that waits: its name, and a step for each query on which it rests, itself last.
+-- What is reported about a query that waits: its name, and a step for each query on which it rests, itself last.
 pub record IsExplanation (pool : PoolRecord) (name : List ℕ) (text : List ℕ) : Type 0 where
   pub place : ℕ
   pub there : place_of name pool.pending ≡ Some place
@@ -91,13 +91,13 @@ pub record IsExplanation (pool : PoolRecord) (name : List ℕ) (text : List ℕ)
 abbrev pub state_of : PoolRecord → List ℕ → Option Bool
 state_of pool word = if is_name word then matched_named word pool else None
 
--- What is told of a word, by what it names.
+-- What is reported about a word, by what it names.
 abbrev pub IsToldBy : Option Bool → PoolRecord → List ℕ → List ℕ → Type 0
 IsToldBy None pool word text = text ≡ []
 IsToldBy (Some true) pool word text = text ≡ word ++ codes " is matched\n"
 IsToldBy (Some false) pool word text = IsExplanation pool word text
 
--- What is told of a word: why the query of that name waits, or that it is matched; nothing where none is pending.
+-- What is reported about a word: why the query of that name waits, or that it is matched; nothing where none is pending.
 abbrev pub IsTold : PoolRecord → List ℕ → List ℕ → Type 0
 IsTold pool word text = IsToldBy (state_of pool word) pool word text
 

@@ -117,7 +117,7 @@ fn missing_words<A: Allocator + Copy>(
     format!(in alloc; "no provider; near: {joined}")
 }
 
-/// What is told of a postcondition that has no provider.
+/// What is reported about a postcondition that has no provider.
 fn missing<A: Allocator + Copy>(
     alloc: A,
     fallen: &Fallen<'_, '_, A>,
@@ -186,7 +186,7 @@ fn only_words<A: Allocator + Copy>(alloc: A, names: &[&str]) -> Result<String<A>
     format!(in alloc; "only {joined}, who {wait}")
 }
 
-/// What is told of an unmet postcondition, by its providers.
+/// What is reported about an unmet postcondition, by its providers.
 fn unmet<A: Allocator + Copy>(
     alloc: A,
     fallen: &Fallen<'_, '_, A>,
@@ -203,7 +203,7 @@ fn unmet<A: Allocator + Copy>(
     }
 }
 
-/// What is told of an unmet postcondition, whose providers have these numbers.
+/// What is reported about an unmet postcondition, whose providers have these numbers.
 fn unmet_words<A: Allocator + Copy>(
     alloc: A,
     fallen: &Fallen<'_, '_, A>,
@@ -322,7 +322,7 @@ fn is_waiting<A: Allocator + Copy>(board: &Board<A>, name: &Name<A>) -> bool
     }
 }
 
-/// What is told of a name under which no query waits.
+/// What is reported about a name under which no query waits.
 fn settled_words<A: Allocator + Copy>(
     alloc: A,
     board: &Board<A>,
@@ -376,7 +376,7 @@ fn told<A: Allocator + Copy>(
     }
 }
 
-/// Puts what is told of each of the words on an empty page.
+/// Puts what is reported about each of the words on an empty page.
 fn put_told<A: Allocator + Copy>(
     alloc: A,
     fallen: &Fallen<'_, '_, A>,
@@ -393,7 +393,7 @@ fn put_told<A: Allocator + Copy>(
     Ok(())
 }
 
-/// Puts what is told of each of the words on an empty page.
+/// Puts what is reported about each of the words on an empty page.
 fn put_words<A: Allocator + Copy>(
     alloc: A,
     board: &Board<A>,

@@ -4,7 +4,7 @@ ghost use Rattle.std.specs.Prelude.{◌≡◌, ◌++◌, ℕ, List, string_bytes
 
 use std::alloc::{AllocError, Allocator};
 
-/// Puts a text that was made behind the page, or tells that there was no memory for it.
+/// Puts a text that was made after the page, or tells that there was no memory for it.
 pub fn put<A: Allocator>(
     page: &mut String<A>,
     text: Result<String<A>, AllocError>,

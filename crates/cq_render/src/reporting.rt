@@ -136,7 +136,7 @@ fn put_post<A: Allocator>(
     put_providers(listing, providers, page)
 }
 
-/// Puts what is told of each postcondition of the query.
+/// Puts what is reported about each postcondition of the query.
 fn put_posts<A: Allocator>(
     listing: &Listing<'_, A>,
     shown: &Shown<'_, A>,
@@ -189,7 +189,7 @@ fn put_heading<A: Allocator>(
     put_text(query, page)
 }
 
-/// Puts what is told of the query.
+/// Puts what is reported about the query.
 fn put_query<A: Allocator + Copy>(
     alloc: A,
     listing: &Listing<'_, A>,
@@ -203,7 +203,7 @@ fn put_query<A: Allocator + Copy>(
     put_groundings(alloc, shown.query, shown.groundings, page)
 }
 
-/// Puts what is told of each pending query.
+/// Puts what is reported about each pending query.
 fn put_each<A: Allocator + Copy>(
     alloc: A,
     listing: &Listing<'_, A>,
@@ -217,7 +217,7 @@ fn put_each<A: Allocator + Copy>(
     Ok(())
 }
 
-/// Puts what is told of each pending query of a board.
+/// Puts what is reported about each pending query of a board.
 fn put_queries<A: Allocator + Copy>(
     alloc: A,
     board: &Board<A>,
@@ -229,7 +229,7 @@ fn put_queries<A: Allocator + Copy>(
     put_each(alloc, &listing, page)
 }
 
-/// Puts the report on a board behind the page. What is made beside it are the lists of the names, of the queries and of the edges,
+/// Puts the report on a board after the page. What is made beside it are the lists of the names, of the queries and of the edges,
 /// and the names of the variables of one query at a time. Its time is that of sorting the edges, and of what it puts.
 ///
 /// # Errors

@@ -48,7 +48,7 @@ pub the_fault : (form : Form) (line : List ℕ) (fault : TextFault) (kind : Kind
 the_fault form line fault kind offset is h = rw is at h
 
 module _ {W A : Type 0} (taken : W → Option (List ℕ)) (failures : W → ℕ) (first now : Output W A) where
-  -- bytes behind what stands before them
+  -- bytes after what stands before them
   pub Puts-led : (mid : Output W A) (bytes : List ℕ) → led first.lead.now bytes ≡ lead_bytes first.lead.now ++ bytes → Puts taken failures first mid (lead_bytes first.lead.now) → Puts taken failures mid now bytes → Puts taken failures first now (led first.lead.now bytes)
   Puts-led mid bytes e p q = subst (Puts taken failures first now) (sym e) (Puts-then taken failures first mid now (lead_bytes first.lead.now) bytes p q)
 
@@ -76,12 +76,12 @@ module _ {W A : Type 0} (taken : W → Option (List ℕ)) (failures : W → ℕ)
   put_fails bytes (Ok done) p = tt
   put_fails bytes (Err fault) p = record { writer = p.0.writer; failed = p.0.failed }
 
-  -- nothing was put where memory was wanting
+  -- nothing was put where memory ran out
   pub put_nothing : (bytes : List ℕ) (r : Result (Unit {0}) ReplyFault) → Put taken failures first now bytes r → IfErr r (λ fault. IfMemory (fault_of_reply fault) (Puts taken failures first now []))
   put_nothing bytes (Ok done) p = tt
   put_nothing bytes (Err fault) p = p.1
 
--- memory was wanting before anything was put
+-- memory ran out before anything was put
 pub starved : {W A : Type 0} (taken : W → Option (List ℕ)) (failures : W → ℕ) (output : Output W A) (bytes : List ℕ) → Breaks taken failures output output bytes faults.NoMemory
 starved taken failures output bytes = Puts-starved taken failures output output [] bytes (Puts-nothing taken failures output)
 

@@ -35,7 +35,7 @@ pub kept_more : (n : ℕ) (l more : List ℕ) → length l ≤ KEPT → n ≡ mi
 unfolding kept
 kept_more n l more h e = take_room KEPT n l more h e
 
--- bytes behind what is kept, and bytes behind all
+-- bytes after what is kept, and bytes after all
 pub kept_again : (l more : List ℕ) → kept (kept l ++ more) ≡ kept (l ++ more)
 unfolding kept
 kept_again l more = take_again_by KEPT l more (cases_lt (length l) KEPT)
@@ -98,7 +98,7 @@ HasNoEnd-before bytes n found =
     let low : n < length bytes = first.0 in
     HasNoEnd-take n bytes (omega arith) first.2
 
--- the bytes before the first LF, the LF, and the bytes behind it
+-- the bytes before the first LF, the LF, and the bytes after it
 pub cut_first : (bytes : List ℕ) (n : ℕ) → position (λ b. b == 10) bytes ≡ Some n → bytes ≡ take n bytes ++ (10 ∷ drop 1 (drop n bytes))
 cut_first bytes n found =
     let first = position-Some (λ b. b == 10) bytes n 0 found in

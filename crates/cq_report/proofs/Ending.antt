@@ -55,7 +55,7 @@ module _ {W A : Type 0} (taken : W → Option (List ℕ)) (failures : W → ℕ)
       let r = subst (λ (s : State). Replayed taken failures s state left left' first now) begins r0 in
       Consumes-whole left left' r.bytes (λ input. (rs : List Reading) × AreReadings (lines_of input) rs) r.read r.at_end (r.finished.readings, r.finished.are)
 
-  -- all was read, and the pool that is shown is the one behind it
+  -- all was read, and the pool that is shown is the one after it
   pub Replayed-left : (state : State) → opening ≡ begin_state Plain → Replayed taken failures opening state left left' first now → IfSome left (λ input. (rs : List Reading) → AreReadings (lines_of input) rs → pool_shown state ≡ pool_left rs)
   Replayed-left state begins r0 =
       let r = subst (λ (s : State). Replayed taken failures s state left left' first now) begins r0 in

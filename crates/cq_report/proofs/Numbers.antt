@@ -10,7 +10,7 @@ use Rattle.cq_report.specs.Steps.Put.{led, lead_bytes}
 use Rattle.cq_report.specs.Steps.Count.{count_of, lines_before}
 use Rattle.cq_report.specs.Steps.Written.{Puts, Breaks, Fails}
 
--- a text that is not empty stands behind all of what stands before it
+-- a text that is not empty stands after all of what stands before it
 pub led-bytes : {A : Type 0} (lead : Option (String A)) (told : List ℕ) → (told ≡ [] → ⊥) → led lead told ≡ lead_bytes lead ++ told
 led-bytes lead [] some = absurd (some refl)
 led-bytes lead (b ∷ bs) some = refl

@@ -18,7 +18,7 @@ use Rattle.cq_report.proofs.Cutting.{kept_nil, kept_again, kept_none, kept_some,
 use Rattle.cq_report.proofs.Kept.{IsReading-kept, IsReading-whole}
 use Rattle.cq_report.specs.Steps.Writing.{Puts-nothing, Puts-then, Puts-breaks, Breaks-more, Puts-cut, Puts-starved}
 
--- ---- readings of one list of lines behind another
+-- ---- readings of one list of lines after another
 
 pub record Parted (state : State) (lines more : List (List ℕ)) (rs : List Reading) : Type 0 where
   pub front : List Reading
@@ -79,11 +79,11 @@ output_from-parted : (state here : State) (rs front : List Reading) (r : Reading
 output_from-parted state here rs front r rest e h =
     rw h (append_assoc (output_from state front) (reply (state_after state front) r) (output_from (next (state_after state front) r) rest)) ∙ output_from-split state rs front (r ∷ rest) e
 
--- the state behind some lines and one more
+-- the state after some lines and one more
 state_after-one : (state here : State) (rs front : List Reading) (r : Reading) → rs ≡ front ++ (r ∷ []) → here ≡ state_after state front → next here r ≡ state_after state rs
 state_after-one state here rs front r e h = rw (h, e) (sym (state_after-append state front (r ∷ [])))
 
--- the lines of whole lines, and of what stands behind them
+-- the lines of whole lines, and of what stands after them
 lines_of_behind : (lines : List (List ℕ)) (pending bytes rest : List ℕ) → bytes ≡ ended lines ++ pending → HaveNoEnd lines → lines_of (bytes ++ rest) ≡ lines ++ lines_of (pending ++ rest)
 lines_of_behind lines pending bytes rest e h = rw (e, append_assoc (ended lines) pending rest) (lines_of_all_ended lines (pending ++ rest) h)
 
@@ -140,7 +140,7 @@ module _ {W A : Type 0} (taken : W → Option (List ℕ)) (failures : W → ℕ)
   of_kept : (form : Form) (line pending : List ℕ) (P : Reading → Type 0) → line ≡ kept pending → ((reading : Reading) → IsReading form line reading → P reading) → (reading : Reading) → IsReading form pending reading → P reading
   of_kept form line pending P e h r i = h r (subst (λ (l : List ℕ). IsReading form l r) (sym e) (IsReading-kept form pending r i))
 
-  -- LF, behind which the line is answered
+  -- LF, after which the line is answered
   pub Served-line : (now now' : Output W A) (state state' : State) (line bytes : List ℕ) → Served taken failures first opening now state line bytes
       → (reading : Reading) × IsReading (form_in state) line reading
       → ((reading : Reading) → IsReading (form_in state) line reading → (state' ≡ next state reading) × Puts taken failures now now' (reply state reading))
@@ -195,7 +195,7 @@ module _ {W A : Type 0} (taken : W → Option (List ℕ)) (failures : W → ℕ)
       (lines_of_behind s.lines s.pending bytes (10 ∷ rest) s.cut s.no_end ∙ ap (λ (ls : List (List ℕ)). s.lines ++ ls) (lines_of_ended s.pending rest s.open_end))
       (of_kept (form_in state) line s.pending (λ r. Breaks taken failures now now' (reply state r) fault) s.keeps breaks)
 
-  -- the last bytes of a line, behind which it is answered
+  -- the last bytes of a line, after which it is answered
   pub Served-last : (now now' : Output W A) (state state' : State) (line line' bytes last : List ℕ) → Served taken failures first opening now state line bytes → HasNoEnd last → line' ≡ kept (line ++ last)
       → (reading : Reading) × IsReading (form_in state) line' reading
       → ((reading : Reading) → IsReading (form_in state) line' reading → (state' ≡ next state reading) × Puts taken failures now now' (reply state reading))
@@ -249,7 +249,7 @@ module _ {W A : Type 0} (taken : W → Option (List ℕ)) (failures : W → ℕ)
       subst (λ (l : List ℕ). Stopped taken failures first opening now l (faults.Read turn)) (append-nil bytes)
       (stopped_between now now state line bytes [] (faults.Read turn) s (λ x y p. Puts-cut taken failures first now x y (faults.Read turn) refl p))
 
-  -- what waited was not passed on, behind which bytes more were read
+  -- what waited was not passed on, after which bytes more were read
   pub Stopped-passing-more : (now now' : Output W A) (state : State) (line bytes rest : List ℕ) (fault : RunFault) → Served taken failures first opening now state line bytes → Breaks taken failures now now' [] fault → Stopped taken failures first opening now' (bytes ++ rest) fault
   Stopped-passing-more now now' state line bytes rest fault s b =
       stopped_between now now' state line bytes rest fault s (λ x y p. subst (λ (l : List ℕ). Breaks taken failures first now' l fault) (ap (λ (l : List ℕ). l ++ y) (append-nil x)) (Breaks-more taken failures first now' (x ++ []) y fault (Puts-breaks taken failures first now now' x [] fault p b)))

@@ -1,4 +1,4 @@
--- Memory that was wanting while lines were served.
+-- Memory that ran out while lines were served.
 use Rattle.std.proofs.Common.{◌≡◌, ◌==◌, ◌≤◌, ℕ, Bool, true, false, List, [], ◌∷◌, ◌++◌, length, Option, refl, sym, ap, subst, ◌∙◌, append_assoc, arith}
 use Rattle.std.specs.Io.KnownBytes.{Consumes}
 use Rattle.std.proofs.KnownBytes.{Appends-nil, Consumes-nil}
@@ -51,7 +51,7 @@ longer [] y = record { more = whole_lines y; whole = refl }
 longer (b ∷ bs) y = longer_by b (b == 10) bs y refl (longer bs y)
 
 module _ {W A : Type 0} (taken : W → Option (List ℕ)) (failures : W → ℕ) (first : Output W A) (opening : State) where
-  -- a front of the bytes was served, and nothing was put behind it
+  -- a front of the bytes was served, and nothing was put after it
   pub Starved-behind : (now now' : Output W A) (state : State) (line bytes done rest piece : List ℕ) → done ++ rest ≡ piece → Served taken failures first opening now state line (bytes ++ done) → Puts taken failures now now' []
       → Starved taken failures first opening now' bytes piece
   Starved-behind now now' state line bytes done rest piece cut s p = record {
@@ -80,11 +80,11 @@ module _ {W A : Type 0} (taken : W → Option (List ℕ)) (failures : W → ℕ)
       (Stopped-passing-more taken failures first opening now now' s.state s.line (bytes ++ s.done) s.rest fault s.served b)
 
 module _ {W A : Type 0} (taken : W → Option (List ℕ)) (failures : W → ℕ) where
-  -- some bytes were served, and memory was wanting behind them
+  -- some bytes were served, and memory ran out after them
   pub StarvesOn-behind : (a b c : Output W A) (r s : State) (k l done rest piece : List ℕ) → ServesOn taken failures a b r s k l done → done ++ rest ≡ piece → Puts taken failures b c [] → StarvesOn taken failures a c r k piece
   StarvesOn-behind a b c r s k l done rest piece on cut p first opening bytes h = Starved-behind taken failures first opening b c s l bytes done rest piece cut (on first opening bytes h) p
 
-  -- memory was wanting behind what was served
+  -- memory ran out after what was served
   pub RanOut-behind : (opening : State) (left left' : Option (List ℕ)) (first now now' : Output W A) (state : State) (line bytes done rest piece : List ℕ) → done ++ rest ≡ piece → Consumes left left' (bytes ++ piece) → length piece ≤ max_piece
       → Served taken failures first opening now state line (bytes ++ done) → Puts taken failures now now' [] → RanOut taken failures opening left left' first now'
   RanOut-behind opening left left' first now now' state line bytes done rest piece cut read short s p = record {
@@ -95,7 +95,7 @@ module _ {W A : Type 0} (taken : W → Option (List ℕ)) (failures : W → ℕ)
     starved = Starved-behind taken failures first opening now now' state line bytes done rest piece cut s p;
   }
 
-  -- memory was wanting in the piece that was served next
+  -- memory ran out in the piece that was served next
   pub RanOut-on : (opening : State) (left left' : Option (List ℕ)) (first now now' : Output W A) (state : State) (line bytes piece : List ℕ) → Consumes left left' (bytes ++ piece) → length piece ≤ max_piece
       → Served taken failures first opening now state line bytes → StarvesOn taken failures now now' state line piece → RanOut taken failures opening left left' first now'
   RanOut-on opening left left' first now now' state line bytes piece read short s on = record {

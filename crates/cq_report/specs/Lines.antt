@@ -6,7 +6,7 @@ abbrev pub before_first : ℕ → List (List ℕ) → List (List ℕ)
 before_first b [] = (b ∷ []) ∷ []
 before_first b (line ∷ lines) = (b ∷ line) ∷ lines
 
--- The lines of a script: LF ends a line, the last one needs none, and nothing behind the last LF is no line.
+-- The lines of a script: LF ends a line, the last one needs none, and nothing after the last LF is no line.
 abbrev pub lines_of : List ℕ → List (List ℕ)
 lines_of [] = []
 lines_of (b ∷ bs) = if b == 10 then [] ∷ lines_of bs else before_first b (lines_of bs)

@@ -85,25 +85,25 @@ headed None (Reads commands.Publish) = Some One
 headed None (Reads commands.Show) = Some One
 headed None (Faulty kind offset) = Some One
 
--- A line that names the form is too late behind any other that is not blank.
+-- A line that names the form is too late after any other that is not blank.
 abbrev pub board_line : Option Form → List ℕ
 board_line None = ok_line
 board_line (Some form) = late_line
 
 -- ---- the setup
 
--- A relation is declared behind the others, or it is told why not.
+-- A relation is declared after the others, or the reason is reported.
 abbrev pub declared : Option CatalogFault → SetupRecord → Declaration → SetupRecord × List ℕ
 declared None setup relation = (record setup { catalog = setup.catalog ++ (relation ∷ []) }, ok_line)
 declared (Some fault) setup relation = (setup, catalog_line fault)
 
--- The setup behind a line of it, where this form was settled before, if any, and the reply. The latest limits count.
+-- The setup after a line of it, where this form was settled before, if any, and the reply. The latest limits count.
 abbrev pub set_up : SetupRecord → Option Form → SetupLine (List ℕ) → SetupRecord × List ℕ
 set_up setup heading (setups.Relation name arity) = declared (declare_fault setup.catalog name arity) setup (declaration name arity)
 set_up setup heading (setups.Board form) = (setup, board_line heading)
 set_up setup heading (setups.Limits pool journal) = (record setup { limits = record { pool = pool; journal = journal } }, ok_line)
 
--- Behind the setup each line of a setup is too late.
+-- After the setup each line of a setup is too late.
 abbrev pub prepare : Staged → Option Form → SetupLine (List ℕ) → Staged × List ℕ
 prepare (Setup setup) heading line = (Setup (set_up setup heading line).0, (set_up setup heading line).1)
 prepare (Serving serving) heading line = (Serving serving, late_line)
@@ -119,7 +119,7 @@ abbrev pub serving_of : Staged → ServingRecord
 serving_of (Setup setup) = opened setup
 serving_of (Serving serving) = serving
 
--- The floor behind an event.
+-- The floor after an event.
 abbrev pub after : ServingRecord → Event Edit → ServingRecord
 after = stepped pool_after why
 
@@ -137,7 +137,7 @@ happen state event = (Serving (after (serving_of state) event), told (serving_of
 
 -- ---- lines
 
--- The stage behind a line, and the reply to it, where this form was settled before, if any. A blank line and a fault of text change nothing.
+-- The stage after a line, and the reply to it, where this form was settled before, if any. A blank line and a fault of text change nothing.
 abbrev pub staged : Staged → Option Form → Reading → Staged × List ℕ
 staged stage heading (Reads commands.Blank) = (stage, [])
 staged stage heading (Reads (commands.Setup line)) = prepare stage heading line
@@ -146,13 +146,13 @@ staged stage heading (Reads commands.Publish) = happen stage events.Publish
 staged stage heading (Reads commands.Show) = happen stage (events.Look 0)
 staged stage heading (Faulty kind offset) = (stage, fault_line kind offset)
 
--- A reply behind the number of its line, counted from 1, where replies are numbered. Where a line has no reply, it has no number.
+-- A reply after the number of its line, counted from 1, where replies are numbered. Where a line has no reply, it has no number.
 abbrev pub numbered : Option ℕ → List ℕ → List ℕ
 numbered None bytes = bytes
 numbered (Some before) [] = []
 numbered (Some before) (b ∷ bs) = decimal (before + 1) ++ codes ": " ++ b ∷ bs
 
--- The state behind a line that is not counted yet.
+-- The state after a line that is not counted yet.
 abbrev pub served : State → Reading → State
 served state reading = record state { heading = headed state.heading reading; stage = (staged state.stage state.heading reading).0 }
 
@@ -160,7 +160,7 @@ served state reading = record state { heading = headed state.heading reading; st
 abbrev pub counted : State → State
 counted state = record state { lines = option_map suc state.lines }
 
--- The state behind a line.
+-- The state after a line.
 abbrev pub next : State → Reading → State
 next state reading = counted (served state reading)
 

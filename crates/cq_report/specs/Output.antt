@@ -18,7 +18,7 @@ AreReadFrom heading (line ∷ lines) (reading ∷ readings) = IsReading (form_of
 abbrev pub AreReadings : List (List ℕ) → List Reading → Type 0
 AreReadings lines readings = AreReadFrom None lines readings
 
--- The state behind some lines.
+-- The state after some lines.
 abbrev pub state_after : State → List Reading → State
 state_after state [] = state
 state_after state (reading ∷ readings) = state_after (next state reading) readings
@@ -32,6 +32,6 @@ output_from state (reading ∷ readings) = reply state reading ++ output_from (n
 abbrev pub output : Numbering → List Reading → List ℕ
 output numbering readings = output_from (begin_state numbering) readings
 
--- The pool that a look would show behind lines that are read so.
+-- The pool that a look would show after lines that are read so.
 abbrev pub pool_left : List Reading → PoolRecord
 pool_left readings = pool_shown (state_after (begin_state Plain) readings)

@@ -36,11 +36,11 @@ refused_line words = line (codes "refused " ++ words)
 abbrev pub ok_line : List ℕ
 ok_line = line (codes "ok")
 
--- A line of the setup that comes behind it.
+-- A line of the setup that comes after it.
 abbrev pub late_line : List ℕ
 late_line = refused_line (codes "Late")
 
--- Why a relation is not declared. Want of memory has no line: it ends the run.
+-- Why a relation is not declared. Out of memory has no line: it ends the run.
 abbrev pub catalog_line : CatalogFault → List ℕ
 catalog_line catalogs.BadName = refused_line (codes "BadName")
 catalog_line catalogs.BadArity = refused_line (codes "BadArity")
@@ -53,7 +53,7 @@ part_word Posts = codes "posts"
 part_word Heads = codes "heads"
 part_word Body = codes "body"
 
--- Why the pool refuses an edit; an atom is told by its place.
+-- Why the pool refuses an edit; an atom is named by its place.
 abbrev pub why_words : Why → List ℕ
 why_words PoolFull = codes "PoolFull"
 why_words NameTaken = codes "NameTaken"

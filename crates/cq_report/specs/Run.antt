@@ -1,4 +1,4 @@
--- What a run leaves behind (this project's profile).
+-- What a run leaves after (this project's profile).
 use Rattle.std.specs.Prelude.{◌≡◌, ◌≤◌, ℕ, List, ◌++◌, length, Option}
 use Rattle.std.specs.Io.KnownBytes.{Consumes, Appends}
 use Rattle.cq_report.specs.declared.fault.RunFault.{RunFault}

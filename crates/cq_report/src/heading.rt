@@ -18,7 +18,7 @@ pub fn form_of(heading: Option<Form>) -> Form
     }
 }
 
-/// The form that is settled behind a command, if any.
+/// The form that is settled after a command, if any.
 pub fn headed<A: Allocator>(heading: Option<Form>, command: &Command<A>) -> Option<Form>
     ensures { result ≡ headed heading (Reads command.now) }
 {

@@ -113,7 +113,7 @@ impl<A: Allocator + Copy> Machine<A> {
         self.interpreter.serve(heading, command, output)
     }
 
-    /// Reads a line, and puts the reply to it, behind what stands before it.
+    /// Reads a line, and puts the reply to it, after what stands before it.
     fn serve_line<W: Sink>(
         &mut self,
         line: &[u8],
@@ -137,7 +137,7 @@ impl<A: Allocator + Copy> Machine<A> {
         }
     }
 
-    /// Reads a line, and puts the reply to it, behind its number where replies are numbered.
+    /// Reads a line, and puts the reply to it, after its number where replies are numbered.
     ///
     /// # Errors
     /// `Write` where the writer failed, and a front of the reply may be put then; `NoMemory` where an allocation

@@ -53,7 +53,7 @@ impl<'w, W: Sink, A: Allocator> Output<'w, W, A> {
         *self.lead = lead;
     }
 
-    /// Puts bytes behind what was put before.
+    /// Puts bytes after what was put before.
     pub(crate) fn put(&mut self, bytes: &[u8]) -> Result<(), Failed>
         requires { W.write_failures self.old.sink.now < 2 ^ 62 }
         ensures ok { OnOk result (Puts W.taken W.write_failures self.old self.new bytes.now) }
@@ -80,7 +80,7 @@ impl<'w, W: Sink, A: Allocator> Output<'w, W, A> {
         self.put(lead.as_bytes())
     }
 
-    /// Puts text behind what was put before, and behind what stands before it.
+    /// Puts text after what was put before, and after what stands before it.
     pub(crate) fn put_text(&mut self, text: &str) -> Result<(), ReplyFault>
         requires { W.write_failures self.old.sink.now < 2 ^ 62 }
         ensures { Put W.taken W.write_failures self.old self.new text.now result }

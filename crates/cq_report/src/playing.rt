@@ -21,7 +21,7 @@ use std::alloc::Allocator;
 use std::marker::Model;
 use std::mem;
 
-/// A script that was served to its end. Contracts see the pool that a `show` behind its last line would print.
+/// A script that was served to its end. Contracts see the pool that a `show` after its last line would print.
 #[derive(Drop)]
 pub struct Played<A: Allocator + Copy> {
     floor: BoardFloor<A>,
@@ -37,7 +37,7 @@ impl<A: Allocator + Copy> Model for Played<A> {
 }
 
 impl<A: Allocator + Copy> Played<A> {
-    /// The board that is published behind the script: what was entered behind the last publish is not on it.
+    /// The board that is published after the script: what was entered after the last publish is not on it.
     pub fn board(&self) -> &Board<A>
         ensures { result.now ≡ self.now }
     {
@@ -77,9 +77,9 @@ fn left_by<A: Allocator + Copy>(
     }
 }
 
-/// Reads a script to its end, and gives the board that it leaves: the one that a `show` behind its last line would print.
+/// Reads a script to its end, and gives the board that it leaves: the one that a `show` after its last line would print.
 ///
-/// The script is cut into lines and served as `run` does, and no reply is written. Lines that are refused leave nothing behind.
+/// The script is cut into lines and served as `run` does, and no reply is written. Lines that are refused leave nothing after.
 /// Where no line ends the setup, the board is the one that the setup opens.
 ///
 /// # Errors

@@ -64,7 +64,7 @@ pub(crate) fn ok_line() -> &'static str
     "ok\n"
 }
 
-/// The reply to a line of the setup that comes behind it.
+/// The reply to a line of the setup that comes after it.
 pub fn late_line() -> &'static str
     ensures { result.now ≡ late_line }
 {
@@ -81,7 +81,7 @@ pub(crate) fn board_line(heading: Option<Form>) -> &'static str
     }
 }
 
-/// The reply to a relation that is not declared. Want of memory has none.
+/// The reply to a relation that is not declared. Out of memory has none.
 pub(crate) fn catalog_line(fault: CatalogFault) -> &'static str
     ensures { result.now ≡ catalog_line fault }
 {

@@ -31,7 +31,7 @@ fn first_end(bytes: &[u8]) -> Option<usize>
     memchr(b'\n', bytes)
 }
 
-/// The first line of the bytes without its LF, and what stands behind that, where there is an LF.
+/// The first line of the bytes without its LF, and what stands after that, where there is an LF.
 pub fn first_line(bytes: &[u8]) -> Option<(&[u8], &[u8])>
     ensures cut { IfSome result (λ parts. bytes.now ≡ parts.0.now ++ (10 ∷ parts.1.now)) }
     ensures line { IfSome result (λ parts. HasNoEnd parts.0.now) }
@@ -162,7 +162,7 @@ fn serve_all<A: Allocator + Copy, R: Source, W: Sink>(
     })
 }
 
-/// Serves all that is read, from the first line on. Where memory is wanting in the end, what waits is passed on all the same.
+/// Serves all that is read, from the first line on. Where memory runs out in the end, what waits is passed on all the same.
 pub(crate) fn replay<A: Allocator + Copy, R: Source, W: Sink>(
     alloc: A,
     machine: &mut Machine<A>,
@@ -223,7 +223,7 @@ pub fn run<A: Allocator + Copy, R: Source, W: Sink>(
     // And they can be read.
     ensures readings { OnOk result (IfSome (R.left reader.old) (λ input. (readings : List Reading) × AreReadings (lines_of input) readings)) }
 
-    // After a fault of reading the output of the whole lines was written; where memory was wanting, that of the first lines, down to
+    // After a fault of reading the output of the whole lines was written; where memory ran out, that of the first lines, down to
     // somewhere in the last piece that was read; after any fault no more than a front of the output of what was read.
     ensures whole_lines { IfErr result (λ fault. IfRead fault (λ turn. WroteWholeLines numbering (R.left reader.old) (R.left reader.new) (W.taken writer.old) (W.taken writer.new))) }
     ensures first_lines { IfErr result (λ fault. IfMemory fault (WroteFirstLines numbering (R.left reader.old) (R.left reader.new) (W.taken writer.old) (W.taken writer.new))) }

@@ -51,7 +51,7 @@ impl<A: Allocator> Setup<A> {
 }
 
 impl<A: Allocator + Clone> Setup<A> {
-    /// Declares a relation, behind those that are declared, and gives the reply.
+    /// Declares a relation, after those that are declared, and gives the reply.
     fn declare(&mut self, name: &str, arity: usize) -> Result<&'static str, AllocError>
         ensures ok { IfOk result (λ reply. (self.new, reply.now) ≡ declared (declare_fault self.old.catalog name.now arity) self.old (declaration name.now arity)) }
         ensures err { OnErr result (self.new ≡ self.old) }

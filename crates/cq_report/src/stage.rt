@@ -1,6 +1,6 @@
 //! What a script has come to.
 
-/// What serves the next line, over what holds a setup and what serves behind it.
+/// What serves the next line, over what holds a setup and what serves after it.
 #[derive(Drop)]
 pub enum Stage<S, F> {
     /// Relations and limits are still taken.

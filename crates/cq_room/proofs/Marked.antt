@@ -57,7 +57,7 @@ behind_within es [] = omega arith
 behind_within es (Entered e ∷ xs) = omega (arith, behind_within (es ++ e ∷ []) xs, length-append es (e ∷ []))
 behind_within es (Cut ∷ xs) = omega (arith, behind_within [] xs)
 
--- entries that stand before the marks, with those of the marks, are those of the publications with those behind the last cut
+-- entries that stand before the marks, with those of the marks, are those of the publications with those after the last cut
 pub edits_split : {E : Type 0} (es : List (Entry E)) (ms : List (Mark E)) → edits_of (cut_at es ms) ++ behind es ms ≡ es ++ entries_in ms
 edits_split es [] = sym (append-nil es)
 edits_split es (Entered e ∷ ms) = edits_split (es ++ e ∷ []) ms ∙ append_assoc es (e ∷ []) (entries_in ms)
@@ -107,7 +107,7 @@ grown_full h (e ∷ p) some = refl
 pub pubs_cut : {E : Type 0} (xs ys : List (Mark E)) → ys ≡ xs ++ Cut ∷ [] → 0 < length (fresh_in xs) → publications ys ≡ grown (publications xs) (fresh_in xs)
 pubs_cut xs ys is some = ap publications is ∙ (cut_at-append [] xs (Cut ∷ []) ∙ grown_full (publications xs) (fresh_in xs) some)
 
--- with nothing behind the last cut, what would be grown is what stands
+-- with nothing after the last cut, what would be grown is what stands
 pub grown_none : {E : Type 0} (h : List (List E)) (p : List E) → p ≡ [] → grown h p ≡ h
 grown_none h p none = ap (grown h) none
 
@@ -126,7 +126,7 @@ pub known_edits : {E : Type 0} (b : Bool) (xs ys : List (Mark E)) (known : List 
 known_edits true xs ys known is p = subst (λ es. IsPrefix es (entries_in ys)) is (prefix_edits xs ys p)
 known_edits false xs ys known is p = tt
 
--- a trail of the entries of a journal goes on by the entry that stands behind it
+-- a trail of the entries of a journal goes on by the entry that stands after it
 pub entered_more : {E : Type 0} (xs ys : List (Mark E)) (journal : List (Entry E)) (e : Entry E) (n : ℕ) → IsPrefix (entries_in xs) journal → length (entries_in xs) ≡ n → n < length journal → e ≡ get_or journal n e → ys ≡ xs ++ Entered e ∷ [] → IsPrefix (entries_in ys) journal
 entered_more xs ys journal e n p count less at is =
     subst (λ es. IsPrefix es journal) (sym (ap entries_in is ∙ entries-append xs (Entered e ∷ [])))

@@ -17,7 +17,7 @@ admitted_number : {W : Type 0} (entries n : ℕ) (w : Option W) → admitted ent
 admitted_number entries n (Some reason) is = absurd (cc is)
 admitted_number entries n None is = cc is
 
--- an edit that enters gets the number behind those before
+-- an edit that enters gets the number after those before
 pub reply_number : {E C W : Type 0} (after : C → E → C) (why : C → E → Option W) (o : C) (limit n : ℕ) (js : List E) (e : E) → reply_at after why o limit js e ≡ Entered n → n ≡ length js + 1
 reply_number {E} {C} {W} after why o limit n js e is =
     elim (nat_le limit (length js)) as (λ b. (if b then JournalFull else admitted (length js) (why (fold after o js) e)) ≡ Entered n → n ≡ length js + 1) [ true ↦ λ p. absurd (cc p) | false ↦ λ p. admitted_number (length js) n (why (fold after o js) e) p ] is

@@ -12,13 +12,13 @@ entries_in [] = []
 entries_in (Entered e ∷ marks) = e ∷ entries_in marks
 entries_in (Cut ∷ marks) = entries_in marks
 
--- The entries behind the last cut, where these stand before the marks.
+-- The entries after the last cut, where these stand before the marks.
 abbrev pub behind : {E : Type 0} → List (Entry E) → List (Mark E) → List (Entry E)
 behind es [] = es
 behind es (Entered e ∷ marks) = behind (es ++ e ∷ []) marks
 behind es (Cut ∷ marks) = behind [] marks
 
--- The publications, where these entries stand before the marks. Entries behind the last cut are in none.
+-- The publications, where these entries stand before the marks. Entries after the last cut are in none.
 abbrev pub cut_at : {E : Type 0} → List (Entry E) → List (Mark E) → History (Entry E)
 cut_at es [] = []
 cut_at es (Entered e ∷ marks) = cut_at (es ++ e ∷ []) marks

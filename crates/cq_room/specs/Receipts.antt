@@ -10,7 +10,7 @@ use Rattle.cq_desk.specs.declared.reply.Reply.TheVariants.{Entered}
 use Rattle.cq_desk.specs.declared.reply.End.{End}
 use Rattle.cq_room.specs.Sessions.{SessionRecord}
 
--- These are the replies to the first of the edits, as many as there are replies, where they enter one after another behind the entries before. A room's name has one opening content.
+-- These are the replies to the first of the edits, as many as there are replies, where they enter in turn after the entries before. A room's name has one opening content.
 abbrev pub AreReplies : {E C W : Type 0} → (C → E → C) → (C → E → Option W) → List C → ℕ → List (Entry E) → List E → List (Reply W) → Type 0
 AreReplies {E} {C} after why opening limit before asked replies = (o : C) → opening ≡ o ∷ [] → replies ≡ replies_at after why o limit (journal_edits before) (take (length replies) asked)
 
@@ -35,7 +35,7 @@ pub record Heard {E : Type 0} (old new : SessionRecord E) (front : History (Entr
   pub one : (new.history ≡ old.history) ⊎ (new.history ≡ front)
   pub number : new.number ≡ old.number
 
--- The session knows then of some entries, which begin with all that it knew of and had seen, and behind them of the accepted edits under its number. The replies are those to the edits behind these entries.
+-- The session knows then of some entries, which begin with all that it knew of and had seen, and after them of the accepted edits under its number. The replies are those to the edits after these entries.
 pub record Enters {E C W : Type 0} (after : C → E → C) (why : C → E → Option W) (opening : List C) (limit : ℕ) (old new : SessionRecord E) (asked : List E) (replies : List (Reply W)) : Type 0 where
   pub before : List (Entry E)
   pub knew : IsPrefix old.known before
@@ -52,7 +52,7 @@ pub record IsReceipt {E C W : Type 0} (after : C → E → C) (why : C → E →
   pub tried : AreTried end asked told
   -- With a front, `before` begins with the entries that the session had seen.
   pub seen : IfSome shown (λ front. IsPrefix (edits_of old.history) (entered_before front asked told))
-  -- With a front, the replies are those to the edits behind `before`.
+  -- With a front, the replies are those to the edits after `before`.
   pub replies : IfSome shown (λ front. AreReplies after why opening limit (entered_before front asked told) asked told)
   -- With a front, its entries are `before`, and then the accepted edits under the session's number.
   pub last : IfSome shown (λ front. edits_of front ≡ entered_before front asked told ++ entries_by old.number (accepted asked told))
@@ -60,11 +60,11 @@ pub record IsReceipt {E C W : Type 0} (after : C → E → C) (why : C → E →
   pub publication : IfSome shown (λ front. StandsLast (entries_by old.number (accepted asked told)) front)
   -- With a front, each edit that was told a number is the entry of that number in it, under the session's number.
   pub numbered : IfSome shown (λ front. AreNumbered (edits_of front) old.number asked told)
-  -- Without a front, the replies are those to the edits behind some entries, which begin with those that the session had seen.
+  -- Without a front, the replies are those to the edits after some entries, which begin with those that the session had seen.
   pub unpublished : IfNone shown ((before : List (Entry E)) × IsPrefix (edits_of old.history) before × AreReplies after why opening limit before asked told)
   -- With a front, the session has heard it; without one, its number and its history are as they were.
   pub heard : MatchOption shown (new ≡ record old { known = new.known }) (λ front. Heard old new front)
-  -- Whatever the end, the session knows then of exactly the entries of its replies, behind all that it knew of and had seen.
+  -- Whatever the end, the session knows then of exactly the entries of its replies, after all that it knew of and had seen.
   pub entered : Enters after why opening limit old new asked told
   -- With a front, what the session knows of are the front's entries.
   pub known : IfSome shown (λ front. edits_of front ≡ new.known)

@@ -71,7 +71,7 @@ fn settle<L: Live, N: RoomName<L::Content>, R: Wait + Drop, A: Allocator + Copy>
     }
 }
 
-/// Ends the publication, if an entry stands behind the last one.
+/// Ends the publication, if an entry stands after the last one.
 fn end<L: Live, N: RoomName<L::Content>, R: Wait + Drop, A: Allocator + Copy>(
     copies: &mut Copies<Shown<L, N>, Step<L, N>, R, A>,
     waiting: &mut Option<Step<L, N>>,

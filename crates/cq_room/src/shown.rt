@@ -119,7 +119,7 @@ impl<L: Live, N: RoomName<L::Content>> Absorb<Step<L, N>> for Shown<L, N> {
                     self.trail = operation.trail.again();
                     Ok(())
                 }
-                // The working state has accepted it behind the same edits.
+                // The working state has accepted it after the same edits.
                 Ok(Some(_)) => Err(AllocError),
                 Err(_) => Err(AllocError),
             },

@@ -66,7 +66,7 @@ impl<L: Live, N: RoomName<L::Content>> Trail<L, N> {
         self.count
     }
 
-    /// How many entries stand behind the last publication.
+    /// How many entries stand after the last publication.
     pub(crate) fn fresh(&self) -> u64
         ensures { result ≡ length (fresh_in self.now) }
     {

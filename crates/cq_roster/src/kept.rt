@@ -40,7 +40,7 @@ pub fn place_of<A: Allocator + Copy>(kept: &Kept<A>, name: &Name<A>) -> Option<u
     }
 }
 
-/// Keeps a seat behind all others, or changes nothing that is seen.
+/// Keeps a seat after all others, or changes nothing that is seen.
 pub fn keep<A: Allocator + Copy>(
     kept: &mut Kept<A>,
     name: &Name<A>,

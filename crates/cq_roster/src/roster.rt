@@ -82,7 +82,7 @@ impl<A: Allocator + Copy> Roster<A> {
             .collect(*self.kept.numbers.allocator())
     }
 
-    /// Puts a seat with a copy of the name behind all others. The name and the place are new.
+    /// Puts a seat with a copy of the name after all others. The name and the place are new.
     /// Logarithmic expected time.
     ///
     /// # Errors

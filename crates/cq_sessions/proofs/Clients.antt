@@ -51,7 +51,7 @@ edits_by : {E : Type 0} (author : ℕ) (es : List E) → journal_edits (entries_
 edits_by author [] = refl
 edits_by {E} author (e ∷ es) = ap (λ (z : List E). e ∷ z) (edits_by author es)
 
--- the edits of entries with these of one author behind them
+-- the edits of entries with these of one author after them
 edits_with : {E : Type 0} (author : ℕ) (xs ys : List (Entry E)) (es : List E) → ys ≡ xs ++ entries_by author es → journal_edits ys ≡ journal_edits xs ++ es
 edits_with {E} author xs ys es is = ap journal_edits is ∙ (map-append (λ j. j.edit) xs (entries_by author es) ∙ ap (λ (z : List E). journal_edits xs ++ z) (edits_by author es))
 

@@ -1,4 +1,4 @@
--- Which fault of threads is told, of what they left one after another.
+-- Which fault of threads is reported, of what they left one after another.
 use Rattle.std.proofs.Common.{◌≡◌, ℕ, zero, suc, ◌<◌, ◌≤◌, ◌⊎◌, inl, inr, List, [], ◌∷◌, ◌++◌, Option, Some, None, refl, sym, ap, subst, ◌∙◌, arith}
 use Rattle.std.specs.Prelude.{Result, Ok, Err, IfSome}
 use Rattle.std.specs.List.{Contains}
@@ -60,7 +60,7 @@ module _ {D : Type 0} (missing : Type 0) where
       least None other that before front = absurd (before other front)
       least (Some f) other that before front = let less = before.first other front in omega (arith, that, less)
 
--- where no fault is told, no thread is missing
+-- where no fault is reported, no thread is missing
 pub none-missing : {D : Type 0} (lefts : List (Result D ServeFault)) (a b : ℕ) → IsFirstOf (a < b) lefts None → b ≤ a
 none-missing lefts a b none = elim (cases_order a b) [
   | inl same ↦ omega (arith, same)

@@ -32,7 +32,7 @@ AreReadFrom-snoc state [] (r ∷ front) line reading are is = absurd are
 AreReadFrom-snoc state (l ∷ lines) [] line reading are is = absurd are
 AreReadFrom-snoc state (l ∷ lines) (r ∷ front) line reading are is = (are.0, AreReadFrom-snoc (next state r) lines front line reading are.1 is)
 
--- the state behind lines of a setup
+-- the state after lines of a setup
 set_state : (state : State) (front : List Reading) (heading : Option Form) (setup : SetupRecord) → IsSetBy state front heading setup → state_after state front ≡ in_setup heading setup
 set_state state [] heading setup set = set
 set_state state (r ∷ front) heading setup set = set_state (next state r) front heading setup set.1

@@ -100,7 +100,7 @@ pub told-end : (numbers all : List ℕ) (left : List (Reply Why)) → length lef
 told-end numbers all [] none inv = sym (append-nil numbers) ∙ inv
 told-end numbers all (r ∷ left) none inv = absurd (omega (arith, none))
 
--- the numbers of a submit, and those of the lines behind it
+-- the numbers of a submit, and those of the lines after it
 numbers-on : (before : List ℕ) (asked : List Edit) (rs : List (Reply Why)) (behind : List (ℕ × Edit)) → length rs ≡ length asked → before ++ numbers_of (entered asked rs ++ behind) ≡ (before ++ told_in rs) ++ numbers_of behind
 numbers-on before asked rs behind e =
     ap (λ (ns : List ℕ). before ++ ns) (numbers-append (entered asked rs) behind ∙ ap (λ (ns : List ℕ). ns ++ numbers_of behind) (numbers-entered asked rs e)) ∙ sym (append_assoc before (told_in rs) (numbers_of behind))

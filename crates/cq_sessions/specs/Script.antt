@@ -42,7 +42,7 @@ form_line Two = line (codes "board 2")
 abbrev pub Sheet : Type 0
 Sheet = List (Option (List ℕ))
 
--- The replies of a file's lines, each behind these words and its line's number; the first line has this number.
+-- The replies of a file's lines, each after these words and its line's number; the first line has this number.
 abbrev pub replies_from : List ℕ → ℕ → Sheet → List ℕ
 replies_from words number [] = []
 replies_from words number (None ∷ sheet) = replies_from words (number + 1) sheet

@@ -26,7 +26,7 @@ use Rattle.cq_sessions.specs.Script.{Sheet, script_of}
 
 -- ---- a file
 
--- A submit of edits by a session that knows of these entries: others may stand behind them by then; the edits are answered one after another behind all those, and what the session knows of then is all of it with the accepted ones.
+-- A submit of edits by a session that knows of these entries: others may stand after them by then; the edits are answered in turn after all those, and what the session knows of then is all of it with the accepted ones.
 pub record Submitted (opening : PoolRecord) (limit : ℕ) (known known' asked : List Edit) (rs : List (Reply Why)) : Type 0 where
   pub before : List Edit
   pub seen : IsPrefix known before
@@ -69,7 +69,7 @@ pub record FileServed (form : Form) (opening : PoolRecord) (limit : ℕ) (known 
   pub are : AreReadIn form (lines_of file) lines
   pub served : Served opening limit lines known [] [] own sheet known'
 
--- Each file is served; what its session knows of before and behind it, and what it entered, stands at the file's place.
+-- Each file is served; what its session knows of before and after it, and what it entered, stands at the file's place.
 abbrev pub FilesServed : Form → PoolRecord → ℕ → List (List Edit) → List (List ℕ) → List (List (ℕ × Edit)) → List Sheet → List (List Edit) → Type 0
 FilesServed form opening limit [] [] [] [] [] = Unit {0}
 FilesServed form opening limit (known ∷ knowns) (file ∷ files) (own ∷ owns) (sheet ∷ sheets) (known' ∷ knowns') = FileServed form opening limit known file own sheet known' × FilesServed form opening limit knowns files owns sheets knowns'
@@ -91,7 +91,7 @@ abbrev pub BeginsBoard : List Reading → Type 0
 BeginsBoard [] = Unit {0}
 BeginsBoard (line ∷ lines) = is_of_setup line ≡ false
 
--- A reply, or none where nothing is told.
+-- A reply, or none where nothing is answered.
 abbrev pub told_or_none : List ℕ → Option (List ℕ)
 told_or_none [] = None
 told_or_none (byte ∷ bytes) = Some (byte ∷ bytes)
@@ -105,7 +105,7 @@ setup_sheet state (line ∷ lines) = told_or_none (reply state line) ∷ setup_s
 abbrev pub in_setup : Option Form → SetupRecord → State
 in_setup heading setup = record { lines = None; heading = heading; stage = stages.Setup setup }
 
--- The state behind lines of a setup is that of a replay.
+-- The state after lines of a setup is that of a replay.
 abbrev pub IsSetBy : State → List Reading → Option Form → SetupRecord → Type 0
 IsSetBy state [] heading setup = state ≡ in_setup heading setup
 IsSetBy state (line ∷ lines) heading setup = (is_of_setup line ≡ true) × IsSetBy (next state line) lines heading setup
@@ -114,7 +114,7 @@ IsSetBy state (line ∷ lines) heading setup = (is_of_setup line ≡ true) × Is
 abbrev pub pool_of : SetupRecord → PoolRecord
 pool_of setup = opening_pool setup.catalog setup.limits
 
--- SETUP is served: lines of a setup first, which settle the form, and all lines behind them, read in it, by session 0, which knows of no entry before.
+-- SETUP is served: lines of a setup first, which settle the form, and all lines after them, read in it, by session 0, which knows of no entry before.
 pub record SetupServed (file : List ℕ) (heading : Option Form) (setup : SetupRecord) (own : List (ℕ × Edit)) (sheet : Sheet) (known : List Edit) : Type 0 where
   pub first : List (List ℕ)
   pub rest : List (List ℕ)

@@ -36,7 +36,7 @@ pub(crate) enum ServeFault {
 }
 
 impl ServeFault {
-    /// How a room that was not begun or opened is told. There are as many sessions as files, so their number is right.
+    /// How a room that was not begun or opened is reported. There are as many sessions as files, so their number is right.
     pub(crate) fn of_room(fault: RoomFault) -> ServeFault {
         match fault {
             RoomFault::Places => ServeFault::Places,

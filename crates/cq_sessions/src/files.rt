@@ -132,7 +132,7 @@ fn serve_files<
     }
 }
 
-/// Serves what stands behind SETUP's setup, by the first of the clients.
+/// Serves what stands after SETUP's setup, by the first of the clients.
 fn serve_setup<C: Client<A>, A: Allocator + Copy>(
     alloc: A,
     form: Form,
@@ -293,7 +293,7 @@ where
     put
 }
 
-/// Puts what stands behind the entries: a publish and a look, and all replies.
+/// Puts what stands after the entries: a publish and a look, and all replies.
 fn put_behind<A: Allocator + Copy>(
     alloc: A,
     setup: &Sheet<A>,

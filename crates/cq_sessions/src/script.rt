@@ -166,7 +166,7 @@ fn reply_line<A: Allocator>(
     format!(in alloc; "# {words} line {line} {reply}")
 }
 
-/// Puts the reply to a line, where there is one, behind the line's number.
+/// Puts the reply to a line, where there is one, after the line's number.
 fn put_reply<A: Allocator + Copy>(
     alloc: A,
     words: &str,
@@ -182,7 +182,7 @@ fn put_reply<A: Allocator + Copy>(
     }
 }
 
-/// Puts the replies of a sheet, each behind its line's number.
+/// Puts the replies of a sheet, each after its line's number.
 pub(crate) fn put_replies<A: Allocator + Copy>(
     alloc: A,
     words: &str,

@@ -16,7 +16,7 @@ use cq_report::{fault_line, first_line, late_line, published_line, show_line};
 use cq_text::{Command, CommandKind, Form, TextFault, read_command};
 use std::alloc::{AllocError, Allocator};
 
-/// Takes down what a line is told.
+/// Takes down the answer to a line.
 fn tell<A: Allocator + Copy>(
     sheet: &mut Sheet<A>,
     text: Result<String<A>, AllocError>,

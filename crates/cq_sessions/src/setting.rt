@@ -16,7 +16,7 @@ use cq_report::{Setup, fault_line, first_line, form_of, headed};
 use cq_text::{Command, CommandKind, Form, Kind, SetupLine, TextFault, read_command};
 use std::alloc::Allocator;
 
-/// What the first lines of SETUP set, what they were answered, and what stands behind them.
+/// What the first lines of SETUP set, what they were answered, and what stands after them.
 #[derive(Drop)]
 pub(crate) struct Setting<'a, A: Allocator> {
     pub(crate) heading: Option<Form>,
@@ -118,7 +118,7 @@ fn end_of(bytes: &[u8]) -> &[u8]
     end
 }
 
-/// Answers the lines of the setup, and answers what stands behind them.
+/// Answers the lines of the setup, and answers what stands after them.
 fn set_all<'a, A: Allocator + Copy>(
     alloc: A,
     heading: &mut Option<Form>,

@@ -42,7 +42,7 @@ impl<A: Allocator> Model for Sheet<A> {
     ghost view = { λ s. record { replies = map (option_map string_bytes) s.replies.items; batch = map (line_map string_bytes) s.batch.items; asked = s.gathered.items; numbers = s.numbers.items } };
 }
 
-/// The reply to a line of a batch, and how many of the edits' replies are told with it.
+/// The reply to a line of a batch, and how many of the edits' replies go with it.
 fn fill<A: Allocator>(
     alloc: A,
     line: Line<String<A>>,

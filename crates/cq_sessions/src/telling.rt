@@ -10,7 +10,7 @@ use cq_atom::Edit;
 use cq_desk::Entry;
 use std::alloc::{AllocError, Allocator};
 
-/// What is left of a session's numbers after an entry: all where it is another's, and those behind the first where that is the
+/// What is left of a session's numbers after an entry: all where it is another's, and those after the first where that is the
 /// entry's. Else nothing.
 fn left_after<'a>(numbers: &'a [u64], own: bool, number: u64) -> Option<&'a [u64]>
     ensures { IfSome result (λ rest. numbers.now ≡ (if own then number ∷ rest.now else rest.now)) }
@@ -78,7 +78,7 @@ fn have_numbers<A: Allocator + Copy>(
     true
 }
 
-/// The numbers of SETUP's sheet, and behind them those of the first file.
+/// The numbers of SETUP's sheet, and after them those of the first file.
 fn first_numbers<A: Allocator + Copy>(
     alloc: A,
     setup: &Sheet<A>,

@@ -46,7 +46,7 @@ impl<J: Job> Child<J> {
     }
 }
 
-/// Starts a thread for each job; where one is not started, neither are the jobs behind it.
+/// Starts a thread for each job; where one is not started, neither are the jobs after it.
 fn start_all<'s, E: 's, J: Job + 's, A: Allocator>(
     scope: &Scope<'s, E>,
     jobs: Vec<J, A>,
@@ -97,7 +97,7 @@ fn run_in<'s, E: 's, J: Job + 's, T: Threads, A: Allocator + Copy>(
 }
 
 /// Runs each job in a thread of its own, waits for all of them, and answers what they left, in their order. Where a
-/// thread is not started, neither are those of the jobs behind it, and fewer are answered.
+/// thread is not started, neither are those of the jobs after it, and fewer are answered.
 pub(crate) fn run_all<J: Job, T: Threads + Wait + Sync, A: Allocator + Copy>(
     rt: &T,
     alloc: A,

@@ -23,7 +23,7 @@ fn choose(alloc: Global, choices: &mut Vec<Choice>, chosen: &[(&str, i64)]) -> R
     Ok(())
 }
 
-/// Whether these names, each with a grounding of one number, coordinate as told.
+/// Whether these names, each with a grounding of one number, coordinate as said.
 fn is_told(alloc: Global, board: &Board, chosen: &[(&str, i64)], wanted: bool) -> bool {
     let mut choices = Vec::new(alloc);
     let made = choose(alloc, &mut choices, chosen);
@@ -45,7 +45,7 @@ const CHOSEN: [Choosing; 7] = [
     (&[], true),
 ];
 
-/// The place of the first that is not told so.
+/// The place of the first that is not as said.
 fn other_choice(alloc: Global, board: &Board) -> Option<usize> {
     for place in 0..CHOSEN.len() {
         let (chosen, wanted) = CHOSEN[place];

@@ -11,7 +11,7 @@ fn laws() {
     pools_stay_good();
 }
 
-/// Edits of a board and of its copy, and behind them what is put into a travel board that shows the same as either.
+/// Edits of a board and of its copy, and after them what is put into a travel board that shows the same as either.
 #[derive(Clone, Copy)]
 struct Stage {
     name: &'static str,
@@ -66,7 +66,7 @@ fn is_travel(alloc: Global, board: &Board, then: &'static str) -> Result<bool, A
     shows(alloc, board, Setup { first, then })
 }
 
-/// Whether board and copy show behind the edits what they must.
+/// Whether board and copy show after the edits what they must.
 fn is_right(
     alloc: Global,
     board: &mut Board,

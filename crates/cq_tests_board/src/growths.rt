@@ -13,8 +13,8 @@ use cq_tests_growths::{Outcome, Refusing, Tried, refusals};
 use std::alloc::{AllocError, Allocator, Global};
 
 /// What stands before a call, and the call: `begin` or `scratch`, by which a board is begun or is made from scratch; `copy`; `show`,
-/// by which the board shows what stands behind; or an edit, behind which it shows what a board of the first lines and
-/// those behind does.
+/// by which the board shows what stands after; or an edit, after which it shows what a board of the first lines and
+/// those after does.
 #[derive(Clone, Copy)]
 struct Trial {
     setup: Setup,

@@ -231,7 +231,7 @@ fn change_five(
     seen.look(&twin.board)
 }
 
-/// Whether the board is kept under fifty edits, of which each fifth is looked behind.
+/// Whether the board is kept under fifty edits, of which each fifth is looked after.
 fn keep(
     alloc: Global,
     draws: &mut Draws,

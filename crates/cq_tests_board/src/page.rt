@@ -38,7 +38,7 @@ impl Page {
         let _ = write!(self, "{number}");
     }
 
-    /// Puts a space behind what is there.
+    /// Puts a space after what is there.
     pub fn space(&mut self) {
         if self.written > 0 {
             self.push(b' ');

@@ -9,8 +9,8 @@ use std::alloc::{AllocError, Global};
 use std::fmt::Write;
 
 /// How many queries may be pending on a board, the edits that are put into it, and the rows that follow. A row is an edit and,
-/// behind ` = `, what comes of it: `ok` or why it is refused; how many tests, visits and edges that lose their matched
-/// provider; and behind a colon the names that are matched after it.
+/// after ` = `, what comes of it: `ok` or why it is refused; how many tests, visits and edges that lose their matched
+/// provider; and after a colon the names that are matched after it.
 #[derive(Clone, Copy)]
 pub struct Worked {
     pub pool: usize,
@@ -205,7 +205,7 @@ fn is_right(alloc: Global, board: &mut Board, row: &str) -> Result<bool, AllocEr
     Ok(page.is(wanted))
 }
 
-/// The first row that does not go as told, behind the setup.
+/// The first row that does not go as said, after the setup.
 fn other_behind(
     alloc: Global,
     board: &mut Board,
@@ -220,7 +220,7 @@ fn other_behind(
     Ok(None)
 }
 
-/// The first row that does not go as told.
+/// The first row that does not go as said.
 pub fn other_row(alloc: Global, worked: Worked) -> Result<Option<&'static str>, AllocError> {
     let mut board = begun(alloc, worked.pool)?;
     let other = other_behind(alloc, &mut board, worked);

@@ -151,7 +151,7 @@ fn put_all<T: Worded, A: Allocator>(items: Iter<'_, T, A>, page: &mut Page) {
     }
 }
 
-/// Writes what a call told.
+/// Writes what a call reported.
 fn put_told<T: Worded + Drop, A: Allocator>(
     told: Result<Vec<T, A>, AllocError>,
     page: &mut Page,
@@ -274,7 +274,7 @@ fn look_of(words: &str) -> Option<Look<'_>> {
     }
 }
 
-/// The same of words behind the first of which something stands.
+/// The same of words after the first of which something stands.
 fn look_with(words: &str) -> Option<Look<'_>> {
     let (word, with) = words.split_once(' ')?;
     match word {
@@ -363,7 +363,7 @@ fn put_look<A: Allocator + Copy>(
     }
 }
 
-/// Whether the board answers to the look of the line, which stands before a colon, with the words behind it. A look of none is
+/// Whether the board answers to the look of the line, which stands before a colon, with the words after it. A look of none is
 /// out of memory.
 fn is_answer<A: Allocator + Copy>(
     alloc: A,

@@ -59,7 +59,7 @@ pub fn refusals<T: Tried>(alloc: Global) -> Result<u64, u64> {
         match (T::tried(&heap), heap.has_refused()) {
             (Outcome::Done, false) => return Ok(refused),
             (Outcome::Refused, true) => refused = refused.saturating_add(1),
-            // A refused move into a smaller block may be told to nobody.
+            // A refused move into a smaller block may be reported to nobody.
             (Outcome::Done | Outcome::Unready, true) => {}
             _ => return Err(left),
         }

@@ -23,7 +23,7 @@ pub fn ran<A: Allocator + Copy, D: Read + Drop, W: Write + Drop>(
 /// How a run ended, how many of the expected bytes were not written, and how often the writer was flushed.
 pub type Told = (Result<(), RunFault>, usize, u32);
 
-/// How all is told and flushed once.
+/// How all is reported and flushed once.
 pub const WELL: Told = (Ok(()), 0, 1);
 
 /// How the run of what the reader gives ends, over a writer that takes the expected bytes and no others.
@@ -48,7 +48,7 @@ pub fn told_of(alloc: Global, script: &[u8], most: usize, expected: &[u8]) -> To
     )
 }
 
-/// Whether the fault is told so.
+/// Whether the fault is reported so.
 pub fn is_told<F: Display>(alloc: Global, fault: &F, text: &str) -> bool {
     match format!(in alloc; "{fault}") {
         Ok(told) => told.as_str() == text,

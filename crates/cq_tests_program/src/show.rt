@@ -15,7 +15,7 @@ enum View {
     Json,
     /// Why each query waits that does.
     Explained,
-    /// What is told of the third query, of a word that names none, and of the first.
+    /// What is reported about the third query, of a word that names none, and of the first.
     Named,
 }
 

@@ -6,7 +6,7 @@ ghost use Rattle.cq_tests_room.specs.Tally.{full_of, pushed, full_keeps};
 use cq_desk::{Live, NoMemory};
 use std::alloc::{Allocator, Global};
 
-/// At most three bytes. An edit is a byte that comes behind them.
+/// At most three bytes. An edit is a byte that comes after them.
 #[derive(Drop)]
 pub struct Tally<A: Allocator = Global> {
     bytes: Vec<u8, A>,

@@ -1,5 +1,5 @@
 //! Tests of `cq_match`: worked graphs by calls, who falls and why, a ring and a chain of ten thousand nodes, and each growth
-//! refused in turn. A matcher is tested behind one that looks by itself whether a call is allowed
+//! refused in turn. A matcher is tested after one that looks by itself whether a call is allowed
 //! (`guarded`), and beside plain lists of what it must have (`twin`, `listed`). Larger graphs are boards, which stand in
 //! the cases. Nothing but tests is here, and no crate stands on this one.
 

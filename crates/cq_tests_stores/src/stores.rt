@@ -98,7 +98,7 @@ pub fn other_case<A: Allocator + Copy, S: Store<A>>(
     Ok(None)
 }
 
-/// A call whose growths are refused, and calls that show what stands: before it and where it was refused, and behind it.
+/// A call whose growths are refused, and calls that show what stands: before it and where it was refused, and after it.
 pub struct Trial<'t, C> {
     pub before: &'t [&'t [C]],
     pub tried: C,
@@ -106,8 +106,8 @@ pub struct Trial<'t, C> {
     pub after: &'t [&'t [C]],
 }
 
-/// What came of the call. Behind one that was refused all stands as before, and the call made again is right. What is
-/// refused behind the call is no refusal of it.
+/// What came of the call. After one that was refused all stands as before, and the call made again is right. What is
+/// refused after the call is no refusal of it.
 fn outcome<A: Allocator + Copy, S: Store<A>>(
     alloc: A,
     store: &mut S,

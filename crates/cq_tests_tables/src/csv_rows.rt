@@ -224,7 +224,7 @@ fn is_worked<A: Allocator>(values: &[Value<A>]) -> bool {
     }
 }
 
-/// How many growths of reading the worked text can be refused, each of which is told as out of memory, and the text
+/// How many growths of reading the worked text can be refused, each of which is reported as out of memory, and the text
 /// then is read.
 fn refusals(heap: Global) -> Option<u64> {
     for left in 0..64 {

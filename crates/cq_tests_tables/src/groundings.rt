@@ -76,7 +76,7 @@ fn has(alloc: Global, found: &Groundings, text: &str) -> Option<bool> {
     }
 }
 
-/// The first of the texts whose row is a grounding where it is told to be none, or the other way round.
+/// The first of the texts whose row is a grounding where it is said to be none, or the other way round.
 fn other_grounding(
     alloc: Global,
     found: &Groundings,

@@ -55,7 +55,7 @@ fn are_worked(alloc: Global, tables: &Tables) -> bool {
         && tables.rows_of("Trains").is_none()
 }
 
-/// The first of the texts whose row is there where it is told not to be, or the other way round.
+/// The first of the texts whose row is there where it is said not to be, or the other way round.
 fn other_there(
     alloc: Global,
     tables: &Tables,

@@ -111,7 +111,7 @@ fn unified(
 /// Terms of an atom of `R`, a relation, terms of an atom of it, and whether the two atoms unify.
 type Pair<'s> = (&'s [Sample], &'s str, &'s [Sample], bool);
 
-/// The first of the pairs that is told otherwise.
+/// The first of the pairs that is said otherwise.
 fn other_unified(alloc: Global, pairs: &[Pair], meter: &mut Meter) -> Option<usize> {
     for (place, (terms, relation, others, wanted)) in pairs.iter().enumerate() {
         if unified(alloc, ("R", terms), (relation, others), meter) != Ok(*wanted) {

@@ -77,7 +77,7 @@ GivesItem r x more ts = (b : Ahead) × (r ≡ Ok (x, more, b)) × (ahead b ≡ t
 abbrev pub GivesList : {A : Type 0} → Result (List A × Ahead) TextFault → List A → List TokenContent → Type 0
 GivesList r xs ts = (b : Ahead) × (r ≡ Ok (xs, b)) × (ahead b ≡ ts)
 
--- an item is read again, and the last one where these tokens stand behind it and those are left
+-- an item is read again, and the last one where these tokens stand after it and those are left
 record ReadsUpTo {A : Type 0} (P : List TokenContent → A → Type 0) (Q : A → Type 0) (item : Item A) (done rest : List TokenContent) : Type 0 where
   pub more : (a : Ahead) (front ts : List TokenContent) (x : A) → ahead a ≡ front ++ (Mark Comma ∷ ts) → P front x → AreShort front → Q x → GivesItem (item true a) x true ts
   pub last : (a : Ahead) (front : List TokenContent) (x : A) → ahead a ≡ front ++ done → P front x → AreShort front → Q x → GivesItem (item true a) x false rest
@@ -119,7 +119,7 @@ abbrev Closable : Close → Type 0
 Closable (By s) = IsClose s
 Closable End = Unit {0}
 
--- what is left behind what closes
+-- what is left after what closes
 abbrev left_by : Close → List TokenContent → List TokenContent
 left_by (By s) ts = ts
 left_by End ts = []
@@ -278,7 +278,7 @@ limits_again a m n e some few more fewer =
 
 -- ---- atoms in lists
 
--- an atom is read again, whatever stands behind it that shows whether more come
+-- an atom is read again, whatever stands after it that shows whether more come
 atom_with : (form : Form) → (close : Close) (a : Ahead) (front next : List TokenContent) (x : AtomRecord) (more : Bool) (ts : List TokenContent) → ((c : Ahead) → ahead c ≡ next → (b : Ahead) × (goes_on_at close c ≡ Ok (more, b)) × (ahead b ≡ ts))
     → ahead a ≡ front ++ next → IsAtomText front x → AreShort front → FewTerms form x → GivesItem (atom_at form close true a) x more ts
 unfolding atom_at

@@ -73,7 +73,7 @@ or_right false b e = e
 same_name : (x : List ℕ) → bytes_eq x x ≡ true
 same_name x = (slice_eq-Decides Decides-eqb x x (bytes_eq x x) refl).1 refl
 
--- what an atom binds, more atoms before it and behind it bind
+-- what an atom binds, more atoms before it and after it bind
 in_terms : (front ts : List TermContent) (x : List ℕ) → list_any (is_variable x) (front ++ (Variable x ∷ ts)) ≡ true
 in_terms [] ts x = rw (same_name x) refl
 in_terms (t ∷ front) ts x = or_right (is_variable x t) (list_any (is_variable x) (front ++ (Variable x ∷ ts))) (in_terms front ts x)

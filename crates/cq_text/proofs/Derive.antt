@@ -229,7 +229,7 @@ row_expected ts (row, (inner, e, u, sep)) =
       (Mark OpenParen ∷ [], inner ++ (Mark CloseParen ∷ []), refl, refl, (s.0, s.1, s.3, (s.2, s.4), Expects-one values_end s.1 s.5)),
     )
 
--- the symbols behind a command word
+-- the symbols after a command word
 behind_word : (k : CommandWord) (t : TokenContent) (ts rest : List TokenContent) → t ∷ ts ≡ Word (bytes_of k) ∷ rest → Some (after_command k) ≡ first_command (Word (bytes_of k)) → Expects (after_command k) rest → Leaves command t ts
 behind_word k t ts rest e is q =
     let d : t ≡ Word (bytes_of k) = cc in
@@ -544,7 +544,7 @@ take_first x ss t r e = by_end (is_nullable x && is_finish t) refl
     by_end true h = absurd (no_finish x t h e)
     by_end false h = ap (option_map (λ w. w ++ ss)) e
 
--- nothing is expected behind a symbol that stands for nothing
+-- nothing is expected after a symbol that stands for nothing
 pub nothing_after : (x : Symbol) (ss : List Symbol) → Holds (is_nullable x) → OnlyLast (is_last x) ss → ss ≡ []
 nothing_after body_end ss h o = o
 nothing_after body ss h o = o

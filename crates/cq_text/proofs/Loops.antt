@@ -114,7 +114,7 @@ begins item most front k a e f = rw (e, f) (let h : most - 0 ≡ most = omega ar
 
 -- ---- reading up to the end
 
--- nothing is behind the end
+-- nothing is after the end
 finish_last : (a : Ahead) (l : LexemeContent) (b : Ahead) → next_at a ≡ Ok (l, b) → is_finish l.token ≡ true → b.lexemes ≡ []
 unfolding next_at
 finish_last a l b e f = over a.lexemes e

@@ -35,7 +35,7 @@ pub data Symbol : Type 0 where
   body : Symbol
   command : Symbol
 
--- behind an atom's relation
+-- after an atom's relation
 abbrev pub atom_symbols : List Symbol
 atom_symbols = mark OpenParen ∷ term ∷ terms_end ∷ []
 
@@ -139,7 +139,7 @@ take_token (x ∷ ss) t = cond (is_nullable x && is_finish t) (Some ss) (option_
 
 -- ---- what the symbols stand for
 
--- items with a comma between two, and a sign behind them
+-- items with a comma between two, and a sign after them
 abbrev pub Closed : {A : Type 0} → (List TokenContent → A → Type 0) → Sign → List TokenContent → Type 0
 Closed {A} P close ts = (inner : List TokenContent) × (xs : List A) × (ts ≡ inner ++ (Mark close ∷ [])) × Separated P inner xs
 
@@ -231,7 +231,7 @@ left_atom (Literal v) = tt
 left_atom (Bad kind) = tt
 left_atom Finish = tt
 
--- an atom, and what stands behind it
+-- an atom, and what stands after it
 left_behind : (b : Bool) (x : Symbol) (o : Option (List Symbol)) → IfLeft false o → ((r : List Symbol) → Left false r → Left b (r ++ (x ∷ []))) → IfLeft b (option_map (λ r. r ++ (x ∷ [])) o)
 left_behind b x None h k = tt
 left_behind b x (Some r) h k = k r h

@@ -1,4 +1,4 @@
--- What stands behind a name that was read.
+-- What stands after a name that was read.
 use Rattle.std.proofs.Common.{◌≡◌, ℕ, Bool, true, List, Ok, refl, sym, ap, ◌∙◌, Result, Err}
 use Rattle.cq_atom.specs.Atom.{TermContent, AtomRecord}
 use Rattle.cq_atom.specs.Query.{QueryRecord}

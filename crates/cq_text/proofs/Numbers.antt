@@ -19,7 +19,7 @@ grows : (n : ℕ) (ds : List ℕ) → n ≤ fold next n ds
 grows n [] = omega arith
 grows n (d ∷ ds) = let h = grows (next n d) ds in omega arith
 
--- the digits behind only make it greater
+-- the digits after only make it greater
 pub magnitude-grows : (i : ℕ) (ds : List ℕ) → magnitude (take i ds) ≤ magnitude ds
 magnitude-grows i ds = let h = grows (magnitude (take i ds)) (drop i ds) in omega (arith, fold-append next 0 (take i ds) (drop i ds), ap magnitude (take-append-drop i ds))
 

@@ -17,7 +17,7 @@ module _ {X : Type 0} (f : X → List ℕ) where
       append_assoc (f x ++ flat_map (λ y. codes ", " ++ f y) (take i xs)) (codes ", ") (f (get_or xs i d)) ∙ flat_map_more (λ y. codes ", " ++ f y) (f x) (take i xs) (get_or xs i d)
       ∙ ap (λ l. f x ++ flat_map (λ y. codes ", " ++ f y) l) (sym (take-suc xs i d (omega arith)))
 
-  -- one item more behind the bytes that were there at the start
+  -- one item more after the bytes that were there at the start
   pub item_more : (xs : List X) (i : ℕ) (x : X) (start old between new : List ℕ) → i < length xs → x ≡ get_or xs i x → old ≡ start ++ join_by f (codes ", ") (take i xs) → between ≡ old ++ separator_at i → new ≡ between ++ f x
       → new ≡ start ++ join_by f (codes ", ") (take (i + 1) xs)
   unfolding join

@@ -53,7 +53,7 @@ run_taken t i (b ∷ bs) = by_case (is_verbatim b) refl (run_taken (t ++ (b ∷ 
         ap (λ (k : ℕ). with_text t k (content (b ∷ bs))) sum ∙ ap (λ (l : List ℕ). with_text l (i + 0) (content (b ∷ bs))) (sym (append-nil t))
         ∙ ap (λ (k : ℕ). with_text (t ++ take k (b ∷ bs)) (i + k) (content (drop k (b ∷ bs)))) (sym len)
 
--- behind a run none begins
+-- after a run none begins
 pub run_ends : (bs : List ℕ) → run (drop (run bs) bs) ≡ 0
 run_ends [] = refl
 run_ends (b ∷ bs) = by_case (is_verbatim b) refl (run_ends bs)
@@ -155,7 +155,7 @@ pending_put t s at seen n bs le e =
     ∙ ap (λ (l : List ℕ). with_pending t at seen bs ++ take n l) (drop-drop (seen - at) at bs ∙ ap (λ (k : ℕ). drop k bs) place)
     ∙ ap (λ (k : ℕ). with_pending t at seen bs ++ take k (drop seen bs)) size
 
--- behind an escape its second byte is pending
+-- after an escape its second byte is pending
 pub escape_pending : (t : List ℕ) (end : ℕ) (bs : List ℕ) (c : ℕ) → escaped_byte (drop end bs) ≡ Some c → with_pending t (end + 1) (end + 2) bs ≡ t ++ (c ∷ [])
 escape_pending t end bs c e =
     let one : end + 2 - (end + 1) ≡ 1 = omega arith in

@@ -73,11 +73,11 @@ meet form ss p t at r = on_token (take_token ss t) (is_over form p t) at (λ rs.
 abbrev place : ℕ → ℕ → Option ℕ → Place
 place c d m = record { commas = c; atoms = d; most = m }
 
--- room for a term behind so many commas
+-- room for a term after so many commas
 abbrev Low : Form → ℕ → Type 0
 Low form c = nat_le (most_terms form) c ≡ false
 
--- room for an atom behind so many
+-- room for an atom after so many
 abbrev Few : Form → ℕ → Type 0
 Few form d = nat_le (most_atoms form) d ≡ false
 
@@ -276,7 +276,7 @@ meet_in_list form item again x close ss p t at r false true f apart e g =
     (sym (is_sign-true close t g)) (rw (list_not_nullable item again x close f apart, f (Mark close), apart, is_sign-same close) refl)
 meet_in_list form item again x close ss p t at r false false f apart e g = rw (list_not_nullable item again x close f apart, f t, e, g) refl
 
--- behind an item
+-- after an item
 run_in_list : (form : Form) → (item again x : Symbol) (close : Sign) (ss : List Symbol) (p next done : Place) (a : Ahead)
     → ((u : TokenContent) → first x u ≡ first_in_list item again close u) → is_sign Comma (Mark close) ≡ false → behind_token form p (Mark Comma) ≡ next → behind_token form p (Mark close) ≡ done
     → run form (x ∷ ss) p a ≡ (goes_on_at (By close) a >>= λ m. cond m.0 (run form (item ∷ again ∷ ss) next m.1) (run form ss done m.1))
@@ -332,7 +332,7 @@ run_terms : (form : Form) → (ss : List Symbol) (d : ℕ) (a : Ahead) → Few f
 unfolding terms_at
 run_terms form ss d a q = run_listed form term_at (most_terms form) (term ∷ terms_end ∷ ss) ss (λ j. place j d None) (place 0 (d + 1) None) (most_terms form) 0 a (terms_run form ss d q) (omega arith)
 
--- what stands behind a relation's name
+-- what stands after a relation's name
 run_applied : (form : Form) → (ss : List Symbol) (c d : ℕ) (m : Option ℕ) (w : List ℕ) (a : Ahead) → Few form d → run form (mark OpenParen ∷ term ∷ terms_end ∷ ss) (place c d m) a ≡ (applied_at form w a >>= λ x. run form ss (place 0 (d + 1) None) x.1)
 unfolding applied_at
 run_applied form ss c d m w a q =
@@ -425,12 +425,12 @@ meet_ninth_atom form ss c (Literal v) at r = refl
 meet_ninth_atom form ss c (Bad kind) at r = refl
 meet_ninth_atom form ss c Finish at r = refl
 
--- where the atom after j others begins: behind a comma, but for the first
+-- where the atom after j others begins: after a comma, but for the first
 abbrev atom_begins : ℕ → Place
 atom_begins zero = opening
 atom_begins (suc j) = place 1 (suc j) None
 
--- what closes atoms: counts begin anew behind it
+-- what closes atoms: counts begin anew after it
 record Closes (form : Form) (x : Symbol) (close : Close) (ss : List Symbol) : Type 0 where
   pub behind : (d : ℕ) (next : Place) (a : Ahead) → place 1 (d + 1) None ≡ next → run form (x ∷ ss) (place 0 (d + 1) None) a ≡ (goes_on_at close a >>= λ m. cond m.0 (run form (atom ∷ x ∷ ss) next m.1) (run form ss opening m.1))
 
@@ -554,7 +554,7 @@ body_ends : (form : Form) → (a : Ahead) → (atoms_if_any_at form End a >>= λ
 unfolding scan
 body_ends form a = bind_ok_same (atoms_if_any_at form End a) _ _ (λ r e. rw (atoms_to_end form a r e) refl)
 
--- the parts of a query, and what is ahead behind its brace
+-- the parts of a query, and what is ahead after its brace
 abbrev pub QueryParts : Type 0
 QueryParts = List AtomRecord × List AtomRecord × List AtomRecord × Ahead
 

@@ -110,7 +110,7 @@ end_ok a b e =
     let g = guard_ok (is_finish p.0.0.token) Shape p.0.0.at p.0.1 b p.2 in
     next_end a p.0.0 p.0.1 p.1 g.0
 
--- what stands behind a list, and behind its items
+-- what stands after a list, and after its items
 abbrev pub closing : Close → List TokenContent → List TokenContent
 closing (By s) ts = Mark s ∷ ts
 closing End ts = []
@@ -220,7 +220,7 @@ term_in_ok Finish at x e = absurd (never_ok Shape at x e)
 
 -- ---- lists
 
--- an item that was read, with what stands behind it
+-- an item that was read, with what stands after it
 pub record ItemRead {A : Type 0} (P : List TokenContent → A → Type 0) (Q : A → Type 0) (close : Close) (a : Ahead) (i : A × Bool × Ahead) : Type 0 where
   pub front : List TokenContent
   pub parts : ahead a ≡ front ++ after close i.1 (ahead i.2)
@@ -676,7 +676,7 @@ show_read form l a c is e =
 whole_ok : (form : Form) → (ls : List LexemeContent) (r : Result CommandContent TextFault) (p : Parts) → ((c : CommandContent) → r ≡ Ok c → WholeRead form ls c) → whole_parts r ≡ Ok p → PartsRead form ls p
 whole_ok form ls r p read e = let c = bind_ok r (λ c. Ok (whole c)) p e in subst (λ (z : Parts). PartsRead form ls z) (ok_is (whole c.0) p c.2) (read c.0 c.1)
 
--- what stands behind a command word
+-- what stands after a command word
 parts_of_ok : (form : Form) → (word : CommandWord) (l : LexemeContent) (a : Ahead) (p : Parts) → l.token ≡ Word (bytes_of word) → parts_of form word a ≡ Ok p → PartsRead form (l ∷ a.lexemes) p
 parts_of_ok form words.Relation l a p is e = whole_ok form (l ∷ a.lexemes) (relation_at form a) p (λ c h. relation_read form l a c is h) e
 parts_of_ok form words.Board l a p is e = whole_ok form (l ∷ a.lexemes) (board_at a) p (λ c h. board_read form l a c is h) e

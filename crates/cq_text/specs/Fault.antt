@@ -62,7 +62,7 @@ is_out_of_range (Some most) (Number n) = not (nat_le 1 (count_of n) && nat_le (c
 is_out_of_range (Some most) (Text t) = false
 
 module _ (form : Form) where
-  -- The numbers behind these words are counts with a range.
+  -- The numbers after these words are counts with a range.
   abbrev pub most_behind : List ℕ → Option ℕ → Option ℕ
   most_behind w most = if bytes_eq w (codes "relation") then Some (most_terms form) else (if bytes_eq w (codes "limits") then Some max_count else (if bytes_eq w (codes "board") then Some max_form else most))
 
@@ -104,7 +104,7 @@ module _ (form : Form) where
 
 -- ---- unbound variables
 
--- Behind a query's brace a lower-case identifier is a variable: whether the body lacks it.
+-- After a query's brace a lower-case identifier is a variable: whether the body lacks it.
 abbrev pub is_unbound : List AtomRecord → TokenContent → Bool
 is_unbound body (Word w) = begins_with_lower w && not (is_bound body (Variable w))
 is_unbound body _ = false
@@ -118,7 +118,7 @@ abbrev pub is_brace : TokenContent → Bool
 is_brace (Mark OpenBrace) = true
 is_brace _ = false
 
--- The lexemes behind the first opening brace.
+-- The lexemes after the first opening brace.
 abbrev pub behind_brace : List LexemeContent → List LexemeContent
 behind_brace [] = []
 behind_brace (l ∷ ls) = if is_brace l.token then ls else behind_brace ls

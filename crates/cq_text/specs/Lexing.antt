@@ -33,7 +33,7 @@ is_plain (d ∷ e ∷ ds) = nat_lt 48 d
 abbrev pub positive : List ℕ → TokenContent
 positive ds = if is_plain ds && nat_lt (magnitude ds) (2 ^ 63) then Literal (Number (pos (magnitude ds))) else Bad kinds.Number
 
--- Digits behind a minus, from 1 to 2^63.
+-- Digits after a minus, from 1 to 2^63.
 abbrev pub negative : List ℕ → TokenContent
 negative ds = if is_plain ds && nat_lt 0 (magnitude ds) && nat_le (magnitude ds) (2 ^ 63) then Literal (Number (neg_ℤ (pos (magnitude ds)))) else Bad kinds.Number
 
@@ -42,7 +42,7 @@ abbrev pub behind : ℕ → ℕ → Option (List ℕ × ℕ) → Option (List �
 behind b n None = None
 behind b n (Some c) = Some (b ∷ c.0, n + c.1)
 
--- What the bytes behind an opening quote stand for up to the closing quote, and how many they are with it;
+-- What the bytes after an opening quote stand for up to the closing quote, and how many they are with it;
 -- nothing where no quote closes them, or a backslash stands before anything but a quote or a backslash.
 unfoldable pub content : List ℕ → Option (List ℕ × ℕ)
 content [] = None
@@ -61,11 +61,11 @@ word_token b bs = let n = prefix_len is_word_byte bs in (Word (b ∷ take n bs),
 abbrev pub positive_token : ℕ → List ℕ → TokenContent × ℕ
 positive_token b bs = let n = prefix_len is_ascii_digit bs in (positive (b ∷ take n bs), n + 1)
 
--- A number behind its minus.
+-- A number after its minus.
 abbrev pub negative_token : List ℕ → TokenContent × ℕ
 negative_token bs = let n = prefix_len is_ascii_digit bs in if n == 0 then (Bad kinds.Token, 1) else (negative (take n bs), n + 1)
 
--- An arrow behind its `<`.
+-- An arrow after its `<`.
 abbrev pub arrow_token : List ℕ → TokenContent × ℕ
 arrow_token [] = (Bad kinds.Token, 1)
 arrow_token (b ∷ bs) = if b == 45 then (Mark Arrow, 2) else (Bad kinds.Token, 1)

@@ -63,7 +63,7 @@ printed_values values = codes "(" ++ join_by printed_value (codes ", ") values +
 abbrev pub printed_atoms : List AtomRecord → List ℕ
 printed_atoms atoms = join_by printed_atom (codes ", ") atoms
 
--- The atoms behind a space, or nothing where there are none.
+-- The atoms after a space, or nothing where there are none.
 abbrev pub printed_body : List AtomRecord → List ℕ
 printed_body [] = []
 printed_body (a ∷ rest) = codes " " ++ printed_atoms (a ∷ rest)

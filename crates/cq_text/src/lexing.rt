@@ -105,7 +105,7 @@ pub(crate) fn positive(digits: &[u8]) -> Option<i64>
     number_of(digits, magnitude)
 }
 
-/// The number that digits are behind a minus, where it is a good one.
+/// The number that digits are after a minus, where it is a good one.
 pub(crate) fn negative(digits: &[u8]) -> Option<i64>
     ensures { number_or_bad result ≡ negative digits.now }
 {
@@ -169,7 +169,7 @@ pub(crate) fn front_number(bytes: &[u8]) -> Option<(i64, usize)>
     Some((number, len))
 }
 
-/// The number whose digits stand behind a minus.
+/// The number whose digits stand after a minus.
 fn negative_token<'a, A: Allocator>(bytes: &[u8]) -> (TextToken<'a, A>, usize)
     ensures token { negative_token bytes.now ≡ (result.0, result.1) }
     ensures within { (0 < result.1) × (result.1 ≤ length bytes.now + 1) }
@@ -181,7 +181,7 @@ fn negative_token<'a, A: Allocator>(bytes: &[u8]) -> (TextToken<'a, A>, usize)
     (number_token(negative(&bytes[..len])), len + 1)
 }
 
-/// The arrow whose rest stands behind `<`.
+/// The arrow whose rest stands after `<`.
 fn arrow_token<'a, A: Allocator>(bytes: &[u8]) -> (TextToken<'a, A>, usize)
     ensures token { arrow_token bytes.now ≡ (result.0, result.1) }
     ensures within { (0 < result.1) × (result.1 ≤ length bytes.now + 1) }

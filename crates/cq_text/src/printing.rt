@@ -30,7 +30,7 @@ fn push_character<A: Allocator>(printed: &mut String<A>, character: char) -> Res
     Ok(())
 }
 
-/// Puts a text behind what is there, as it stands between quotes: with a backslash before each of its quotes and backslashes.
+/// Puts a text after what is there, as it stands between quotes: with a backslash before each of its quotes and backslashes.
 /// In proportion to the text.
 ///
 /// # Errors
@@ -181,7 +181,7 @@ fn push_row<A: Allocator>(printed: &mut String<A>, row: &Row<A>) -> Result<(), A
     Ok(())
 }
 
-/// The query as a text, `{posts} heads <- body`, with nothing behind the arrow where the body is
+/// The query as a text, `{posts} heads <- body`, with nothing after the arrow where the body is
 /// empty. The grammar gives the same query for that text.
 ///
 /// # Errors

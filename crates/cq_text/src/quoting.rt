@@ -50,8 +50,8 @@ fn escaped_byte(bytes: &[u8]) -> Option<u8>
     }
 }
 
-/// What the bytes behind an opening quote stand for, and how many they are with the closing quote. A byte behind
-/// a backslash is put with the run behind it.
+/// What the bytes after an opening quote stand for, and how many they are with the closing quote. A byte after
+/// a backslash is put with the run after it.
 fn content<A: Allocator>(alloc: A, bytes: &[u8]) -> Result<Option<(Vec<u8, A>, usize)>, AllocError>
     ensures content { IfOk result (λ found. option_map (λ x. (x.0.items, x.1)) found ≡ content bytes.now) }
     ensures within { IfOk result (λ found. MatchOption found (Unit {0}) (λ x. x.1 ≤ length bytes.now)) }
@@ -89,7 +89,7 @@ pub(crate) fn text_of<A: Allocator>(alloc: A, bytes: &[u8]) -> Result<Option<Val
     }
 }
 
-/// The token of the quoted text whose bytes stand behind its opening quote.
+/// The token of the quoted text whose bytes stand after its opening quote.
 pub(crate) fn quoted_token<'a, A: Allocator + Copy>(
     alloc: A,
     bytes: &[u8],

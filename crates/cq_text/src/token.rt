@@ -15,7 +15,7 @@ pub(crate) enum Sign {
     Arrow,
 }
 
-/// What stands behind the last item of a list.
+/// What stands after the last item of a list.
 #[derive(Clone, Copy)]
 pub(crate) enum Close {
     /// That sign.

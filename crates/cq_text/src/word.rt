@@ -38,7 +38,7 @@ fn is_word_byte(byte: u8) -> bool
     }
 }
 
-/// How many bytes at the front may stand behind an identifier's letter.
+/// How many bytes at the front may stand after an identifier's letter.
 pub(crate) fn word_len(bytes: &[u8]) -> usize
     ensures len { result ≡ prefix_len is_word_byte bytes.now }
     ensures within { result ≤ length bytes.now }

@@ -3,7 +3,7 @@ use Rattle.std.specs.Prelude.{ℕ, Bool, false, ◌==◌, List, [], ◌∷◌, �
 use Rattle.cq_cli.specs.declared.choices.Place.{Place}
 use Rattle.cq_cli.specs.declared.choices.Place.TheVariants.{Outside, Inside, Escaped}
 
--- Where a reader stands behind a further byte.
+-- Where a reader stands after a further byte.
 abbrev pub place_behind : Place → ℕ → Place
 place_behind Outside b = if b == 34 then Inside else Outside
 place_behind Inside b = if b == 34 then Outside else (if b == 92 then Escaped else Inside)

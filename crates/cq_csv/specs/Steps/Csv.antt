@@ -33,7 +33,7 @@ pub record IsAtStart (reader : BytesReader) : Type 0 where
   pub source : source_of bytes_of reader ≡ Some (text_left reader)
   pub state : reader_state reader ≡ st.StartRecord
 
--- The reader stands behind these records of the text.
+-- The reader stands after these records of the text.
 pub record IsBehind (text : List ℕ) (read : List CsvRecord) (reader : BytesReader) : Type 0 where
   pub plain : IsPlain reader
   pub rest : List ℕ

@@ -18,7 +18,7 @@ abbrev pub IsOnce : List Edge → Type 0
 IsOnce [] = ⊤
 IsOnce (edge ∷ edges) = (Contains edges edge → ⊥) × IsOnce edges
 
--- Behind the old edges stand those with the property, each once.
+-- After the old edges stand those with the property, each once.
 pub record Adds (P : Edge → Type 0) (old new : List Edge) : Type 0 where
   pub added : List Edge
   pub behind : new ≡ old ++ added
@@ -29,7 +29,7 @@ pub record Adds (P : Edge → Type 0) (old new : List Edge) : Type 0 where
 abbrev pub IsAnswer : (ℕ → Edge) → AtomMap → AtomRecord → Edge → Type 0
 IsAnswer make index given edge = (key : ℕ) × (edge ≡ make key) × IsPartnerAt index given key
 
--- Behind the old edges stand those between the given atom and the atoms of the index that unify with it, each once.
+-- After the old edges stand those between the given atom and the atoms of the index that unify with it, each once.
 abbrev pub Answers : (ℕ → Edge) → AtomMap → AtomRecord → List Edge → List Edge → Type 0
 Answers make index given old new = Adds (IsAnswer make index given) old new
 
@@ -37,7 +37,7 @@ Answers make index given old new = Adds (IsAnswer make index given) old new
 abbrev pub IsAnswerTo : (ℕ → ℕ → Edge) → AtomMap → List AtomRecord → Edge → Type 0
 IsAnswerTo make index atoms edge = (number : ℕ) × (given : AtomRecord) × (slice_get atoms number ≡ Some given) × IsAnswer (make number) index given edge
 
--- Behind the old edges stand those between one of the atoms and the atoms of the index that unify with it, each once.
+-- After the old edges stand those between one of the atoms and the atoms of the index that unify with it, each once.
 abbrev pub AnswersAll : (ℕ → ℕ → Edge) → AtomMap → List AtomRecord → List Edge → List Edge → Type 0
 AnswersAll make index atoms old new = Adds (IsAnswerTo make index atoms) old new
 

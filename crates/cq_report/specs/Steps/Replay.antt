@@ -1,4 +1,4 @@
--- What a replay leaves behind, from the state that it began in.
+-- What a replay leaves after, from the state that it began in.
 use Rattle.std.specs.Prelude.{◌≡◌, ◌≤◌, ℕ, List, [], ◌++◌, length, Option}
 use Rattle.std.specs.Io.KnownBytes.{Consumes, IsAtEnd}
 use Rattle.cq_devices.specs.Limits.{max_piece}
@@ -30,7 +30,7 @@ pub record Ended {W A : Type 0} (taken : W → Option (List ℕ)) (failures : W 
   pub read : Consumes left left' bytes
   pub stopped : Stopped taken failures first opening now bytes fault
 
--- Bytes were read; memory was wanting while the last piece of them was served.
+-- Bytes were read; memory ran out while the last piece of them was served.
 pub record RanOut {W A : Type 0} (taken : W → Option (List ℕ)) (failures : W → ℕ) (opening : State) (left left' : Option (List ℕ)) (first now : Output W A) : Type 0 where
   pub bytes : List ℕ
   pub piece : List ℕ

@@ -18,7 +18,7 @@ abbrev pub ended : List (List ℕ) → List ℕ
 ended [] = []
 ended (line ∷ lines) = line ++ (10 ∷ ended lines)
 
--- However the lines are read: the state is the one behind them, and the replies to them were put.
+-- However the lines are read: the state is the one after them, and the replies to them were put.
 abbrev pub Answered : {W A : Type 0} → (W → Option (List ℕ)) → (W → ℕ) → Output W A → State → List (List ℕ) → Output W A → State → Type 0
 Answered taken failures first opening lines now state = (rs : List Reading) → AreReadFrom opening.heading lines rs → (state ≡ state_after opening rs) × Puts taken failures first now (output_from opening rs)
 
@@ -34,7 +34,7 @@ pub record Served {W A : Type 0} (taken : W → Option (List ℕ)) (failures : W
   pub are : AreReadFrom opening.heading lines readings
   pub answered : Answered taken failures first opening lines now state
 
--- The lines of the bytes have readings, and however they are read, the state is the one behind them and their output was put.
+-- The lines of the bytes have readings, and however they are read, the state is the one after them and their output was put.
 pub record Finished {W A : Type 0} (taken : W → Option (List ℕ)) (failures : W → ℕ) (first : Output W A) (opening : State) (now : Output W A) (state : State) (bytes : List ℕ) : Type 0 where
   pub readings : List Reading
   pub are : AreReadFrom opening.heading (lines_of bytes) readings
@@ -54,7 +54,7 @@ abbrev pub StopsOn : {W A : Type 0} → (W → Option (List ℕ)) → (W → ℕ
 StopsOn {W} {A} taken failures old new state line piece fault =
     (first : Output W A) (opening : State) (bytes : List ℕ) → Served taken failures first opening old state line bytes → Stopped taken failures first opening new (bytes ++ piece) fault
 
--- Memory was wanting while some bytes more were served, whatever was served before them: a front of them was served, and nothing else was put.
+-- Memory ran out while some bytes more were served, whatever was served before them: a front of them was served, and nothing else was put.
 pub record Starved {W A : Type 0} (taken : W → Option (List ℕ)) (failures : W → ℕ) (first : Output W A) (opening : State) (now : Output W A) (bytes piece : List ℕ) : Type 0 where
   pub done : List ℕ
   pub rest : List ℕ

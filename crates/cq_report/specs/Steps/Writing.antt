@@ -19,7 +19,7 @@ Passes-then t0 t1 t2 h0 h1 h2 x y p q = record {
   whole = append_assoc p.front q.front h2 ∙ ap (λ (l : List ℕ). p.front ++ l) q.whole ∙ sym (append_assoc p.front h1 y) ∙ ap (λ (l : List ℕ). l ++ y) p.whole ∙ append_assoc h0 x y;
 }
 
--- a front of what comes behind bytes that were put
+-- a front of what comes after bytes that were put
 pub Passes-front : (t0 t1 t2 : Option (List ℕ)) (h0 h1 x y : List ℕ) → Passes t0 t1 h0 x h1 → TakesFront t1 t2 (h1 ++ y) → TakesFront t0 t2 (h0 ++ (x ++ y))
 Passes-front t0 t1 t2 h0 h1 x y p q = record {
   front = p.front ++ q.front;
@@ -82,6 +82,6 @@ module _ {W A : Type 0} (taken : W → Option (List ℕ)) (failures : W → ℕ)
     took = rw (← append_assoc a.held.now.items x y) (TakesFront-more _ _ (a.held.now.items ++ x) y (Passes-cut _ _ _ _ x p.passed));
   }
 
-  -- memory was wanting after some bytes had been put
+  -- memory ran out after some bytes had been put
   pub Puts-starved : (a b : Output W A) (x y : List ℕ) → Puts taken failures a b x → Breaks taken failures a b (x ++ y) faults.NoMemory
   Puts-starved a b x y p = Puts-cut a b x y faults.NoMemory refl p

@@ -9,7 +9,7 @@ use Rattle.cq_room.specs.Pair.{opening_or}
 abbrev pub last_of : {M : Type 0} → M → List M → M
 last_of marks steps = fold (λ _ step. step) marks steps
 
--- The same, where a step may wait behind the others.
+-- The same, where a step may wait after the others.
 abbrev pub ends_at : {M : Type 0} → M → List M → Option M → M
 ends_at marks steps None = last_of marks steps
 ends_at marks steps (Some step) = step

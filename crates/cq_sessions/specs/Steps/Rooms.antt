@@ -16,7 +16,7 @@ use Rattle.cq_sessions.specs.Script.{entries_from, replies_from, sheets_from}
 use Rattle.cq_sessions.specs.Sessions.{FileServed, FilesServed, knowns_before, entered_by}
 use Rattle.cq_sessions.specs.Steps.Sheets.{SheetRecord, BytesServed, numbers_of}
 
--- How a fault of serving is told.
+-- How a fault of serving is reported.
 abbrev pub sessions_fault : ServeFault → SessionsFault
 sessions_fault serves.Places = faults.Places
 sessions_fault serves.Thread = faults.Thread
@@ -28,7 +28,7 @@ AreDone [] [] [] = Unit {0}
 AreDone (Ok done ∷ lefts) (client ∷ clients) (sheet ∷ sheets) = (client ≡ done.client) × (sheet ≡ done.sheet) × AreDone lefts clients sheets
 AreDone lefts clients sheets = ⊥
 
--- Which of two faults is told: the one of the lesser rank.
+-- Which of two faults is reported: the one of the lesser rank.
 abbrev pub rank : ServeFault → ℕ
 rank serves.Places = 0
 rank serves.Thread = 1
@@ -38,12 +38,12 @@ rank serves.NoMemory = 2
 abbrev pub IsFaultOf : {D : Type 0} → Type 0 → List (Result D ServeFault) → ServeFault → Type 0
 IsFaultOf missing lefts fault = Contains lefts (Err fault) ⊎ (missing × (fault ≡ serves.Thread))
 
--- The fault is told of threads: it is one of theirs, and none has a lesser rank.
+-- The fault is reported of threads: it is one of theirs, and none has a lesser rank.
 pub record IsToldOf {D : Type 0} (missing : Type 0) (lefts : List (Result D ServeFault)) (fault : ServeFault) : Type 0 where
   pub theirs : IsFaultOf missing lefts fault
   pub first : (other : ServeFault) → IsFaultOf missing lefts other → rank fault ≤ rank other
 
--- One of these is told, or there is none.
+-- One of these is reported, or there is none.
 abbrev pub IsFirstOf : {D : Type 0} → Type 0 → List (Result D ServeFault) → Option ServeFault → Type 0
 IsFirstOf missing lefts None = (fault : ServeFault) → IsFaultOf missing lefts fault → ⊥
 IsFirstOf missing lefts (Some fault) = IsToldOf missing lefts fault

@@ -62,7 +62,7 @@ whole sheet rs = sheet.replies ++ filled sheet.batch rs
 abbrev pub IsEven : SheetRecord → Type 0
 IsEven sheet = asks sheet.batch ≡ length sheet.asked
 
--- However the lines behind are served from here on, the file was served so from there on.
+-- However the lines after are served from here on, the file was served so from there on.
 abbrev pub Carries : PoolRecord → ℕ → (known : List Edit) → SheetRecord → (known' : List Edit) → SheetRecord → Reading → Type 0
 Carries opening limit known sheet known' sheet' line =
     (rs : List (Reply Why)) → length rs ≡ length sheet'.asked → (lines : List Reading) (own : List (ℕ × Edit)) (behind : Sheet) (last : List Edit) → Served opening limit lines known' sheet'.asked rs own behind last
@@ -80,7 +80,7 @@ pub record LineServed (form : Form) (opening : PoolRecord) (limit : ℕ) (known 
   pub is : IsReading form bytes reading
   pub onward : Onward opening limit known sheet known' sheet' reading
 
--- All bytes are served behind what a sheet held: these are the replies and the numbers that stand on it then.
+-- All bytes are served after what a sheet held: these are the replies and the numbers that stand on it then.
 pub record BytesServed (form : Form) (opening : PoolRecord) (limit : ℕ) (known : List Edit) (sheet : SheetRecord) (known' : List Edit) (replies : Sheet) (numbers : List ℕ) (bytes : List ℕ) : Type 0 where
   pub lines : List Reading
   pub are : AreReadIn form (lines_of bytes) lines

@@ -41,7 +41,7 @@ type Told = Option<(Result<(), SessionsFault>, usize)>;
 /// How all is written.
 const WELL: Told = Some((Ok(()), 0));
 
-/// A setup, edits behind it, of which some are refused, and a relation that comes too late.
+/// A setup, edits after it, of which some are refused, and a relation that comes too late.
 const SETUP: &[u8] = b"relation T 1
 limits 9 9
 insert T(1)
@@ -120,7 +120,7 @@ fn a_budget_refuses_growths(rt: HostRuntime) {
     assert!(rt; false);
 }
 
-/// The faults of sessions, and how each is told.
+/// The faults of sessions, and how each is reported.
 const SESSIONS_FAULTS: &[(SessionsFault, &str)] = &[
     (SessionsFault::Write, "write failed"),
     (SessionsFault::Places, "no reader place"),

@@ -14,9 +14,9 @@ const BEHIND: [&str; 4] = ["publish", "show", "# setup line 1 ok", "# setup line
 pub enum Finding {
     /// All is as it has to be.
     Right,
-    /// Memory was wanting, or nothing was written.
+    /// Memory ran out, or nothing was written.
     Unready,
-    /// There are other lines before or behind the entries, or other than as many.
+    /// There are other lines before or after the entries, or other than as many.
     Lines,
     /// The reply to a line of that file is wrong.
     Reply { file: usize, number: usize },
@@ -93,7 +93,7 @@ struct Known {
     entries: usize,
 }
 
-/// The number behind the word.
+/// The number after the word.
 fn number_behind(reply: &str, word: &str) -> Option<usize> {
     reply.strip_prefix(word)?.parse::<usize>().ok()
 }
@@ -108,7 +108,7 @@ impl Known {
         }
     }
 
-    /// After an edit became the entry. It came behind all that was seen and told.
+    /// After an edit became the entry. It came after all that was seen and told.
     fn entered(self, entry: usize) -> Option<Known> {
         if entry <= self.last || entry <= self.seen {
             return None;

@@ -13,7 +13,7 @@ enum Part {
     Reply,
     /// The reply of a replay to the entry of that number.
     Answer,
-    /// The replies to the publish and the look behind so many entries.
+    /// The replies to the publish and the look after so many entries.
     Shown,
     /// The session's query, as a report has it.
     Query,

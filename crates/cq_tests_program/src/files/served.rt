@@ -45,7 +45,7 @@ fn copies<A: Allocator + Copy>(
     Ok(copies)
 }
 
-/// The same of files that are copied first. Where memory for these is wanting, the writer comes back as it was.
+/// The same of files that are copied first. Where memory for these runs out, the writer comes back as it was.
 pub fn ran_copies<T: Threads + Wait + Sync, A: Allocator + Copy + Send + Sync, W: Write + Drop>(
     rt: &T,
     alloc: A,

@@ -56,7 +56,7 @@ fn kramer_and_jerry(rt: HostRuntime) -> Result<(), Fail> {
     Ok(())
 }
 
-/// Whether the read behind so many good ones of three bytes is told to have failed, and the whole lines before it are answered.
+/// Whether the read after so many good ones of three bytes is reported to have failed, and the whole lines before it are answered.
 fn is_failure_told(alloc: Global, script: &[u8], good: u32) -> Result<bool, AllocError> {
     let expected = answers(alloc, (good as usize).saturating_mul(3), false)?;
     let turn = good.saturating_add(1);
@@ -71,7 +71,7 @@ fn is_failure_told(alloc: Global, script: &[u8], good: u32) -> Result<bool, Allo
     Ok(told == (Err(RunFault::Read { turn }), 0, 0) && whole == Err(WholeFault::Read { turn }))
 }
 
-/// How many good reads come before a failure that is told otherwise. Behind the last of them the script is at its end.
+/// How many good reads come before a failure that is reported otherwise. After the last of them the script is at its end.
 fn other_failure(alloc: Global, script: &[u8]) -> Result<Option<u32>, AllocError> {
     let mut good = 0u32;
     for _ in (0..script.len().saturating_add(3)).step_by(3) {
@@ -91,7 +91,7 @@ fn each_read_fails(rt: HostRuntime) -> Result<(), Fail> {
     Ok(())
 }
 
-/// How many bytes a writer takes before it fails, where that is told otherwise, or more or fewer are written.
+/// How many bytes a writer takes before it fails, where that is reported otherwise, or more or fewer are written.
 fn other_write(alloc: Global, script: &[u8], output: &[u8]) -> Option<usize> {
     for count in 0..output.len() {
         if told_of(alloc, script, 4_096, &output[..count]) != (Err(RunFault::Write), 0, 0) {

@@ -1,10 +1,10 @@
-//! Runs of lines at their limit, and how faults are told.
+//! Runs of lines at their limit, and how faults are reported.
 
 use crate::runs::{WELL, is_told, told_of};
 use cq_report::{JOURNAL_LIMIT, POOL_LIMIT, RunFault};
 use std::alloc::{AllocError, Global};
 
-/// The front of a script, how many letters come behind it, and what is told of the line of the letters and of a look.
+/// The front of a script, how many letters come after it, and what is reported about the line of the letters and of a look.
 type Long = (&'static [u8], usize, &'static [u8]);
 
 fn put_letters(script: &mut Vec<u8>, front: &[u8], count: usize) -> Result<(), AllocError> {
@@ -13,7 +13,7 @@ fn put_letters(script: &mut Vec<u8>, front: &[u8], count: usize) -> Result<(), A
     script.extend_from_slice(b"\nshow\n")
 }
 
-/// Whether a long line of letters is told so, and the line behind it is answered.
+/// Whether a long line of letters is reported so, and the line after it is answered.
 fn is_long_told(alloc: Global, long: &Long) -> bool {
     let (front, count, expected) = *long;
     let mut script = Vec::new(alloc);

@@ -22,7 +22,7 @@ const PUBLISH: Fronts = &[(1, 6, "refused Shape at 0\n")];
 
 const SHOW: Fronts = &[(1, 3, "refused Shape at 0\n")];
 
-// The front of the arrow is no token, and behind the arrow stands a query without a body, which does not bind x.
+// The front of the arrow is no token, and after the arrow stands a query without a body, which does not bind x.
 const KRAMER: Fronts = &[
     (1, 3, "refused Shape at 0\n"),
     (40, 40, "refused Token at 39\n"),
@@ -181,7 +181,7 @@ fn put_front(
     }
 }
 
-/// Adds the answers to the whole lines of so many bytes of the script. These are cut off in the line that is told, of which they
+/// Adds the answers to the whole lines of so many bytes of the script. These are cut off in the line that is reported, of which they
 /// have so many.
 fn put_answers(
     told: &mut String,
@@ -199,7 +199,7 @@ fn put_answers(
     Ok(None)
 }
 
-/// Adds the answers to so many bytes of the script, where they end the script or a read fails behind them.
+/// Adds the answers to so many bytes of the script, where they end the script or a read fails after them.
 fn put_told(alloc: Global, told: &mut String, bytes: usize, ended: bool) -> Result<(), AllocError> {
     match put_answers(told, bytes)? {
         Some((line, count)) if ended => put_front(alloc, told, line, count),

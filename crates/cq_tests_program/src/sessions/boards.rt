@@ -7,7 +7,7 @@ use cq_rel::Catalog;
 use cq_render::report;
 use std::alloc::{AllocError, Global};
 
-/// A state that takes the edits of a board, and is told as one. What goes on in a room is stated over any such state, since what is
+/// A state that takes the edits of a board, and is reported as one. What goes on in a room is stated over any such state, since what is
 /// known of sessions over boards themselves is large.
 pub trait Posted: Live<Edit = Edit, Why = Why> {
     /// The report on the board.

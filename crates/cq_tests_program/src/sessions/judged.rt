@@ -13,7 +13,7 @@ use std::alloc::{AllocError, Global};
 pub enum Finding {
     /// All is as the journal has it.
     Right,
-    /// The room was not opened, or memory was wanting.
+    /// The room was not opened, or memory ran out.
     Unready,
     /// A session saw less than it knew of, or has other than its number of replies and looks.
     Session(usize),
@@ -52,8 +52,8 @@ struct Told {
     entries: usize,
 }
 
-/// What is told after the reply to the writer's edit of that number; `None` where it is wrong, or what it tells of does not stand in
-/// the journal, behind what was told before.
+/// What is reported after the reply to the writer's edit of that number; `None` where it is wrong, or what it tells of does not stand in
+/// the journal, after what was reported before.
 fn after_reply(
     alloc: Global,
     journal: &[Entry<Edit>],

@@ -62,7 +62,7 @@ impl Record {
         }
     }
 
-    /// Keeps a look that is told so.
+    /// Keeps a look that is reported so.
     pub fn keeps(&mut self, count: u64, told: Result<String, AllocError>) {
         let kept = match told {
             Ok(text) => self.looks.push(Kept { count, text }).is_ok(),

@@ -13,7 +13,7 @@ fn over<L: BoardLike>(alloc: Global, state: L) -> Result<BoardDesk<L>, NoMemory>
     Ok(Desk::begin(alloc, working, publisher, 9))
 }
 
-/// What is shown behind a submit.
+/// What is shown after a submit.
 #[derive(Clone, Copy)]
 enum Shown {
     /// So many rows, in the working state too.
@@ -25,7 +25,7 @@ enum Shown {
 /// The lines of a submit, the replies, how many entries are published then, and what is shown.
 type Asked = (&'static [Line], &'static [Reply<Why>], u64, Shown);
 
-/// A row that is there stops neither the edit before it nor the one behind it.
+/// A row that is there stops neither the edit before it nor the one after it.
 const AGAIN: [Asked; 1] = [(
     &[Line::RowOne, Line::RowOne, Line::RowTwo],
     &[
@@ -115,7 +115,7 @@ fn refused_edit_in_the_middle(rt: HostRuntime) {
     assert!(rt; other == Ok(None), "{other:?}");
 }
 
-/// The look before shows the flight as a grounding, and the look behind shows none.
+/// The look before shows the flight as a grounding, and the look after shows none.
 #[test]
 fn published_groundings(rt: HostRuntime) {
     let other = other_of(rt.alloc(), &FLIGHTS, MOVES.as_slice());

@@ -37,7 +37,7 @@ enum Call {
     Publish,
 }
 
-/// A call, what it answers, and the bytes of the working state and of the shown one behind it.
+/// A call, what it answers, and the bytes of the working state and of the shown one after it.
 type Step = (Call, Answer<Full>, &'static [u8], &'static [u8]);
 
 fn told(desk: &mut TallyDesk, call: Call) -> Result<Answer<Full>, NoMemory> {

@@ -39,7 +39,7 @@ impl Tried for Begin {
 enum Call {
     Enter,
     Publish,
-    /// A publish behind another one, which left the state that is not shown without its edits.
+    /// A publish after another one, which left the state that is not shown without its edits.
     PublishAgain,
     Submit,
 }

@@ -109,7 +109,7 @@ fn enters_at_last<D: Desking<R, A>, R, A: Copy>(alloc: A, desk: &mut D, number: 
     met.if_right(kept && desk.enters(alloc, number) == Met::Nothing)
 }
 
-/// Nothing is shown behind a refused growth, and so many edits are entered. Another publish, or an empty submit, shows
+/// Nothing is shown after a refused growth, and so many edits are entered. Another publish, or an empty submit, shows
 /// them all.
 fn goes_on<D: Desking<R, A>, S: Seated, R, A: Copy>(
     rt: &R,

@@ -13,7 +13,7 @@ use cq_room::{RoomName, Session};
 use std::alloc::Global;
 use std::sync::Wait;
 
-/// A flight to Paris comes, and a query for one. The look behind shows the flight as a grounding.
+/// A flight to Paris comes, and a query for one. The look after shows the flight as a grounding.
 fn asks<S: Seated, H: Hall<S, Asked = Line, Why = Why>>(
     hall: &H,
     first: &mut S,
@@ -24,7 +24,7 @@ fn asks<S: Seated, H: Hall<S, Asked = Line, Why = Why>>(
     second.looks(2, Sight::Grounded(true))
 }
 
-/// Then the flight goes to Rome. The looks behind that, before and after the front is heard, show no grounding.
+/// Then the flight goes to Rome. The looks after that, before and after the front is heard, show no grounding.
 fn goes<S: Seated, H: Hall<S, Asked = Line, Why = Why>>(
     hall: &H,
     first: &mut S,

@@ -161,7 +161,7 @@ fn are_met_in_begin(counts: Result<Counts, u64>) -> bool {
     matches!(counts, Ok(Counts { begin: 1.., .. }))
 }
 
-/// Whether a submit was stopped behind an entry.
+/// Whether a submit was stopped after an entry.
 pub fn are_stopped_behind(counts: Result<Counts, u64>) -> bool {
     matches!(
         counts,

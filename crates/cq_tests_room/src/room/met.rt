@@ -17,7 +17,7 @@ pub enum Met {
     Open,
     /// In making room for the replies of a submit.
     Replies,
-    /// In entering an edit of a submit, behind so many entries.
+    /// In entering an edit of a submit, after so many entries.
     Stopped(u64),
     /// In publishing what a submit had entered.
     Unpublished,
@@ -85,7 +85,7 @@ pub struct Counts {
     pub replies: u64,
     /// Before the first entry.
     pub stopped: u64,
-    /// Behind an entry.
+    /// After an entry.
     pub stopped_behind: u64,
     pub unpublished: u64,
     pub enter: u64,

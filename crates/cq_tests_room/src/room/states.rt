@@ -49,7 +49,7 @@ pub fn both_edits<L: Shared<A>, A: Allocator + Copy>(alloc: A) -> Option<Vec<L::
     Some(edits)
 }
 
-/// The bytes 1 and 2 come behind 7.
+/// The bytes 1 and 2 come after 7.
 fn are_left_by(bytes: &[u8], entries: u64) -> bool {
     match bytes {
         [7] => entries == 0,

@@ -6,7 +6,7 @@ use crate::stores::{Trial, tried_at};
 use cq_tests_growths::{Outcome, Tried, refusals};
 use std::alloc::Allocator;
 
-/// A row behind the queries.
+/// A row after the queries.
 const FILLED: &[Call] = &[Call::Come("T(1, 2)"), Call::Gain("T(1, 2)", 2)];
 
 /// What they leave.

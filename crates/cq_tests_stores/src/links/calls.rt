@@ -9,7 +9,7 @@ use std::alloc::{AllocError, Allocator};
 /// Provider, head, waiter and postcondition of an edge.
 pub type Ends = (usize, u8, usize, u8);
 
-/// A query, the edges that it makes behind those above it, and how many pairs are tested for them.
+/// A query, the edges that it makes after those above it, and how many pairs are tested for them.
 pub struct Posting {
     pub text: &'static str,
     pub edges: &'static [Ends],

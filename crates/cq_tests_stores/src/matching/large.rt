@@ -1,4 +1,4 @@
-//! A ring and a chain of ten thousand nodes: all come matched with the last one, and a break in the middle is told along
+//! A ring and a chain of ten thousand nodes: all come matched with the last one, and a break in the middle is reported along
 //! them.
 
 use crate::matching::edges::edge;

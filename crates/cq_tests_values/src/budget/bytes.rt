@@ -15,7 +15,7 @@ enum Call {
     Give,
 }
 
-/// A call, and how many bytes are out behind it.
+/// A call, and how many bytes are out after it.
 type Step = (Call, usize);
 
 /// Whether the block is taken, and held with the others.

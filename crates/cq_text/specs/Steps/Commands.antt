@@ -113,7 +113,7 @@ word_alone command a = do
   rest ← end_at a
   Ok command
 
--- What stands behind a command word.
+-- What stands after a command word.
 abbrev pub command_of : (form : Form) → CommandWord → Ahead → Result CommandContent TextFault
 command_of form words.Relation a = relation_at form a
 command_of form words.Board a = board_at a

@@ -19,7 +19,7 @@ use Rattle.cq_text.specs.Forms.{most_atoms, most_terms}
 abbrev pub Item : Type 0 → Type 0
 Item A = Bool → Ahead → Result (A × Bool × Ahead) TextFault
 
--- At most n items with a comma between two, and the sign behind them.
+-- At most n items with a comma between two, and the sign after them.
 unfoldable pub listed_at : {A : Type 0} → Item A → ℕ → Ahead → Result (List A × Ahead) TextFault
 listed_at item zero a = do
   i ← item false a
@@ -47,7 +47,7 @@ terms_at form a = listed_at term_at (most_terms form) a
 abbrev pub atom_record : List ℕ → List TermContent → AtomRecord
 atom_record relation terms = record { relation = relation; terms = terms }
 
--- What stands behind a relation's name.
+-- What stands after a relation's name.
 unfoldable pub applied_at : (form : Form) → List ℕ → Ahead → Result (AtomRecord × Ahead) TextFault
 applied_at form relation a = do
   inner ← sign_at OpenParen a

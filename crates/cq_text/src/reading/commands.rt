@@ -142,7 +142,7 @@ impl<'a, A: Allocator + Copy> Reader<'a, A> {
         Ok(CommandKind::Edit(EditKind::Delete { row }))
     }
 
-    /// The command of a word, with nothing behind it.
+    /// The command of a word, with nothing after it.
     #[tactic(auto, unfolding(crate::specs::Steps::Commands::word_alone))]
     fn word_alone(&mut self, command: Command<A>) -> Result<Command<A>, TextFault>
         ensures { Gives (λ command. command) result (word_alone command self.old) }
@@ -151,7 +151,7 @@ impl<'a, A: Allocator + Copy> Reader<'a, A> {
         Ok(command)
     }
 
-    /// What stands behind a command word.
+    /// What stands after a command word.
     fn command_of(&mut self, form: Form, word: CommandWord) -> Result<Command<A>, TextFault>
         ensures { Gives (λ command. command) result (command_of form word self.old) }
     {

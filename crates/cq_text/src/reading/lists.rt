@@ -126,7 +126,7 @@ impl<'a, A: Allocator + Copy> Reader<'a, A> {
         self.room.gathered(self.alloc, room)
     }
 
-    /// Terms, and the bracket behind them.
+    /// Terms, and the bracket after them.
     fn terms(&mut self, form: Form) -> Result<Vec<Term<A>, A>, TextFault>
         ensures terms { Gives (λ v. (v.items, self.new)) result (terms_at form self.old) }
         ensures arity { IfOk result (λ v. IsTrue (is_arity (length v.items))) }
@@ -228,7 +228,7 @@ impl<'a, A: Allocator + Copy> Reader<'a, A> {
         Ok((value, has_more))
     }
 
-    /// The constants of a ground atom, and the bracket behind them.
+    /// The constants of a ground atom, and the bracket after them.
     fn values(&mut self, form: Form) -> Result<Vec<Value<A>, A>, TextFault>
         ensures values { Gives (λ v. (v.items, self.new)) result (values_at form self.old) }
         ensures arity { IfOk result (λ v. IsTrue (is_arity (length v.items))) }
@@ -294,7 +294,7 @@ impl<'a, A: Allocator + Copy> Reader<'a, A> {
         }
     }
 
-    /// The fault of a query that has an unbound variable behind this place.
+    /// The fault of a query that has an unbound variable after this place.
     fn unbound_fault(&mut self, body: &[Atom<A>]) -> TextFault
         ensures { Fails result (unbound_fault body.now self.old) }
     {
@@ -307,7 +307,7 @@ impl<'a, A: Allocator + Copy> Reader<'a, A> {
         }
     }
 
-    /// The query whose atoms were read behind this place. Where the body lacks a variable of the
+    /// The query whose atoms were read after this place. Where the body lacks a variable of the
     /// postconditions or heads, the first such one is at fault.
     fn bound_query(
         &mut self,

@@ -41,7 +41,7 @@ impl<'a, A: Allocator + Copy> Reader<'a, A> {
         }
     }
 
-    /// Passes the spaces that come, behind which the same tokens are ahead.
+    /// Passes the spaces that come, after which the same tokens are ahead.
     fn pass_spaces(&mut self)
         ensures { self.new ≡ self.old }
     {
