@@ -1,4 +1,4 @@
-# The public calls of a crate whose result names one of the given types, as `crate::Type::function`. scripts/growths runs it over
+# The public calls of a crate whose result names one of the given types, as `crate::Type::function`. scripts/allocations runs it over
 # the crate's root and then over all of its files, which stand in the layout of `rt fmt`.
 
 function name_of(line) {

@@ -12,7 +12,7 @@ use Rattle.cq_board.specs.Named.{query_named, matched_named, groundings_named}
 use Rattle.cq_board.proofs.Members.{by_bool}
 pub use Rattle.cq_board.proofs.Pieces.{ahead_at, got_of_map, pieces_at, read_at}
 pub use Rattle.cq_board.proofs.Waiters.{edges-grouped}
-pub use Rattle.cq_board.specs.Steps.Supply.{unifies}
+unfoldable pub use Rattle.cq_board.specs.Steps.Supply.{unifies}
 
 -- a name that is none of these is not the name at a place of theirs
 other_name : (name : List ℕ) (pending : List PendingQuery) (i : ℕ) (posted : PendingQuery) → AllByRecursion (λ y. bytes_eq name y ≡ false) (map name_of pending)

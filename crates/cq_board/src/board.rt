@@ -87,8 +87,8 @@ impl<A: Allocator + Copy> Board<A> {
         self.admit_counted(edit, &mut Work::new())
     }
 
-    /// The same as `admit`, with the work that the edit took counted. What is counted where memory was
-    /// wanting is not told.
+    /// The same as `admit`, with the work that the edit took counted. What is counted where memory ran
+    /// out is not reported.
     ///
     /// # Errors
     /// As those of `admit`.

@@ -1,7 +1,7 @@
 //! The four stores that a board keeps beside its rows.
 //!
 //! A query has one place in all of them: `grounded` picks it. What takes memory comes first, and what was done before a
-//! refused growth is taken back by calls that cannot fail.
+//! failed allocation is taken back by calls that cannot fail.
 
 ghost use Rattle.std.specs.Prelude.{◌≡◌, ◌<◌, ℕ, Bool, true, false, ◌+◌, ◌++◌, ◌∷◌, [], None, OnOk, OnErr, IfOk, List, length, count_by, filter, nat_eq, not};
 ghost use Rattle.std.specs.FinMap as map;

@@ -16,8 +16,8 @@
 //! The crates above use two contracts of this one most. `Floor::step` answers an event as the floor
 //! machine does, and leaves the machine as that event leaves it. `Desk::submit` answers each edit as
 //! the journal before it says (`specs/Replies`), enters exactly those that it numbers, and ends in a
-//! publish after which they stand at the end of the last publication, or says where memory was
-//! wanting. `Desk::submit_past` is the same past a [`Checkpoint`] between entering and publishing.
+//! publish after which they stand at the end of the last publication, or says where memory ran
+//! out. `Desk::submit_past` is the same past a [`Checkpoint`] between entering and publishing.
 //!
 //! Not here: how a state takes an edit, what is shown of it, and threads.
 #![tactic(auto)]

@@ -24,7 +24,7 @@ pub mod Reaching
 pub mod Reasons
 pub mod Renaming
 mod Rested
-mod Wanting
+mod Tracing
 pub mod Rounds
 pub mod Rows
 pub mod Settling
@@ -34,5 +34,5 @@ pub mod Standing
 pub mod Tests
 pub mod Tidying
 pub mod Union
-pub mod Waking
+pub mod MadeAble
 pub mod Waves

@@ -1,15 +1,15 @@
 -- What both walks say of a `&` to a `Refusing`, and `count_one` at a call. Assumes `Logic`.
 --     args, self               the type arguments of a method's code, and its first parameter
---     inner_at, growths_at     where the two fields lie
+--     inner_at, allocations_at     where the two fields lie
 --     Count, at_count          the contract of `count_one`, and what a caller picks
---     Count-goes, Count-gives     what `count_one` is handed, a `&` to the growths and a token of its lifetime, and what a caller has of it
+--     Count-goes, Count-gives     what `count_one` is handed, a `&` to the allocations and a token of its lifetime, and what a caller has of it
 use Rattle.cq_refusing.proofs.Steps.{◌≡◌, ℕ, ◌+◌, Bool, List, [], ◌∷◌, refl, ap, Bor, Al, α, Ura, Args, a_type, dnil, dcons, Val, vbool, vptr, SProp, ent, sep, ex, guard, id⊢, Lft, Share, ftrue, fsep, flft, Memory, size, align, up, Routine, Logic, sem, Fun, ‵, raw, ◌⊛◌, some, later, ◌$◌, ◌∵◌, !, qed, move, keep, split, join, pick, fjoin, feq_i, feq_l, check, show, await, updating, at_once, use1, done, RefOf, bool, hidden_shr, bounded, layout, param, RattleType, Slot, plain, nothing, only, Contract, triple_of}
 use Rattle.cq_refusing.specs.contracts.Refusing as refusing
-use Rattle.cq_refusing.specs.contracts.Growths as growths
-use Rattle.cq_refusing.specs.contracts.Growths.count_one as count_one
+use Rattle.cq_refusing.specs.contracts.Allocations as allocations
+use Rattle.cq_refusing.specs.contracts.Allocations.count_one as count_one
 
 abbrev pub Grown : RattleType
-Grown = growths.the_row
+Grown = allocations.the_row
 
 module _ (Z : Al) where
   abbrev pub args : Args
@@ -22,8 +22,8 @@ module _ (Z : Al) where
     abbrev pub inner_at : ℕ × ℕ
     inner_at = (r.ref_ptr.0, r.ref_ptr.1 + up (align (α Z)) 0)
 
-    abbrev pub growths_at : ℕ × ℕ
-    growths_at = (r.ref_ptr.0, r.ref_ptr.1 + up (align (layout Grown)) (up (align (α Z)) 0 + size (α Z)))
+    abbrev pub allocations_at : ℕ × ℕ
+    allocations_at = (r.ref_ptr.0, r.ref_ptr.1 + up (align (layout Grown)) (up (align (α Z)) 0 + size (α Z)))
 
 module _ {M : Type 1} {𝓤 : Ura M} (𝓛 : Logic 𝓤) (at_mem : Memory → SProp 𝓤) (run : Routine → Fun 𝓤) where
   open 𝓛 use {H, A}

@@ -1,44 +1,44 @@
-//! An allocator for tests that refuses exactly one growth.
+//! An allocator for tests that refuses exactly one allocation.
 //!
 //! A test gives the code under test a `&` to a [`Refusing`] as its allocator: first one that refuses the first
-//! growth, then one that refuses the second, and so on, until the code gets by with fewer growths and succeeds.
+//! allocation, then one that refuses the second, and so on, until the code gets by with fewer allocations and succeeds.
 //! Each time the test looks at what the code answered, and at the state that it left.
 //!
 //! Nothing but tests uses it, and it is for one thread. It sets no limit to memory: it counts calls and not bytes,
 //! and after its one refusal it passes every call on.
 //!
-//! Each allocation counts as a growth, even the one by which a collection moves into a smaller block. When that one
+//! Each allocation counts, even the one by which a collection moves into a smaller block. When that one
 //! is refused, the collection keeps its larger block and may report nothing.
 #![tactic(auto)]
 
 ghost use Rattle.std.specs.Prelude.{◌≡◌, ◌<◌, ◌-◌, ◌^◌, ◌↔◌, IsTrue};
-ghost use Rattle.cq_refusing.specs.Refusing.{growths_before};
+ghost use Rattle.cq_refusing.specs.Refusing.{allocations_before};
 
 use std::alloc::{AllocError, Allocator};
 use std::cell::Cell;
 
-/// Passes each call on to another allocator, but for the one growth that it refuses.
+/// Passes each call on to another allocator, but for the one allocation that it refuses.
 #[derive(Drop)]
 pub struct Refusing<B: Allocator> {
     inner: B,
-    growths: Growths,
+    allocations: Allocations,
 }
 
-// How many growths come before the refused one, and how many were asked for.
+// How many allocations come before the refused one, and how many were asked for.
 #[derive(Drop)]
-struct Growths {
+struct Allocations {
     left: u64,
     asked: Cell<u64>,
 }
 
 impl<B: Allocator> Refusing<B> {
-    /// Refuses the growth that comes after `left` others, and none at `u64::MAX`.
+    /// Refuses the allocation that comes after `left` others, and none at `u64::MAX`.
     pub fn new(inner: B, left: u64) -> Refusing<B>
-        ensures { growths_before result ≡ left }
+        ensures { allocations_before result ≡ left }
     {
         Refusing {
             inner,
-            growths: Growths {
+            allocations: Allocations {
                 left,
                 asked: Cell::new(0),
             },
@@ -47,19 +47,19 @@ impl<B: Allocator> Refusing<B> {
 
     /// Whether the refusal has come. No clause can say that, since a cell holds the count.
     pub fn has_refused(&self) -> bool
-        ensures never { IsTrue result → growths_before self.now < 2 ^ 64 - 1 }
+        ensures never { IsTrue result → allocations_before self.now < 2 ^ 64 - 1 }
     {
-        self.growths.asked.get() > self.growths.left
+        self.allocations.asked.get() > self.allocations.left
     }
 
-    /// How many growths were asked for, with the refused one. No clause can say that, since a cell holds the count.
+    /// How many allocations were asked for, with the refused one. No clause can say that, since a cell holds the count.
     pub fn grown(&self) -> u64 {
-        self.growths.asked.get()
+        self.allocations.asked.get()
     }
 }
 
-impl Growths {
-    // Counts one growth, and says whether it is the one to refuse.
+impl Allocations {
+    // Counts one allocation, and says whether it is the one to refuse.
     fn count_one(&self) -> bool {
         let asked = self.asked.get();
         self.asked.set(asked.saturating_add(1));
@@ -78,7 +78,7 @@ unsafe impl<B: Allocator> Allocator for Refusing<B> {
     ghost dealloc_token = { λ heap ty ptr. B.dealloc_token heap.inner ty ptr };
 
     fn allocate(&self, size: usize, align: usize) -> Result<*mut u8, AllocError> {
-        if self.growths.count_one() {
+        if self.allocations.count_one() {
             return Err(AllocError);
         }
         self.inner.allocate(size, align)
@@ -104,7 +104,7 @@ mod tests {
     }
 
     #[test]
-    fn each_growth_is_refused_in_turn(rt: HostRuntime) -> Result<(), Fail> {
+    fn each_allocation_is_refused_in_turn(rt: HostRuntime) -> Result<(), Fail> {
         for left in 0..5u64 {
             let heap = Refusing::new(rt.alloc(), left);
             assert!(rt; !heap.has_refused(), "{left}");
@@ -122,7 +122,7 @@ mod tests {
     }
 
     #[test]
-    fn a_refused_growth_changes_nothing(rt: HostRuntime) -> Result<(), Fail> {
+    fn a_failed_allocation_changes_nothing(rt: HostRuntime) -> Result<(), Fail> {
         let heap = Refusing::new(rt.alloc(), 1);
         let mut numbers = Vec::new(&heap);
         for i in 0..4u64 {
@@ -137,7 +137,7 @@ mod tests {
 
     // The allocator below counts what reaches it.
     #[test]
-    fn a_refused_growth_is_not_passed_on(rt: HostRuntime) -> Result<(), Fail> {
+    fn a_failed_allocation_is_not_passed_on(rt: HostRuntime) -> Result<(), Fail> {
         let below = Refusing::new(rt.alloc(), u64::MAX);
         let heap = Refusing::new(&below, 2);
         assert!(rt; forty(&heap).is_err());

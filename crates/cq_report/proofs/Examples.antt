@@ -12,7 +12,7 @@ use Rattle.cq_atom.specs.declared.edit.EditKind.TheVariants.{Post, Withdraw}
 use Rattle.cq_text.specs.declared.fault.Kind.TheVariants.{Shape}
 use Rattle.cq_ground.specs.Grounding.{groundings_of}
 use Rattle.cq_match.specs.Matched.{is_closed, is_matched}
-use Rattle.cq_board.specs.Steps.Supply.{unifies}
+use Rattle.cq_board.proofs.CallerLemmas.{unifies}
 use Rattle.cq_report.specs.Reading.{Reading, Reads, Faulty}
 use Rattle.cq_report.specs.declared.numbering.Numbering.TheVariants.{Plain, Numbered}
 use Rattle.cq_report.specs.Output.{output}

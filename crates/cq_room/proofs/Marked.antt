@@ -9,6 +9,7 @@ use Rattle.std.proofs.lemmas.Grind.{fold-append}
 use Rattle.cq_desk.specs.History.{edits_of, grown}
 use Rattle.cq_desk.specs.Replies.{AreAccepted, journal_edits}
 use Rattle.cq_desk.specs.declared.journal.Entry.{Entry}
+use Rattle.cq_desk.proofs.CallerLemmas.{accepted_more}
 use Rattle.cq_room.proofs.Fronts.{prefix_more}
 use Rattle.cq_room.specs.Marks.{Leaves, WereAccepted, entries_in, behind, cut_at, publications, fresh_in}
 
@@ -131,11 +132,6 @@ pub entered_more : {E : Type 0} (xs ys : List (Mark E)) (journal : List (Entry E
 entered_more xs ys journal e n p count less at is =
     subst (λ es. IsPrefix es journal) (sym (ap entries_in is ∙ entries-append xs (Entered e ∷ [])))
     (prefix_more (entries_in xs) journal e p (omega (arith, count, less)) (at ∙ ap (λ k. get_or journal k e) (sym count)))
-
--- one edit more is accepted
-accepted_more : {E C W : Type 0} (after : C → E → C) (why : C → E → Option W) (o : C) (es : List E) (e : E) → AreAccepted after why o es → why (fold after o es) e ≡ None → AreAccepted after why o (es ++ e ∷ [])
-accepted_more after why o [] e all one = (one, tt)
-accepted_more after why o (x ∷ es) e all one = (all.0, accepted_more after why (after o x) es e all.1 one)
 
 module _ {E C W : Type 0} (after : C → E → C) (why : C → E → Option W) (os : List C) where
   pub accepted_whole : (ms : List (Mark E)) → fresh_in ms ≡ [] → WereAccepted after why os (entries_in ms) → WereAccepted after why os (edits_of (publications ms))

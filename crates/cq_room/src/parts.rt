@@ -79,7 +79,7 @@ impl<L: Live, R: Wait + Drop, A: Allocator> Model for Parts<L, R, A> {
 
 impl<L: Live, R: Wait + Drop, A: Allocator + Copy> Room<L, Brand, Pair<L, Brand, R, A>, A> {
     /// The parts of a room over the state, with a journal that may hold so many entries and so many
-    /// sessions. Later growths are the allocator's too. It takes two copies of the state.
+    /// sessions. Later allocations are the allocator's too. It takes two copies of the state.
     ///
     /// # Errors
     /// `Sessions` where there are not 1 to 16, before anything else; `NoMemory` where an allocation

@@ -1,5 +1,5 @@
 //! Tests of `cq_board`: the worked rows with their work, lists of edits beside boards from scratch, each public call once
-//! with ample memory, and each growth of an edit refused in turn. Tests are tables, which a few drivers run. Edits are
+//! with ample memory, and each allocation of an edit refused in turn. Tests are tables, which a few drivers run. Edits are
 //! read from lines, and what a board shows is compared as words on a page. What is printed of the worked rows stands in
 //! the cases, as whole scripts. Nothing but tests is here, and no crate stands on this one.
 #![tactic(auto)]
@@ -7,11 +7,11 @@
 #[cfg(test)]
 mod able;
 #[cfg(test)]
+mod allocations;
+#[cfg(test)]
 mod choices;
 #[cfg(test)]
 mod edits;
-#[cfg(test)]
-mod growths;
 #[cfg(test)]
 mod lists;
 #[cfg(test)]

@@ -1,6 +1,6 @@
-//! Tests of runs of one script: readers and writers that cut their bytes and fail, and each growth refused in turn.
+//! Tests of runs of one script: readers and writers that cut their bytes and fail, and each allocation refused in turn.
 
+mod allocations;
 mod cuts;
-mod growths;
 mod runs;
 mod worked;

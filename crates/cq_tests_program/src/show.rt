@@ -1,10 +1,10 @@
-//! Texts that are written of the boards which scripts leave: each once, and with each of its growths refused in turn.
+//! Texts that are written of the boards which scripts leave: each once, and with each of its allocations refused in turn.
 
 use cq_board::Board;
 use cq_devices::{Counted, WholeFault};
 use cq_render::{explain, explain_named, graph, json, report};
 use cq_report::{Played, read_script};
-use cq_tests_growths::{Outcome, Tried, refusals};
+use cq_tests_allocations::{Outcome, Tried, refusals};
 use std::alloc::{AllocError, Allocator};
 
 /// What is written of a board.
@@ -130,27 +130,27 @@ impl<const N: usize> Tried for Nth<N> {
 }
 
 #[test]
-fn refused_growth_in_report(rt: HostRuntime) {
+fn failed_allocation_in_report(rt: HostRuntime) {
     assert!(rt; matches!(refusals::<Nth<0>>(rt.alloc()), Ok(1..)));
 }
 
 #[test]
-fn refused_growth_in_graph(rt: HostRuntime) {
+fn failed_allocation_in_graph(rt: HostRuntime) {
     assert!(rt; matches!(refusals::<Nth<1>>(rt.alloc()), Ok(3..)));
 }
 
 #[test]
-fn refused_growth_in_json(rt: HostRuntime) {
+fn failed_allocation_in_json(rt: HostRuntime) {
     assert!(rt; matches!(refusals::<Nth<2>>(rt.alloc()), Ok(3..)));
 }
 
 #[test]
-fn refused_growth_in_explain(rt: HostRuntime) {
+fn failed_allocation_in_explain(rt: HostRuntime) {
     assert!(rt; matches!(refusals::<Nth<3>>(rt.alloc()), Ok(3..)));
 }
 
 #[test]
-fn refused_growth_in_explain_named(rt: HostRuntime) {
+fn failed_allocation_in_explain_named(rt: HostRuntime) {
     assert!(rt; matches!(refusals::<Nth<4>>(rt.alloc()), Ok(3..)));
 }
 
@@ -175,6 +175,6 @@ impl Tried for Playing {
 }
 
 #[test]
-fn refused_growth_in_read_script(rt: HostRuntime) {
+fn failed_allocation_in_read_script(rt: HostRuntime) {
     assert!(rt; matches!(refusals::<Playing>(rt.alloc()), Ok(3..)));
 }

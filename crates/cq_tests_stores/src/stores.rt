@@ -1,7 +1,7 @@
 //! Stores that tables of calls drive. What drives them is generic in the store, since what is known of a store that is
 //! owned would be too much.
 
-use cq_tests_growths::Outcome;
+use cq_tests_allocations::Outcome;
 use std::alloc::{AllocError, Allocator};
 use std::mem::{drop, replace};
 
@@ -98,7 +98,7 @@ pub fn other_case<A: Allocator + Copy, S: Store<A>>(
     Ok(None)
 }
 
-/// A call whose growths are refused, and calls that show what stands: before it and where it was refused, and after it.
+/// A call whose allocations are refused, and calls that show what stands: before it and where it was refused, and after it.
 pub struct Trial<'t, C> {
     pub before: &'t [&'t [C]],
     pub tried: C,

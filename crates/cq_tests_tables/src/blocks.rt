@@ -1,7 +1,7 @@
-//! Lists in blocks: numbers that are put in and taken out, and each growth of an insertion refused in turn.
+//! Lists in blocks: numbers that are put in and taken out, and each allocation of an insertion refused in turn.
 
 use cq_blocks::Blocks;
-use cq_tests_growths::{Outcome, Tried, refusals};
+use cq_tests_allocations::{Outcome, Tried, refusals};
 use std::alloc::{AllocError, Allocator, Global};
 
 /// So many numbers stand in several blocks.
@@ -132,11 +132,11 @@ impl Tried for OfVec {
 }
 
 #[test]
-fn refused_growth_in_a_list_of_a_vec(rt: HostRuntime) {
+fn failed_allocation_in_a_list_of_a_vec(rt: HostRuntime) {
     assert!(rt; matches!(refusals::<OfVec>(rt.alloc()), Ok(1..)));
 }
 
 #[test]
-fn refused_growth_in_blocks(rt: HostRuntime) {
+fn failed_allocation_in_blocks(rt: HostRuntime) {
     assert!(rt; matches!(refusals::<Inserting>(rt.alloc()), Ok(1..)));
 }

@@ -1,11 +1,11 @@
 //! Groundings kept under row changes: the worked row by calls, after each of which they are those that `all` finds, and
-//! each growth refused in turn.
+//! each allocation refused in turn.
 
 use crate::samples::{delete, insert, pairs};
 use cq_atom::{Meter, Query, Row};
 use cq_ground::Groundings;
 use cq_rel::Tables;
-use cq_tests_growths::{Outcome, Tried, refusals};
+use cq_tests_allocations::{Outcome, Tried, refusals};
 use cq_text::{Form, print_values, read_ground_atom, read_query};
 use std::alloc::{AllocError, Allocator, Global};
 use std::test::Fail;
@@ -209,6 +209,6 @@ impl Tried for Gaining {
 }
 
 #[test]
-fn refused_growth_in_gain(rt: HostRuntime) {
+fn failed_allocation_in_gain(rt: HostRuntime) {
     assert!(rt; matches!(refusals::<Gaining>(rt.alloc()), Ok(8..)));
 }

@@ -1,4 +1,4 @@
-//! Rows from CSV: worked texts, each fault, failing and endless sources, and each growth refused in turn.
+//! Rows from CSV: worked texts, each fault, failing and endless sources, and each allocation refused in turn.
 
 use cq_atom::{Row, Value};
 use cq_csv::{CsvFault, all_records, read_csv};
@@ -206,7 +206,7 @@ fn endless_reader(rt: HostRuntime) {
 const WORKED: &[u8] = b"122,Paris\n\"123\",\"Pa\"\"ris\"\n007,\n";
 
 /// Whether the worked text is read on the allocator as three rows, the first of them the worked one; else whether memory
-/// was wanting.
+/// ran out.
 fn is_read<A: Allocator + Copy>(alloc: A, heap: Global) -> Result<bool, CsvFault> {
     let rows = read_csv(alloc, heap, &mut Counted::new(WORKED), "T", 2)?;
     let right = match rows.as_slice() {
@@ -224,7 +224,7 @@ fn is_worked<A: Allocator>(values: &[Value<A>]) -> bool {
     }
 }
 
-/// How many growths of reading the worked text can be refused, each of which is reported as out of memory, and the text
+/// How many allocations of reading the worked text can be refused, each of which is reported as out of memory, and the text
 /// then is read.
 fn refusals(heap: Global) -> Option<u64> {
     for left in 0..64 {
@@ -239,6 +239,6 @@ fn refusals(heap: Global) -> Option<u64> {
 }
 
 #[test]
-fn refused_growth_in_csv(rt: HostRuntime) {
+fn failed_allocation_in_csv(rt: HostRuntime) {
     assert!(rt; matches!(refusals(rt.alloc()), Some(8..)));
 }

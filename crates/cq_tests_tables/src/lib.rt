@@ -1,7 +1,9 @@
-//! Tests of `cq_blocks`, `cq_rel` and `cq_ground`: each public call once with ample memory, worked examples, and each growth
+//! Tests of `cq_blocks`, `cq_rel` and `cq_ground`: each public call once with ample memory, worked examples, and each allocation
 //! refused in turn. Rows and queries are read from texts. Nothing but tests is here, and no crate stands on this one.
 #![tactic(auto)]
 
+#[cfg(test)]
+mod allocations;
 #[cfg(test)]
 mod blocks;
 #[cfg(test)]
@@ -14,8 +16,6 @@ mod csv_rows;
 mod gates;
 #[cfg(test)]
 mod groundings;
-#[cfg(test)]
-mod growths;
 #[cfg(test)]
 mod samples;
 #[cfg(test)]

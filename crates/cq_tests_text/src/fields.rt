@@ -1,7 +1,7 @@
 //! A field of CSV, read as a value. What other fields are stands in the tests of rows from CSV.
 
 use cq_atom::Value;
-use cq_tests_growths::{Outcome, Tried, refusals};
+use cq_tests_allocations::{Outcome, Tried, refusals};
 use cq_text::{TextFault, read_field};
 use std::alloc::Allocator;
 
@@ -30,6 +30,6 @@ impl Tried for ReadingField {
 }
 
 #[test]
-fn refused_growth_in_reading_fields(rt: HostRuntime) {
+fn failed_allocation_in_reading_fields(rt: HostRuntime) {
     assert!(rt; matches!(refusals::<ReadingField>(rt.alloc()), Ok(1..)));
 }

@@ -2,7 +2,7 @@
 
 use crate::samples::query;
 use cq_atom::{Bad, Edit, EditKind, Name};
-use cq_tests_growths::{Outcome, Tried, refusals};
+use cq_tests_allocations::{Outcome, Tried, refusals};
 use std::alloc::Allocator;
 
 const LONG_NAME: &str = "kramer_who_flies_to_Rome_1";
@@ -42,7 +42,7 @@ impl Tried for Copying {
 }
 
 #[test]
-fn refused_growth_in_copies_of_edits(rt: HostRuntime) {
+fn failed_allocation_in_copies_of_edits(rt: HostRuntime) {
     // The name takes memory, and the query is shared.
     assert!(rt; refusals::<Copying>(rt.alloc()) == Ok(1));
 }

@@ -1,16 +1,16 @@
-//! Tests of what stands on no other crate of the program: values, atoms, rows, queries and edits (`cq_atom`), with each growth
+//! Tests of what stands on no other crate of the program: values, atoms, rows, queries and edits (`cq_atom`), with each allocation
 //! refused in turn, and the allocator that keeps to a budget (`cq_budget`). Nothing but tests is here, and no crate stands
 //! on this one.
 #![tactic(auto)]
 
+#[cfg(test)]
+mod allocations;
 #[cfg(test)]
 mod atoms;
 #[cfg(test)]
 mod budget;
 #[cfg(test)]
 mod edits;
-#[cfg(test)]
-mod growths;
 #[cfg(test)]
 mod queries;
 #[cfg(test)]

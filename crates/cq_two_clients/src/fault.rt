@@ -11,7 +11,7 @@ use thiserror::Error;
 /// Why the program ends with nothing shown.
 #[derive(Clone, Copy, Debug, PartialEq, Eq, Error)]
 pub enum Fault {
-    /// A growth of a list or of the board was refused.
+    /// An allocation of a list or of the board was refused.
     #[error(transparent)]
     Memory(#[from(alloc)] AllocError),
     /// A text is no query or no row, or was not read.

@@ -105,9 +105,9 @@ fn told_within<T: Threads + Wait + Sync>(rt: &T, alloc: Global, bytes: usize) ->
     (ended, heap.out())
 }
 
-// Each time there are some bytes more, until the run succeeds. The file is served in a thread, so growths are refused in it too.
+// Each time there are some bytes more, until the run succeeds. The file is served in a thread, so allocations are refused in it too.
 #[test]
-fn a_budget_refuses_growths(rt: HostRuntime) {
+fn a_budget_refuses_allocations(rt: HostRuntime) {
     let refused = Some((Err(SessionsFault::NoMemory), TRAVELLED.len()));
     for bytes in (0..ENOUGH).step_by(40) {
         let ended = told_within(&rt, rt.alloc(), bytes);

@@ -1,9 +1,9 @@
 //! Floors over a tally.
 
-use crate::desk::growths::is_borne;
+use crate::desk::allocations::is_borne;
 use crate::tally::{Full, Tally};
 use cq_desk::{Answer, Event, Floor, FloorFault, Live, NoMemory, Reply, StepFault};
-use cq_tests_growths::{Outcome, Tried, refusals};
+use cq_tests_allocations::{Outcome, Tried, refusals};
 use std::alloc::{Allocator, Global};
 
 type TallyFloor<A = Global> = Floor<Tally<A>, A>;
@@ -282,7 +282,7 @@ fn stopped<A: Allocator + Copy>(floor: &TallyFloor<A>, answers: &[Told]) -> bool
 }
 
 #[test]
-fn each_growth_of_a_floor_refused(rt: HostRuntime) {
+fn each_allocation_of_a_floor_refused(rt: HostRuntime) {
     assert!(rt; is_borne(refusals::<Begin>(rt.alloc())));
     assert!(rt; is_borne(refusals::<Step>(rt.alloc())));
     assert!(rt; is_borne(refusals::<Play>(rt.alloc())));

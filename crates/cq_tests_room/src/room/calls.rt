@@ -1,7 +1,7 @@
-//! The calls of which each growth is refused in turn.
+//! The calls of which each allocation is refused in turn.
 
-use crate::room::desk_growths::attempted_on_desk;
-use crate::room::growths::attempted_in_room;
+use crate::room::allocations::attempted_in_room;
+use crate::room::desk_allocations::attempted_on_desk;
 use crate::room::met::{Attempt, Met};
 use crate::room::states::Shared;
 use crate::tally::Tally;

@@ -1,12 +1,12 @@
-//! In what a refused growth was met, and how often.
+//! In what a failed allocation was met, and how often.
 
 use cq_desk::{End, Reply, Submitted};
 use cq_refusing::Refusing;
-use cq_tests_growths::ENOUGH;
+use cq_tests_allocations::ENOUGH;
 use std::alloc::{Allocator, Global};
 use std::sync::Wait;
 
-/// In what the refusal of a growth was met, where all that came of it was right.
+/// In what the refusal of an allocation was met, where all that came of it was right.
 #[derive(Clone, Copy, Debug, PartialEq, Eq)]
 pub enum Met {
     /// In what the calls need, before they were made.
@@ -25,7 +25,7 @@ pub enum Met {
     Enter,
     /// In the call that publishes.
     Publish,
-    /// In no call: all succeeded. A publish tries a refused growth of its log again, and tells nobody.
+    /// In no call: all succeeded. A publish tries a failed allocation of its log again, and tells nobody.
     Nothing,
     /// Something else came of the calls.
     Wrong,
@@ -125,16 +125,16 @@ fn add_one(count: &mut u64) {
     *count = count.saturating_add(1);
 }
 
-/// What is done on an allocator that refuses one growth.
+/// What is done on an allocator that refuses one allocation.
 pub trait Attempt {
     /// Does it.
     fn attempt<R: Wait + Drop + Copy, A: Allocator + Copy>(rt: R, alloc: A) -> Met;
 }
 
-/// How often a refusal was met in each, where each growth was refused in turn until none was left to refuse.
+/// How often a refusal was met in each, where each allocation was refused in turn until none was left to refuse.
 ///
 /// # Errors
-/// How many growths came before the refusal at which something else came of the attempt.
+/// How many allocations came before the refusal at which something else came of the attempt.
 pub fn counted<T: Attempt, R: Wait + Drop + Copy>(rt: R, alloc: Global) -> Result<Counts, u64> {
     let mut counts = Counts::none();
     for left in 0..ENOUGH {

@@ -20,7 +20,7 @@ pub enum Sight {
     LeftBy(u64),
 }
 
-/// A state that is driven in a room, and whose growths are refused in turn.
+/// A state that is driven in a room, and whose allocations are refused in turn.
 pub trait Shared<A: Allocator + Copy>: Live {
     /// What a session asks for, as a test has it.
     type Asked;
@@ -31,7 +31,7 @@ pub trait Shared<A: Allocator + Copy>: Live {
     /// The edits that are asked for.
     fn edits(alloc: A, asked: &[Self::Asked]) -> Option<Vec<Self::Edit, A>>;
 
-    /// The edit that becomes the first entry or the second one, where growths are refused.
+    /// The edit that becomes the first entry or the second one, where allocations are refused.
     fn edit(alloc: A, number: u64) -> Option<Self::Edit>;
 
     /// Whether these are the replies.

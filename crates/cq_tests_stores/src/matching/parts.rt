@@ -1,11 +1,11 @@
 //! The part of a falling list on which a node rests. What is expected was worked out by hand.
 
+use crate::matching::allocations::{Asking, PARTS};
 use crate::matching::edges::Ends;
 use crate::matching::graphs::{Asked, Graph, Scratch};
-use crate::matching::growths::{Asking, PARTS};
 use crate::stores::other_of;
 use cq_match::Reason;
-use cq_tests_growths::refusals;
+use cq_tests_allocations::refusals;
 
 // The falls are 4 and 5, not able, and 9, to which no edge leads; then 2 and 3, by 9; then 8, whose postcondition 1 is
 // crowded by 3 and 5. Nodes 1 and 6 are matched.
@@ -128,6 +128,6 @@ fn worked_edges_into_waiters(rt: HostRuntime) {
 }
 
 #[test]
-fn refused_growth_in_parts(rt: HostRuntime) {
+fn failed_allocation_in_parts(rt: HostRuntime) {
     assert!(rt; matches!(refusals::<Asking<PARTS>>(rt.alloc()), Ok(10..)));
 }

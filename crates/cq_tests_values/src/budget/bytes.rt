@@ -102,7 +102,7 @@ fn puts<A: Allocator>(numbers: &mut Vec<u64, A>, end: u64) -> bool {
 }
 
 /// Whether eight numbers of eight bytes are counted, and then two of them.
-fn counts_growth<A: Allocator>(heap: &Budget<A>, numbers: &mut Vec<u64, &Budget<A>>) -> bool {
+fn counts_allocation<A: Allocator>(heap: &Budget<A>, numbers: &mut Vec<u64, &Budget<A>>) -> bool {
     let grown = puts(numbers, 8) && heap.out() == 64;
     numbers.truncate(2);
     numbers.shrink_to_fit();
@@ -118,14 +118,14 @@ fn refuses_fifth<A: Allocator>(heap: &Budget<A>, numbers: &mut Vec<u64, &Budget<
 }
 
 #[test]
-fn a_growth_counts_what_it_adds(rt: HostRuntime) {
+fn an_allocation_counts_what_it_adds(rt: HostRuntime) {
     let heap = Budget::new(rt.alloc(), 64);
-    let right = counts_growth(&heap, &mut Vec::new(&heap));
+    let right = counts_allocation(&heap, &mut Vec::new(&heap));
     assert!(rt; right && heap.out() == 0);
 }
 
 #[test]
-fn a_refused_growth_changes_nothing(rt: HostRuntime) {
+fn a_failed_allocation_changes_nothing(rt: HostRuntime) {
     let heap = Budget::new(rt.alloc(), 63);
     let right = refuses_fifth(&heap, &mut Vec::new(&heap));
     assert!(rt; right && heap.out() == 0);
@@ -140,9 +140,9 @@ fn a_refusal_below_is_not_counted(rt: HostRuntime) {
     assert!(rt; other.is_none() && below.has_refused());
 }
 
-// The allocator below refuses a growth.
+// The allocator below refuses an allocation.
 #[test]
-fn a_growth_refused_below_is_not_counted(rt: HostRuntime) {
+fn an_allocation_refused_below_is_not_counted(rt: HostRuntime) {
     let below = Refusing::new(rt.alloc(), 1);
     let heap = Budget::new(&below, 1000);
     let right = refuses_fifth(&heap, &mut Vec::new(&heap));

@@ -4,7 +4,7 @@ use Rattle.std.specs.Ordering.{nat_cmp}
 use Rattle.cq_match.specs.declared.falls.Fall.{Fall}
 use Rattle.cq_match.specs.Steps.Resting.{IsRested, Picks, Walking, node_at}
 use Rattle.cq_match.proofs.Rested.{picked-part}
-use Rattle.cq_match.proofs.Wanting.{walk-starts}
+use Rattle.cq_match.proofs.Tracing.{walk-starts}
 use Rattle.cq_match.proofs.resting.part_at.Goals as goal
 
 pub returns : goal.returns

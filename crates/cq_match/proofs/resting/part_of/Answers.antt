@@ -3,7 +3,7 @@ use Rattle.std.specs.Prelude.{IfOk}
 use Rattle.std.specs.HashMap.{get}
 use Rattle.cq_match.specs.Resting.{IsPartFor}
 use Rattle.cq_match.proofs.Rested.{picked-part}
-use Rattle.cq_match.proofs.Wanting.{none-rested, not-placed}
+use Rattle.cq_match.proofs.Tracing.{none-rested, not-placed}
 use Rattle.cq_match.proofs.resting.part_of.Goals as goal
 
 pub part_at-requires-clause-low : goal.part_at-requires-clause-low

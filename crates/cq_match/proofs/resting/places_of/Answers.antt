@@ -1,7 +1,7 @@
 use Rattle.std.proofs.Common.{◌≡◌, length, nat_eq, subst, arith}
 use Rattle.std.specs.HashMap.{get}
 use Rattle.cq_match.specs.Steps.Resting.{ArePlaces}
-use Rattle.cq_match.proofs.Wanting.{placed-more}
+use Rattle.cq_match.proofs.Tracing.{placed-more}
 use Rattle.cq_match.proofs.resting.places_of.Goals as goal
 
 pub loop-place-preserved : goal.loop-place-preserved

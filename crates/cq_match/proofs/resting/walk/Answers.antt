@@ -1,7 +1,7 @@
 use Rattle.std.proofs.Common.{◌≡◌, ◌<◌, ◌≤◌, true, false, length, filter, eqb, nat_eq, get_or, reverse, arith}
 use Rattle.std.specs.HashMap.{get}
 use Rattle.cq_match.specs.Steps.Resting.{feeds_from, no_fall}
-use Rattle.cq_match.proofs.Wanting.{all-less, last-below, set-came, set-comes, still-below, stepped, none-wanted, walked-out}
+use Rattle.cq_match.proofs.Tracing.{all-less, last-below, set-came, set-comes, still-below, stepped, none-wanted, walked-out}
 use Rattle.cq_match.proofs.resting.walk.Goals as goal
 
 pub loop-place-preserved : goal.loop-place-preserved

@@ -1,7 +1,7 @@
--- It refuses the growth whose turn it is, and else answers what the inner allocator answers. Assumes `Logic`.
+-- It refuses the allocation whose turn it is, and else answers what the inner allocator answers. Assumes `Logic`.
 use Rattle.cq_refusing.proofs.Steps.{◌≡◌, Bool, true, false, [], ◌∷◌, Ok, Err, refl, w64, proved, after, Al, token, seen, Answer, answer_val, Answer-typed, Answer-Ok, Answer-err, Takes, at_takes, Answered, Takes-goes, Takes-gives, answers, block_if_ok, Fn, Val, vbool, inst_fn, id⊢, ftrue, flft, size, align, capped, ◌⊑◌, ⊑_trans, fact, tables, ‵, raw, ◌⊛◌, some, later, given, prop, at_ret, Sq, ◌$◌, ◌∵◌, !, qed, move, keep, use0, use1, use2, split, join, pick, learn, fsplit, fjoin, suffices, await, done, agg, enter, lit, addr, stop, fld, no_more, and_then, first, branches, skips, exec, returns, returns_within, alloc_all, pass_all, free_all, look_at, get, through, sets, lands_as, env, usize, yes, unhide, uint_vals, uint_Tells, owns, block_ptr, shr_vals, plain, types_at, heard, nothing, calls_at, Ended, framed, Stays, walk_of, stay_dropped, Goes-dropped, ends_at}
-use Rattle.cq_refusing.proofs.Shared.{args, self, inner_at, growths_at, Count, at_count, Count-goes, Count-gives}
-use Rattle.cq_refusing.proofs.Growths.count_one.Met.{met as counts}
+use Rattle.cq_refusing.proofs.Shared.{args, self, inner_at, allocations_at, Count, at_count, Count-goes, Count-gives}
+use Rattle.cq_refusing.proofs.Allocations.count_one.Met.{met as counts}
 use Rattle.cq_refusing.specs.contracts.RefusingAllocator.allocate as f
 use Rattle.cq_refusing.proofs.RefusingAllocator.allocate.Statement.{statement}
 use Rattle.cq_refusing.proofs.RefusingAllocator.allocate.Code as code
@@ -34,14 +34,14 @@ allocate_spec 𝓤 𝓛 𝓜 𝓡 wired B L B_ghosts B_dict B_drops met _ =
     move ! (1 ∷ []) $ split ! $ heard ! (κ₂ ⊑ B.lives) (λ le. heard ! Said (λ said.
     split ! $ split ! $ move ! (2 ∷ []) $ fsplit ! $ fsplit ! $ move ! (1 ∷ []) $ unhide ! $ fsplit ! $ fsplit ! $
     use1 𝓛 (‵ (seen Z κ₁ (inner_at Z r) r.now.inner)) (id⊢ 𝓤 _) $ move ! (1 ∷ []) $ fsplit ! $ keep ! (0 ∷ 6 ∷ 2 ∷ 7 ∷ []) $
-    -- [the growths; the token of κ₁; the inner allocator; the token of κ₂]
+    -- [the allocations; the token of κ₁; the inner allocator; the token of κ₂]
     enter ! _ _ _ _ _ $
     alloc_all ! (λ l. pass_all ! refl ((tt, tt), ((tt, record { fits = are.1.0.1 }), ((tt, record { fits = are.1.1.0.1 }), tt))) $
     sets ! (addr ! (through ! refl (fld ! refl (stop !)))) refl (tt, tt) $
     let m = 𝓜.mem in let run = 𝓡.returns in let fm = framed 𝓤 𝓛.H 𝓜 𝓣 in
-    let g = r.now.growths in let at = growths_at Z r in
+    let g = r.now.allocations in let at = allocations_at Z r in
     use2 𝓛 (raw ((Count 𝓛 m run).pre (at_count 𝓛 m run κ₁ q₁ g at))) (Count-goes 𝓛 m run κ₁ q₁ g at) $
-    calls_at ! fm (Count 𝓛 m run) (counts 𝓤 𝓛 𝓜 𝓡 (code.calls-cq_refusing::Growths::count_one 𝓡.env wired)) (at_count 𝓛 m run κ₁ q₁ g at) (and_then ! (get ! refl) (no_more !)) (λ u.
+    calls_at ! fm (Count 𝓛 m run) (counts 𝓤 𝓛 𝓜 𝓡 (code.calls-cq_refusing::Allocations::count_one 𝓡.env wired)) (at_count 𝓛 m run κ₁ q₁ g at) (and_then ! (get ! refl) (no_more !)) (λ u.
     use1 𝓛 (later (some (λ (is_turn : Bool). given (u ≡ vbool is_turn) (‵ (flft κ₁ q₁))))) (Count-gives 𝓛 m run κ₁ q₁ g at u) $
     await ! tt $ pick ! (λ is_turn. learn ! (λ told. lands_as ! told refl (tt, tt) $
     -- [the token of κ₁; the inner allocator; the token of κ₂]

@@ -23,7 +23,7 @@ link-linked-requires-clause-free g c =
     let kept = kept_of m c.self.inside.heads c.self.inside.posts c.self.view_is c.self.invariant in
     free_posts m c.args.place (ends_of c.args.query.now) c.self.inside.heads c.self.inside.posts c.self.inside.heads c.self.inside.posts kept c.requires
 
--- a refused growth: the heads are out again
+-- a failed allocation: the heads are out again
 kept_before : (g : _) (c : goal.After-take_all g) → IsKept c.args.self.now c.take_all.new.index c.link-linked.new.posts
 kept_before g c =
     let m = c.args.self.now in

@@ -7,7 +7,7 @@ use Rattle.cq_match.proofs.Rows.{row, taken-placed}
 use Rattle.cq_match.proofs.Bridge.{there, exact-is}
 use Rattle.cq_match.proofs.Flags.{same-edges, same-kept, flagged-nodes}
 use Rattle.cq_match.proofs.Going.{unable-place}
-use Rattle.cq_match.proofs.Waking.{unfed-settled}
+use Rattle.cq_match.proofs.MadeAble.{unfed-settled}
 use Rattle.cq_match.proofs.matcher.Matcher.make_able.Goals as goal
 
 pub index-requires : goal.index-requires

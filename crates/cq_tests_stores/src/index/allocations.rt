@@ -1,10 +1,10 @@
-//! Each growth of a call refused in turn.
+//! Each allocation of a call refused in turn.
 
 use crate::index::calls::Call;
 use crate::index::rows::{ANSWERS, WORKED};
 use crate::stores::{Trial, tried_at};
 use cq_index::AtomIndex;
-use cq_tests_growths::{Outcome, Tried, refusals};
+use cq_tests_allocations::{Outcome, Tried, refusals};
 use std::alloc::Allocator;
 
 const ADD: usize = 0;
@@ -61,21 +61,21 @@ impl<const PLACE: usize> Tried for Trying<PLACE> {
 }
 
 #[test]
-fn refused_growth_in_add(rt: HostRuntime) {
+fn failed_allocation_in_add(rt: HostRuntime) {
     assert!(rt; matches!(refusals::<Trying<ADD>>(rt.alloc()), Ok(4..)));
 }
 
 #[test]
-fn refused_growth_in_candidates(rt: HostRuntime) {
+fn failed_allocation_in_candidates(rt: HostRuntime) {
     assert!(rt; matches!(refusals::<Trying<CANDIDATES>>(rt.alloc()), Ok(1..)));
 }
 
 #[test]
-fn refused_growth_in_partners(rt: HostRuntime) {
+fn failed_allocation_in_partners(rt: HostRuntime) {
     assert!(rt; matches!(refusals::<Trying<PARTNERS>>(rt.alloc()), Ok(2..)));
 }
 
 #[test]
-fn refused_growth_in_copy(rt: HostRuntime) {
+fn failed_allocation_in_copy(rt: HostRuntime) {
     assert!(rt; matches!(refusals::<Trying<COPY>>(rt.alloc()), Ok(4..)));
 }

@@ -1,7 +1,7 @@
-//! Each growth of a call refused in turn.
+//! Each allocation of a call refused in turn.
 //!
 //! A call that is tried so is a type with the trait [`Tried`]: it sets up what the call needs, makes the call, and
-//! says what came of it. [`refusals`] has it do so on an allocator that refuses the first growth, on one that
+//! says what came of it. [`refusals`] has it do so on an allocator that refuses the first allocation, on one that
 //! refuses the second, and so on. Nothing but tests uses it.
 #![tactic(auto)]
 
@@ -9,12 +9,12 @@
 pub use cq_refusing::Refusing;
 use std::alloc::{Allocator, Global};
 
-/// What came of a call on an allocator that refuses one growth.
+/// What came of a call on an allocator that refuses one allocation.
 #[derive(Clone, Copy, Debug, PartialEq, Eq)]
 pub enum Outcome {
-    /// What the call needs was refused a growth, so there was no call.
+    /// What the call needs was refused an allocation, so there was no call.
     Unready,
-    /// The call was refused a growth: it said so, changed nothing, and the same call then succeeded.
+    /// The call was refused an allocation: it said so, changed nothing, and the same call then succeeded.
     Refused,
     /// The call succeeded.
     Done,
@@ -28,7 +28,7 @@ impl Outcome {
         if right { Outcome::Done } else { Outcome::Wrong }
     }
 
-    /// The outcome of a call that was refused a growth, where that changed nothing and the same call then
+    /// The outcome of a call that was refused an allocation, where that changed nothing and the same call then
     /// succeeded.
     pub fn refused_if(right: bool) -> Outcome {
         if right {
@@ -39,19 +39,19 @@ impl Outcome {
     }
 }
 
-/// A call of which each growth is refused in turn.
+/// A call of which each allocation is refused in turn.
 pub trait Tried {
     /// Sets up what the call needs on the allocator, and makes the call.
     fn tried<A: Allocator + Copy>(alloc: A) -> Outcome;
 }
 
-/// More growths than any call that is tried makes.
+/// More allocations than any call that is tried makes.
 pub const ENOUGH: u64 = 2_000;
 
-/// How many growths of the call were refused, until none was.
+/// How many allocations of the call were refused, until none was.
 ///
 /// # Errors
-/// How many growths came before the refusal at which something else came of the call.
+/// How many allocations came before the refusal at which something else came of the call.
 pub fn refusals<T: Tried>(alloc: Global) -> Result<u64, u64> {
     let mut refused = 0u64;
     for left in 0..ENOUGH {

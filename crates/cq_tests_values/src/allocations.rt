@@ -1,10 +1,10 @@
-//! Each growth of a call refused in turn.
+//! Each allocation of a call refused in turn.
 //!
 //! Names and texts of up to 22 bytes take no memory, and so longer ones stand here.
 
 use crate::samples::{ONE, Sample, X, Y, atom, query, row};
 use cq_atom::{Atom, Bad, Name, Query, Row, Term, Valuation, Value};
-use cq_tests_growths::{Outcome, Tried, refusals};
+use cq_tests_allocations::{Outcome, Tried, refusals};
 use std::alloc::{AllocError, Allocator};
 
 fn is_good<A: Allocator>(made: Result<Query<A>, Bad>) -> bool {
@@ -27,7 +27,7 @@ impl Tried for Making {
 }
 
 #[test]
-fn refused_growth_in_constructors(rt: HostRuntime) {
+fn failed_allocation_in_constructors(rt: HostRuntime) {
     assert!(rt; matches!(refusals::<Making>(rt.alloc()), Ok(11..)));
 }
 
@@ -51,7 +51,7 @@ impl Tried for Copying {
 }
 
 #[test]
-fn refused_growth_in_copies(rt: HostRuntime) {
+fn failed_allocation_in_copies(rt: HostRuntime) {
     // A copy shares what the query holds.
     assert!(rt; refusals::<Copying>(rt.alloc()) == Ok(0));
 }
@@ -89,7 +89,7 @@ impl Tried for MakingRow {
 }
 
 #[test]
-fn refused_growth_in_rows(rt: HostRuntime) {
+fn failed_allocation_in_rows(rt: HostRuntime) {
     assert!(rt; matches!(refusals::<MakingRow>(rt.alloc()), Ok(4..)));
 }
 
@@ -136,7 +136,7 @@ impl Tried for CopyingRow {
 }
 
 #[test]
-fn refused_growth_in_copies_of_rows(rt: HostRuntime) {
+fn failed_allocation_in_copies_of_rows(rt: HostRuntime) {
     // The name and the first value take memory, the row and the atom share what they hold.
     assert!(rt; refusals::<CopyingRow>(rt.alloc()) == Ok(2));
 }
@@ -192,7 +192,7 @@ impl Tried for UnderRome {
 }
 
 #[test]
-fn refused_growth_in_under(rt: HostRuntime) {
+fn failed_allocation_in_under(rt: HostRuntime) {
     assert!(rt; matches!(refusals::<UnderRome>(rt.alloc()), Ok(3..)));
 }
 
@@ -228,6 +228,6 @@ impl Tried for Binding {
 }
 
 #[test]
-fn refused_growth_in_bind(rt: HostRuntime) {
+fn failed_allocation_in_bind(rt: HostRuntime) {
     assert!(rt; matches!(refusals::<Binding>(rt.alloc()), Ok(2..)));
 }

@@ -1,11 +1,11 @@
-//! Each growth of a call refused in turn.
+//! Each allocation of a call refused in turn.
 
 use crate::matching::calls::Call;
 use crate::matching::graphs::{Asked, Graph, Scratch};
 use crate::matching::twin::Twin;
 use crate::stores::{Trial, tried_at};
 use cq_match::Reason;
-use cq_tests_growths::{Outcome, Tried, refusals};
+use cq_tests_allocations::{Outcome, Tried, refusals};
 use std::alloc::Allocator;
 
 /// Node 0 waits for node 1, which waits for a third.
@@ -76,22 +76,22 @@ impl<const PLACE: usize> Tried for Trying<PLACE> {
 }
 
 #[test]
-fn refused_growth_in_add(rt: HostRuntime) {
+fn failed_allocation_in_add(rt: HostRuntime) {
     assert!(rt; matches!(refusals::<Trying<ADD>>(rt.alloc()), Ok(8..)));
 }
 
 #[test]
-fn refused_growth_in_enable(rt: HostRuntime) {
+fn failed_allocation_in_enable(rt: HostRuntime) {
     assert!(rt; matches!(refusals::<Trying<ENABLE>>(rt.alloc()), Ok(1..)));
 }
 
 #[test]
-fn refused_growth_in_waiters(rt: HostRuntime) {
+fn failed_allocation_in_waiters(rt: HostRuntime) {
     assert!(rt; matches!(refusals::<Trying<WAITERS>>(rt.alloc()), Ok(1..)));
 }
 
 #[test]
-fn refused_growth_in_copy(rt: HostRuntime) {
+fn failed_allocation_in_copy(rt: HostRuntime) {
     assert!(rt; matches!(refusals::<Trying<COPY>>(rt.alloc()), Ok(8..)));
 }
 
@@ -148,11 +148,11 @@ impl<const PLACE: usize> Tried for Asking<PLACE> {
 }
 
 #[test]
-fn refused_growth_in_greatest(rt: HostRuntime) {
+fn failed_allocation_in_greatest(rt: HostRuntime) {
     assert!(rt; matches!(refusals::<Asking<GREATEST>>(rt.alloc()), Ok(1..)));
 }
 
 #[test]
-fn refused_growth_in_falling(rt: HostRuntime) {
+fn failed_allocation_in_falling(rt: HostRuntime) {
     assert!(rt; matches!(refusals::<Asking<FALLING>>(rt.alloc()), Ok(8..)));
 }

@@ -1,10 +1,10 @@
-//! Each growth of a call refused in turn.
+//! Each allocation of a call refused in turn.
 
 use crate::roster::calls::Call;
 use crate::roster::orders::{SEATS, STANDS, WORKED};
 use crate::stores::{Trial, tried_at};
 use cq_roster::{Roster, Seat};
-use cq_tests_growths::{Outcome, Tried, refusals};
+use cq_tests_allocations::{Outcome, Tried, refusals};
 use std::alloc::Allocator;
 
 // A name of more than 22 bytes takes memory of its own.
@@ -49,7 +49,7 @@ const TRIALS: &[Trial<'static, Call>] = &[
         shown: &[EMPTY],
         after: &[LONE],
     },
-    // That the one growth is refused is made up for by smaller ones.
+    // That the one allocation is refused is made up for by smaller ones.
     Trial {
         before: &[WORKED],
         tried: Call::Lists(SEATS),
@@ -80,21 +80,21 @@ impl<const PLACE: usize> Tried for Trying<PLACE> {
 }
 
 #[test]
-fn refused_growth_in_add(rt: HostRuntime) {
+fn failed_allocation_in_add(rt: HostRuntime) {
     assert!(rt; matches!(refusals::<Trying<ADD>>(rt.alloc()), Ok(2..)));
 }
 
 #[test]
-fn refused_growth_in_the_first_add(rt: HostRuntime) {
+fn failed_allocation_in_the_first_add(rt: HostRuntime) {
     assert!(rt; matches!(refusals::<Trying<FIRST_ADD>>(rt.alloc()), Ok(5..)));
 }
 
 #[test]
-fn refused_growth_in_in_order(rt: HostRuntime) {
+fn failed_allocation_in_in_order(rt: HostRuntime) {
     assert!(rt; refusals::<Trying<LIST>>(rt.alloc()).is_ok());
 }
 
 #[test]
-fn refused_growth_in_copy(rt: HostRuntime) {
+fn failed_allocation_in_copy(rt: HostRuntime) {
     assert!(rt; matches!(refusals::<Trying<COPY>>(rt.alloc()), Ok(2..)));
 }

@@ -1,10 +1,10 @@
-//! Each growth of a call refused in turn.
+//! Each allocation of a call refused in turn.
 
 use crate::devices::{Expecting, OneLine};
 use crate::runs;
 use crate::runs::{Told, WELL};
 use cq_report::{Numbering, RunFault};
-use cq_tests_growths::{ENOUGH, Outcome, Refusing, Tried, refusals};
+use cq_tests_allocations::{ENOUGH, Outcome, Refusing, Tried, refusals};
 use std::alloc::{Allocator, Global};
 use std::io::Read;
 
@@ -54,20 +54,20 @@ impl Tried for Running {
     }
 }
 
-// A refused growth ends the run as out of memory, and what was written is a front of the answers.
+// A failed allocation ends the run as out of memory, and what was written is a front of the answers.
 #[test]
-fn refused_growth_in_run(rt: HostRuntime) {
+fn failed_allocation_in_run(rt: HostRuntime) {
     assert!(rt; matches!(refusals::<Running>(rt.alloc()), Ok(33..)));
 }
 
-/// How many different lengths of answers were written by runs with one growth refused, where each wrote as much as where each line
+/// How many different lengths of answers were written by runs with one allocation refused, where each wrote as much as where each line
 /// is read alone, so that its reply is written before the next read; or nothing, where one did not.
 fn lengths_written(alloc: Global) -> Option<u64> {
     let mut lengths = 1u64;
     let mut last = ANSWERS.len();
-    for growth in 0..ENOUGH {
-        let (ended, lacking, flushes) = told(&Refusing::new(alloc, growth), SCRIPT);
-        let alone = told(&Refusing::new(alloc, growth), OneLine(SCRIPT));
+    for allocation in 0..ENOUGH {
+        let (ended, lacking, flushes) = told(&Refusing::new(alloc, allocation), SCRIPT);
+        let alone = told(&Refusing::new(alloc, allocation), OneLine(SCRIPT));
         if (ended, lacking, flushes) != alone {
             return None;
         }
@@ -82,6 +82,6 @@ fn lengths_written(alloc: Global) -> Option<u64> {
 
 // All lines before the one that ran out of memory have their replies, though these waited in a buffer.
 #[test]
-fn replies_before_a_refused_growth(rt: HostRuntime) {
+fn replies_before_a_failed_allocation(rt: HostRuntime) {
     assert!(rt; matches!(lengths_written(rt.alloc()), Some(6..)));
 }

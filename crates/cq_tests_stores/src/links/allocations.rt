@@ -1,10 +1,10 @@
-//! Each growth of a call refused in turn.
+//! Each allocation of a call refused in turn.
 
 use crate::links::calls::Call;
 use crate::links::rows::{THIRD, TWO_OF_RING};
 use crate::stores::{Trial, tried_at};
 use cq_links::Links;
-use cq_tests_growths::{Outcome, Tried, refusals};
+use cq_tests_allocations::{Outcome, Tried, refusals};
 use std::alloc::Allocator;
 
 /// Two of the ring stand, and the last does not.
@@ -42,11 +42,11 @@ impl<const PLACE: usize> Tried for Trying<PLACE> {
 }
 
 #[test]
-fn refused_growth_in_add(rt: HostRuntime) {
+fn failed_allocation_in_add(rt: HostRuntime) {
     assert!(rt; matches!(refusals::<Trying<ADD>>(rt.alloc()), Ok(4..)));
 }
 
 #[test]
-fn refused_growth_in_copy(rt: HostRuntime) {
+fn failed_allocation_in_copy(rt: HostRuntime) {
     assert!(rt; matches!(refusals::<Trying<COPY>>(rt.alloc()), Ok(4..)));
 }

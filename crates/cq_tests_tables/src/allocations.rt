@@ -1,11 +1,11 @@
-//! Each growth of a call refused in turn.
+//! Each allocation of a call refused in turn.
 
 use crate::groundings::{JERRY, all};
 use crate::samples::{travel, travel_begun, travel_catalog};
 use cq_atom::{Meter, Row, Value};
 use cq_ground::Groundings;
 use cq_rel::{Catalog, CatalogFault, RowFault, Tables};
-use cq_tests_growths::{Outcome, Tried, refusals};
+use cq_tests_allocations::{Outcome, Tried, refusals};
 use cq_text::{Form, read_ground_atom};
 use std::alloc::{AllocError, Allocator};
 
@@ -33,7 +33,7 @@ impl Tried for Declaring {
 }
 
 #[test]
-fn refused_growth_in_declare(rt: HostRuntime) {
+fn failed_allocation_in_declare(rt: HostRuntime) {
     assert!(rt; matches!(refusals::<Declaring>(rt.alloc()), Ok(2..)));
 }
 
@@ -60,7 +60,7 @@ impl Tried for Beginning {
 }
 
 #[test]
-fn refused_growth_in_begin(rt: HostRuntime) {
+fn failed_allocation_in_begin(rt: HostRuntime) {
     assert!(rt; matches!(refusals::<Beginning>(rt.alloc()), Ok(1..)));
 }
 
@@ -101,7 +101,7 @@ impl Tried for Inserting {
 }
 
 #[test]
-fn refused_growth_in_insert(rt: HostRuntime) {
+fn failed_allocation_in_insert(rt: HostRuntime) {
     assert!(rt; matches!(refusals::<Inserting>(rt.alloc()), Ok(1..)));
 }
 
@@ -125,7 +125,7 @@ impl Tried for Copying {
 }
 
 #[test]
-fn refused_growth_in_copies(rt: HostRuntime) {
+fn failed_allocation_in_copies(rt: HostRuntime) {
     assert!(rt; matches!(refusals::<Copying>(rt.alloc()), Ok(4..)));
 }
 
@@ -157,7 +157,7 @@ impl Tried for CopyingCatalog {
 }
 
 #[test]
-fn refused_growth_in_copies_of_catalogs(rt: HostRuntime) {
+fn failed_allocation_in_copies_of_catalogs(rt: HostRuntime) {
     assert!(rt; matches!(refusals::<CopyingCatalog>(rt.alloc()), Ok(3..)));
 }
 
@@ -203,7 +203,7 @@ impl Tried for Grounding {
 }
 
 #[test]
-fn refused_growth_in_all(rt: HostRuntime) {
+fn failed_allocation_in_all(rt: HostRuntime) {
     assert!(rt; matches!(refusals::<Grounding>(rt.alloc()), Ok(6..)));
 }
 
@@ -231,6 +231,6 @@ impl Tried for CopyingGroundings {
 }
 
 #[test]
-fn refused_growth_in_copies_of_groundings(rt: HostRuntime) {
+fn failed_allocation_in_copies_of_groundings(rt: HostRuntime) {
     assert!(rt; matches!(refusals::<CopyingGroundings>(rt.alloc()), Ok(3..)));
 }

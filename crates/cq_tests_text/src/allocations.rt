@@ -1,8 +1,8 @@
-//! Each growth of a call refused in turn.
+//! Each allocation of a call refused in turn.
 
 use cq_atom::{Query, Row};
 use cq_devices::{Counted, WholeFault, read_whole};
-use cq_tests_growths::{Outcome, Tried, refusals};
+use cq_tests_allocations::{Outcome, Tried, refusals};
 use cq_text::{
     Form, TextFault, print_atom, print_query, print_row, print_values, push_escaped, read_command,
     read_ground_atom, read_query,
@@ -27,7 +27,7 @@ impl Tried for ReadingLine {
 }
 
 #[test]
-fn refused_growth_in_reading(rt: HostRuntime) {
+fn failed_allocation_in_reading(rt: HostRuntime) {
     assert!(rt; matches!(refusals::<ReadingLine>(rt.alloc()), Ok(6..)));
 }
 
@@ -49,7 +49,7 @@ impl Tried for ReadingRow {
 }
 
 #[test]
-fn refused_growth_in_reading_rows(rt: HostRuntime) {
+fn failed_allocation_in_reading_rows(rt: HostRuntime) {
     assert!(rt; matches!(refusals::<ReadingRow>(rt.alloc()), Ok(4..)));
 }
 
@@ -75,7 +75,7 @@ impl Tried for ReadingQuery {
 }
 
 #[test]
-fn refused_growth_in_reading_queries(rt: HostRuntime) {
+fn failed_allocation_in_reading_queries(rt: HostRuntime) {
     assert!(rt; matches!(refusals::<ReadingQuery>(rt.alloc()), Ok(9..)));
 }
 
@@ -107,7 +107,7 @@ impl Tried for Printing {
 }
 
 #[test]
-fn refused_growth_in_printing(rt: HostRuntime) {
+fn failed_allocation_in_printing(rt: HostRuntime) {
     assert!(rt; matches!(refusals::<Printing>(rt.alloc()), Ok(1..)));
 }
 
@@ -159,7 +159,7 @@ impl Tried for PrintingParts {
 }
 
 #[test]
-fn refused_growth_in_printing_parts(rt: HostRuntime) {
+fn failed_allocation_in_printing_parts(rt: HostRuntime) {
     assert!(rt; matches!(refusals::<PrintingParts>(rt.alloc()), Ok(3..)));
 }
 
@@ -198,6 +198,6 @@ impl Tried for ReadingWhole {
 }
 
 #[test]
-fn refused_growth_in_read_whole(rt: HostRuntime) {
+fn failed_allocation_in_read_whole(rt: HostRuntime) {
     assert!(rt; matches!(refusals::<ReadingWhole>(rt.alloc()), Ok(3..)));
 }

@@ -1,4 +1,4 @@
-//! Each growth of a room, from its beginning to the end of a submit, refused in turn, and then an empty submit of
+//! Each allocation of a room, from its beginning to the end of a submit, refused in turn, and then an empty submit of
 //! another session.
 
 use crate::room::calls::{PostedInRoom, SubmittedInRoom};
@@ -16,7 +16,7 @@ pub fn sees<S: Seated>(session: S, entries: u64) -> Option<S> {
     session.looks(entries, Sight::LeftBy(entries))
 }
 
-/// The second session, which sees nothing of a submit that was refused a growth, and what its empty submit tells of, which
+/// The second session, which sees nothing of a submit that was refused an allocation, and what its empty submit tells of, which
 /// publishes all that was entered.
 fn publishes_all<S: Seated, H: Hall<S>>(hall: &H, second: S, entries: u64) -> Option<(S, S::Told)> {
     let mut second = sees(second, 0)?;
@@ -156,7 +156,7 @@ fn are_met(counts: Result<Counts, u64>) -> bool {
     )
 }
 
-/// Whether refusals were met in beginning a room. Over a board without relations no growth is asked for.
+/// Whether refusals were met in beginning a room. Over a board without relations no allocation is asked for.
 fn are_met_in_begin(counts: Result<Counts, u64>) -> bool {
     matches!(counts, Ok(Counts { begin: 1.., .. }))
 }
@@ -173,13 +173,13 @@ pub fn are_stopped_behind(counts: Result<Counts, u64>) -> bool {
 }
 
 #[test]
-fn refused_growth_in_a_room(rt: HostRuntime) {
+fn failed_allocation_in_a_room(rt: HostRuntime) {
     let counts = counted::<SubmittedInRoom, _>(&rt, rt.alloc());
     assert!(rt; are_met(counts) && are_met_in_begin(counts), "{counts:?}");
 }
 
 #[test]
-fn refused_growth_in_a_room_over_a_board(rt: HostRuntime) {
+fn failed_allocation_in_a_room_over_a_board(rt: HostRuntime) {
     let counts = counted::<PostedInRoom, _>(&rt, rt.alloc());
     assert!(rt; are_met(counts) && are_stopped_behind(counts), "{counts:?}");
 }

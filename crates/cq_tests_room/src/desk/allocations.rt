@@ -1,10 +1,10 @@
-//! Each growth of enter, publish and submit refused in turn, and then the same call again.
+//! Each allocation of enter, publish and submit refused in turn, and then the same call again.
 
 use crate::desk::desks::{TallyDesk, desk, stands};
 use crate::tally::{Full, Tally, list};
 use cq_desk::{End, Live, NoMemory, Plain, Reply, Submitted};
 use cq_refusing::Refusing;
-use cq_tests_growths::{ENOUGH, Outcome, Tried, refusals};
+use cq_tests_allocations::{ENOUGH, Outcome, Tried, refusals};
 use std::alloc::{Allocator, Global};
 
 /// A publisher begun over a tally of one byte.
@@ -170,7 +170,7 @@ fn end_of<A: Allocator + Copy>(desk: &mut TallyDesk<A>, asked: Vec<u8, A>) -> Op
     }
 }
 
-/// Whether some growths of the call were refused, and nothing but what is right came of it.
+/// Whether some allocations of the call were refused, and nothing but what is right came of it.
 pub fn is_borne(refused: Result<u64, u64>) -> bool {
     match refused {
         Ok(count) => count > 0,
@@ -179,7 +179,7 @@ pub fn is_borne(refused: Result<u64, u64>) -> bool {
 }
 
 #[test]
-fn each_growth_refused(rt: HostRuntime) {
+fn each_allocation_refused(rt: HostRuntime) {
     let calls = [
         ("begin", refusals::<Begin>(rt.alloc())),
         ("enter", refusals::<Nth<0>>(rt.alloc())),
@@ -200,7 +200,7 @@ fn end_on<A: Allocator + Copy>(alloc: A) -> Option<End> {
     }
 }
 
-/// Whether a submit ends so where one of its growths is refused.
+/// Whether a submit ends so where one of its allocations is refused.
 fn is_met(alloc: Global, end: End) -> bool {
     for left in 0..ENOUGH {
         let heap = Refusing::new(alloc, left);

@@ -1,9 +1,9 @@
-//! Each growth of a call refused in turn.
+//! Each allocation of a call refused in turn.
 
 use crate::grounded::calls::{Call, Sample};
 use crate::grounded::rows::QUERIES;
 use crate::stores::{Trial, tried_at};
-use cq_tests_growths::{Outcome, Tried, refusals};
+use cq_tests_allocations::{Outcome, Tried, refusals};
 use std::alloc::Allocator;
 
 /// A row after the queries.
@@ -56,16 +56,16 @@ impl<const PLACE: usize> Tried for Trying<PLACE> {
 }
 
 #[test]
-fn refused_growth_in_add(rt: HostRuntime) {
+fn failed_allocation_in_add(rt: HostRuntime) {
     assert!(rt; matches!(refusals::<Trying<ADD>>(rt.alloc()), Ok(1..)));
 }
 
 #[test]
-fn refused_growth_in_gain(rt: HostRuntime) {
+fn failed_allocation_in_gain(rt: HostRuntime) {
     assert!(rt; matches!(refusals::<Trying<GAIN>>(rt.alloc()), Ok(4..)));
 }
 
 #[test]
-fn refused_growth_in_copy(rt: HostRuntime) {
+fn failed_allocation_in_copy(rt: HostRuntime) {
     assert!(rt; matches!(refusals::<Trying<COPY>>(rt.alloc()), Ok(4..)));
 }

@@ -1,9 +1,9 @@
-//! Each growth of the calls of a desk over two copies refused in turn, and then the same call or another publish.
+//! Each allocation of the calls of a desk over two copies refused in turn, and then the same call or another publish.
 
 ghost use Rattle.std.specs.Prelude.{◌≡◌, ◌∷◌, []};
 
+use crate::room::allocations::{are_stopped_behind, begins_again, sees};
 use crate::room::calls::{Calls, EnteredBytes, EnteredQueries, SubmittedBytes, SubmittedQueries};
-use crate::room::growths::{are_stopped_behind, begins_again, sees};
 use crate::room::met::{Counts, Met, counted, met_by};
 use crate::room::seats::Seated;
 use crate::room::states::{Shared, Sight, both_edits};
@@ -109,7 +109,7 @@ fn enters_at_last<D: Desking<R, A>, R, A: Copy>(alloc: A, desk: &mut D, number: 
     met.if_right(kept && desk.enters(alloc, number) == Met::Nothing)
 }
 
-/// Nothing is shown after a refused growth, and so many edits are entered. Another publish, or an empty submit, shows
+/// Nothing is shown after a failed allocation, and so many edits are entered. Another publish, or an empty submit, shows
 /// them all.
 fn goes_on<D: Desking<R, A>, S: Seated, R, A: Copy>(
     rt: &R,
@@ -232,7 +232,7 @@ pub fn attempted_on_desk<L: Shared<A>, R: Wait + Drop + Copy, A: Allocator + Cop
     met.if_right(begins_again::<L, R, A>(rt, alloc, met))
 }
 
-/// Whether growths of both calls were refused, and nothing but what is right came of it.
+/// Whether allocations of both calls were refused, and nothing but what is right came of it.
 fn are_entered(counts: Result<Counts, u64>) -> bool {
     matches!(
         counts,
@@ -258,7 +258,7 @@ fn are_submitted(counts: Result<Counts, u64>) -> bool {
 }
 
 #[test]
-fn refused_growth_on_a_desk(rt: HostRuntime) {
+fn failed_allocation_on_a_desk(rt: HostRuntime) {
     let entered = counted::<EnteredBytes, _>(&rt, rt.alloc());
     assert!(rt; are_entered(entered), "{entered:?}");
     let submitted = counted::<SubmittedBytes, _>(&rt, rt.alloc());
@@ -266,7 +266,7 @@ fn refused_growth_on_a_desk(rt: HostRuntime) {
 }
 
 #[test]
-fn refused_growth_on_a_desk_over_a_board(rt: HostRuntime) {
+fn failed_allocation_on_a_desk_over_a_board(rt: HostRuntime) {
     let entered = counted::<EnteredQueries, _>(&rt, rt.alloc());
     assert!(rt; are_entered(entered), "{entered:?}");
     let submitted = counted::<SubmittedQueries, _>(&rt, rt.alloc());

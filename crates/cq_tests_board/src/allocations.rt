@@ -1,4 +1,4 @@
-//! Each growth of a call refused in turn, and calls that ask for none.
+//! Each allocation of a call refused in turn, and calls that ask for none.
 
 use crate::able::P_AND_Q;
 use crate::page::Page;
@@ -9,7 +9,7 @@ use crate::views::{BY_SLIP, CROWD, CROWD_SHOWN, JERRY_WAITS, PAIR, SLIPS};
 use cq_atom::Edit;
 use cq_board::{Board, ScratchFault};
 use cq_rel::Catalog;
-use cq_tests_growths::{Outcome, Refusing, Tried, refusals};
+use cq_tests_allocations::{Outcome, Refusing, Tried, refusals};
 use std::alloc::{AllocError, Allocator, Global};
 
 /// What stands before a call, and the call: `begin` or `scratch`, by which a board is begun or is made from scratch; `copy`; `show`,
@@ -123,7 +123,7 @@ impl<const N: usize> Tried for Nth<N> {
     }
 }
 
-/// Whether each growth of the trial is refused in turn, and so many are at least.
+/// Whether each allocation of the trial is refused in turn, and so many are at least.
 fn is_refused<T: Tried>(alloc: Global, least: u64) -> bool {
     match refusals::<T>(alloc) {
         Ok(count) => count >= least,
@@ -220,7 +220,7 @@ fn scratched<A: Allocator + Copy>(alloc: A, setup: Setup) -> Outcome {
     }
 }
 
-/// What a copy of the board shows; nothing where the look was refused a growth.
+/// What a copy of the board shows; nothing where the look was refused an allocation.
 fn copy_of<A: Allocator + Copy>(alloc: A, board: &Board<A>) -> Result<Option<Page>, AllocError> {
     let copy = board.copy()?;
     let page = page_of(alloc, &copy);
@@ -242,7 +242,7 @@ fn copied<A: Allocator + Copy>(alloc: A, board: &Board<A>) -> Outcome {
     }
 }
 
-/// Done, where that is what is shown; there is no telling where the look was refused a growth.
+/// Done, where that is what is shown; there is no telling where the look was refused an allocation.
 fn done(shown: Result<bool, AllocError>) -> Outcome {
     match shown {
         Ok(shown) => Outcome::done_if(shown),
@@ -307,51 +307,51 @@ fn shown<A: Allocator + Copy>(alloc: A, board: &Board<A>, looks: &str) -> Outcom
 }
 
 #[test]
-fn refused_growth_in_begin(rt: HostRuntime) {
+fn failed_allocation_in_begin(rt: HostRuntime) {
     assert!(rt; is_refused::<Nth<0>>(rt.alloc(), 1));
 }
 
 #[test]
-fn refused_growth_in_scratch(rt: HostRuntime) {
+fn failed_allocation_in_scratch(rt: HostRuntime) {
     assert!(rt; is_refused::<Nth<1>>(rt.alloc(), 20));
 }
 
 #[test]
-fn refused_growth_in_copy(rt: HostRuntime) {
+fn failed_allocation_in_copy(rt: HostRuntime) {
     assert!(rt; is_refused::<Nth<2>>(rt.alloc(), 20));
 }
 
 #[test]
-fn refused_growth_in_admit(rt: HostRuntime) {
+fn failed_allocation_in_admit(rt: HostRuntime) {
     assert!(rt; is_refused::<Nth<3>>(rt.alloc(), 20));
 }
 
 #[test]
-fn refused_growth_in_an_insertion(rt: HostRuntime) {
+fn failed_allocation_in_an_insertion(rt: HostRuntime) {
     assert!(rt; is_refused::<Nth<4>>(rt.alloc(), 4));
 }
 
 #[test]
-fn refused_growth_in_an_insertion_that_enables(rt: HostRuntime) {
+fn failed_allocation_in_an_insertion_that_enables(rt: HostRuntime) {
     assert!(rt; is_refused::<Nth<5>>(rt.alloc(), 4));
 }
 
 #[test]
-fn refused_growth_in_views(rt: HostRuntime) {
+fn failed_allocation_in_views(rt: HostRuntime) {
     assert!(rt; is_refused::<Nth<6>>(rt.alloc(), 5));
 }
 
 #[test]
-fn refused_growth_in_why_waiting(rt: HostRuntime) {
+fn failed_allocation_in_why_waiting(rt: HostRuntime) {
     assert!(rt; is_refused::<Nth<7>>(rt.alloc(), 2));
 }
 
 #[test]
-fn refused_growth_in_near_misses(rt: HostRuntime) {
+fn failed_allocation_in_near_misses(rt: HostRuntime) {
     assert!(rt; is_refused::<Nth<8>>(rt.alloc(), 2));
 }
 
-/// How many growths the edit of the line asks the heap for; `None` where it is refused.
+/// How many allocations the edit of the line asks the heap for; `None` where it is refused.
 fn asked_of<'a>(
     heap: &'a Refusing<Global>,
     board: &mut Board<&'a Refusing<Global>>,
@@ -360,9 +360,13 @@ fn asked_of<'a>(
     let edit = edit(heap, line.as_bytes())?;
     let before = heap.grown();
     let told = board.admit(&edit);
-    let growths = heap.grown().saturating_sub(before);
+    let allocations = heap.grown().saturating_sub(before);
     drop(edit);
-    Ok(if told?.is_none() { Some(growths) } else { None })
+    Ok(if told?.is_none() {
+        Some(allocations)
+    } else {
+        None
+    })
 }
 
 /// The same at the worked board.
@@ -374,7 +378,7 @@ fn asked(alloc: Global, line: &str) -> Result<Option<u64>, AllocError> {
     asked
 }
 
-/// Lines of edits, and whether each asks for growths.
+/// Lines of edits, and whether each asks for allocations.
 const ASKING: [(&str, bool); 5] = [
     ("withdraw kramer", false),
     ("withdraw jerry", false),
@@ -388,7 +392,7 @@ fn what_goes_takes_no_memory(rt: HostRuntime) {
     for (line, asks) in ASKING {
         let asked = asked(rt.alloc(), line);
         assert!(rt;
-            matches!(asked, Ok(Some(growths)) if (growths > 0) == asks),
+            matches!(asked, Ok(Some(allocations)) if (allocations > 0) == asks),
             "{line}"
         );
     }
