@@ -12,7 +12,7 @@ use Rattle.cq_report.specs.declared.output.Output.{Output}
 use Rattle.cq_report.specs.declared.fault.ReplyFault.{ReplyFault}
 use Rattle.cq_report.specs.declared.fault.ReplyFault.TheVariants as replies
 use Rattle.cq_report.specs.declared.fault.RunFault.TheVariants as faults
-use Rattle.cq_report.specs.Steps.Replies.{fault_of_reply}
+use Rattle.cq_report.specs.Steps.Replies.{UnlessStarved, fault_of_reply}
 use Rattle.cq_report.specs.Steps.Written.{Puts, Breaks, Fails}
 use Rattle.cq_report.specs.Reading.{Reading, Reads, Faulty, IsReading}
 use Rattle.cq_report.specs.Machine.{State, served, unnumbered}
@@ -23,6 +23,11 @@ use Rattle.cq_report.specs.Steps.Writing.{Puts-nothing, Puts-starved, Puts-then,
 pub on_ok : {X E : Type 0} (r : Result X E) (P : Type 0) → P → OnOk r P
 on_ok (Ok x) P p = p
 on_ok (Err e) P p = tt
+
+pub unless_starved : (r : Result (Unit {0}) ReplyFault) (P : Type 0) → P → UnlessStarved r P
+unless_starved (Ok done) P p = p
+unless_starved (Err replies.Write) P p = p
+unless_starved (Err replies.NoMemory) P p = tt
 
 -- a line that is read as a command is read as nothing else
 pub only_command : (form : Form) (line : List ℕ) (command : CommandContent)

@@ -1,5 +1,5 @@
 -- Lists by whether they have elements.
-use Rattle.std.proofs.Common.{◌≡◌, ◌==◌, ℕ, ◌<◌, List, [], ◌∷◌, true, false, length, refl, arith}
+use Rattle.std.proofs.Common.{◌≡◌, ◌==◌, ◌<◌, List, [], ◌∷◌, true, false, length, refl, arith}
 use Rattle.std.proofs.lemmas.Bool.{eqb-true}
 
 pub none_of : {X : Type 0} (xs : List X) → (length xs == 0) ≡ true → xs ≡ []

@@ -10,4 +10,5 @@ pub mod Served
 pub mod Starving
 pub mod Ending
 pub mod Leaving
+pub mod Lives
 pub mod Empty

@@ -1,11 +1,11 @@
 -- Numbers before replies.
-use Rattle.std.proofs.Common.{◌≡◌, ◌+◌, ◌≤◌, ◌∙◌, ℕ, suc, List, [], ◌∷◌, ◌++◌, ◌<◌, length, Option, None, Some, option_map, refl, subst, arith}
-use Rattle.std.specs.Prelude.{Result, Ok, Err, OnOk, String}
+use Rattle.std.proofs.Common.{◌≡◌, ◌+◌, ◌≤◌, ◌∙◌, ℕ, suc, List, [], ◌∷◌, ◌++◌, ◌<◌, length, Option, None, Some, option_map, refl, ap, subst, arith}
+use Rattle.std.specs.Prelude.{String}
 use Rattle.cq_report.specs.declared.output.Output.{Output}
-use Rattle.cq_report.specs.declared.fault.ReplyFault.{ReplyFault}
 use Rattle.cq_report.specs.declared.fault.RunFault.{RunFault}
 use Rattle.cq_report.specs.Reading.{Reading, IsReading}
 use Rattle.cq_report.specs.Machine.{State, form_in, counted, served, unnumbered, numbered, next, reply}
+use Rattle.cq_report.specs.Steps.Lines.{line_bytes}
 use Rattle.cq_report.specs.Steps.Put.{led, lead_bytes}
 use Rattle.cq_report.specs.Steps.Count.{count_of, lines_before}
 use Rattle.cq_report.specs.Steps.Written.{Puts, Breaks, Fails}
@@ -18,6 +18,12 @@ led-bytes lead (b ∷ bs) some = refl
 pub some_of_length : (told : List ℕ) → 0 < length told → told ≡ [] → ⊥
 some_of_length [] some e = omega (arith, some)
 some_of_length (b ∷ bs) some e = cc
+
+-- a line is not empty
+pub line_some : (words : List ℕ) (number : Option ℕ) (bytes : List ℕ) → line_bytes words number ≡ bytes → bytes ≡ [] → ⊥
+line_some [] None bytes e none = cc
+line_some [] (Some n) bytes e none = cc
+line_some (w ∷ words) number bytes e none = cc
 
 -- a count rises by one at most
 counted-lines : (lines : Option ℕ) → count_of (option_map suc lines) ≤ count_of lines + 1
@@ -35,20 +41,19 @@ module _ {W A : Type 0} (taken : W → Option (List ℕ)) (failures : W → ℕ)
   pub Fails-since : (fault : RunFault) → Fails failures first now fault → Fails failures first0 now fault
   Fails-since fault p = record { writer = p.writer ∙ writer; failed = rw (← sink) p.failed }
 
-  module _ (old new : State) (line : List ℕ) (leads : (told : List ℕ) → led first.lead.now told ≡ numbered old.lines told) where
-    pub numbered_ok : ((reading : Reading) → IsReading (form_in old) line reading → (new ≡ served (counted old) reading) × Puts taken failures first now (led first.lead.now (unnumbered (counted old) reading)))
+  module _ (old : State) (line : List ℕ) (leads : (told : List ℕ) → led first.lead.now told ≡ numbered old.lines told) where
+    pub numbered_ok : (mid new : State) → new ≡ counted mid → ((reading : Reading) → IsReading (form_in old) line reading → (mid ≡ served old reading) × Puts taken failures first now (led first.lead.now (unnumbered old reading)))
         → (reading : Reading) → IsReading (form_in old) line reading → (new ≡ next old reading) × Puts taken failures first0 now (reply old reading)
-    numbered_ok h reading is =
-        let p = h reading is in
-        (p.0, subst (Puts taken failures first0 now) (leads (unnumbered old reading)) (Puts-since (led first.lead.now (unnumbered old reading)) p.1))
+    numbered_ok mid new is h reading reads =
+        let p = h reading reads in
+        (is ∙ ap counted p.0, subst (Puts taken failures first0 now) (leads (unnumbered old reading)) (Puts-since (led first.lead.now (unnumbered old reading)) p.1))
 
-    pub numbered_err : (fault : RunFault) → ((reading : Reading) → IsReading (form_in old) line reading → Breaks taken failures first now (led first.lead.now (unnumbered (counted old) reading)) fault)
+    pub numbered_err : (fault : RunFault) → ((reading : Reading) → IsReading (form_in old) line reading → Breaks taken failures first now (led first.lead.now (unnumbered old reading)) fault)
         → (reading : Reading) → IsReading (form_in old) line reading → Breaks taken failures first0 now (reply old reading) fault
     numbered_err fault h reading is =
         subst (λ (bytes : List ℕ). Breaks taken failures first0 now bytes fault) (leads (unnumbered old reading)) (Breaks-since (led first.lead.now (unnumbered old reading)) fault (h reading is))
 
 -- one line more was counted
-pub lines_on : (X : Reading → Type 0) (old new : State) (line : List ℕ) (r : Result (Unit {0}) ReplyFault) → OnOk r ((reading : Reading) × IsReading (form_in old) line reading)
-    → OnOk r ((reading : Reading) → IsReading (form_in old) line reading → (new ≡ served (counted old) reading) × X reading) → OnOk r (lines_before new ≤ lines_before old + 1)
-lines_on X old new line (Ok done) (reading, is) h = rw (h reading is).0 (counted-lines old.lines)
-lines_on X old new line (Err fault) read h = tt
+pub lines_on : (X : Reading → Type 0) (old mid new : State) (line : List ℕ) → new ≡ counted mid → (reading : Reading) × IsReading (form_in old) line reading
+    → ((reading : Reading) → IsReading (form_in old) line reading → (mid ≡ served old reading) × X reading) → lines_before new ≤ lines_before old + 1
+lines_on X old mid new line is (reading, reads) h = rw (is ∙ ap counted (h reading reads).0) (counted-lines old.lines)

@@ -1,16 +1,25 @@
 -- What an event that has no answer leaves of a floor.
-use Rattle.std.proofs.Common.{◌≡◌, ap, refl}
-use Rattle.std.specs.Prelude.{Result, Err}
+use Rattle.std.proofs.Common.{◌≡◌, ℕ, Bool, true, false, [], nat_le, length, ap, refl}
+use Rattle.std.specs.Prelude.{Result, Ok, Err, if◌then◌else◌}
 use Rattle.cq_board.specs.declared.edit.Why.{Why}
 use Rattle.cq_atom.specs.Edit.{Edit}
 use Rattle.cq_board.specs.Edits.{why, pool_after}
 use Rattle.cq_desk.specs.declared.event.Event.{Event}
+use Rattle.cq_desk.specs.declared.event.Event.TheVariants.{Enter, Publish, Look, Hear}
 use Rattle.cq_desk.specs.declared.event.Answer.{Answer}
+use Rattle.cq_desk.specs.declared.event.Answer.TheVariants.{Replied, Published, Looked, Heard}
 use Rattle.cq_desk.specs.declared.event.StepFault.{StepFault}
 use Rattle.cq_desk.specs.declared.event.StepFault.TheVariants.{NoSession, Ahead, NoMemory}
 use Rattle.cq_desk.specs.Machine.{answer_to, moved, unless_refused}
 use Rattle.cq_desk.specs.Standing.{IsTold}
+use Rattle.cq_board.specs.Pool.{PoolRecord}
 use Rattle.cq_report.specs.Machine.{ServingRecord, after}
+use Rattle.cq_report.specs.Reply.{answer_lines}
+use Rattle.cq_report.specs.Run.{IfMemory}
+use Rattle.cq_report.specs.declared.fault.ReplyFault.{ReplyFault}
+use Rattle.cq_report.specs.declared.fault.ReplyFault.TheVariants as replies
+use Rattle.cq_report.specs.Steps.Happening.{HasNoLine, IsNoLook}
+use Rattle.cq_report.specs.Steps.Replies.{fault_of_reply}
 
 -- it is as it was
 pub refused_after : (serving : ServingRecord) (event : Event Edit) (fault : StepFault) → answer_to pool_after why serving.opening serving.limit serving.machine event ≡ Err fault → after serving event ≡ serving
@@ -21,3 +30,30 @@ pub told_fault : (answer : Result (Answer Why) StepFault) (fault : StepFault) �
 told_fault answer NoSession other is = is
 told_fault answer Ahead other is = is
 told_fault answer NoMemory other is = absurd (other refl)
+
+-- where the writer failed, nothing is said of memory
+pub of_writer : (fault : ReplyFault) (P : Type 0) → fault ≡ replies.Write → IfMemory (fault_of_reply fault) P
+of_writer replies.Write P e = tt
+of_writer replies.NoMemory P e = cc
+
+-- no event but a look is answered by what is seen
+seen_if : (b : Bool) (fault : StepFault) (answer : Result (Answer Why) StepFault) (p : ℕ) → (answer ≡ Ok (Looked p) → ⊥) → (if b then Err fault else answer) ≡ Ok (Looked p) → ⊥
+seen_if true fault answer p never same = cc
+seen_if false fault answer p never same = never same
+
+heard_if : (b : Bool) (fault : StepFault) (answer : Result (Answer Why) StepFault) (p : ℕ) → (answer ≡ Ok (Looked p) → ⊥) → (if b then answer else Err fault) ≡ Ok (Looked p) → ⊥
+heard_if true fault answer p never same = never same
+heard_if false fault answer p never same = cc
+
+no_look : (serving : ServingRecord) (event : Event Edit) (p : ℕ) → IsNoLook event → answer_to pool_after why serving.opening serving.limit serving.machine event ≡ Ok (Looked p) → ⊥
+no_look serving (Enter author edit) p other same = seen_if (nat_le (length serving.machine.seen) author) NoSession _ p (λ replied. cc) same
+no_look serving Publish p other same = cc
+no_look serving (Look session) p other same = absurd other
+no_look serving (Hear session count) p other same = seen_if (nat_le (length serving.machine.seen) session) NoSession _ p (heard_if (nat_le count serving.machine.published) Ahead _ p (λ heard. cc)) same
+
+-- an answer that is no line has no words
+pub no_words : (serving : ServingRecord) (event : Event Edit) (answer : Answer Why) (pool : PoolRecord) → IsNoLook event → HasNoLine answer → answer_to pool_after why serving.opening serving.limit serving.machine event ≡ Ok answer → answer_lines pool answer ≡ []
+no_words serving event (Replied reply) pool other none e = absurd none
+no_words serving event (Published p) pool other none e = absurd none
+no_words serving event (Looked p) pool other none e = absurd (no_look serving event p other e)
+no_words serving event (Heard p) pool other none e = refl

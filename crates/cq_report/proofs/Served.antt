@@ -84,8 +84,16 @@ state_after-one : (state here : State) (rs front : List Reading) (r : Reading) �
 state_after-one state here rs front r e h = rw (h, e) (sym (state_after-append state front (r ∷ [])))
 
 -- the lines of whole lines, and of what stands after them
-lines_of_behind : (lines : List (List ℕ)) (pending bytes rest : List ℕ) → bytes ≡ ended lines ++ pending → HaveNoEnd lines → lines_of (bytes ++ rest) ≡ lines ++ lines_of (pending ++ rest)
+pub lines_of_behind : (lines : List (List ℕ)) (pending bytes rest : List ℕ) → bytes ≡ ended lines ++ pending → HaveNoEnd lines → lines_of (bytes ++ rest) ≡ lines ++ lines_of (pending ++ rest)
 lines_of_behind lines pending bytes rest e h = rw (e, append_assoc (ended lines) pending rest) (lines_of_all_ended lines (pending ++ rest) h)
+
+-- the lines that were served, one more, and what is left
+pub cut_on : (done rest line behind piece : List ℕ) → done ++ rest ≡ piece → rest ≡ line ++ (10 ∷ behind) → done ++ (line ++ (10 ∷ behind)) ≡ piece
+cut_on done rest line behind piece e f = ap (λ (l : List ℕ). done ++ l) (sym f) ∙ e
+
+pub cut_past : (done rest line behind piece : List ℕ) → done ++ rest ≡ piece → rest ≡ line ++ (10 ∷ behind) → (done ++ (line ++ 10 ∷ [])) ++ behind ≡ piece
+cut_past done rest line behind piece e f =
+    append_assoc done (line ++ 10 ∷ []) behind ∙ ap (λ (l : List ℕ). done ++ l) (append_assoc line (10 ∷ []) behind) ∙ cut_on done rest line behind piece e f
 
 module _ {W A : Type 0} (taken : W → Option (List ℕ)) (failures : W → ℕ) (first : Output W A) (opening : State) where
   abbrev Put : Output W A → List ℕ → Type 0

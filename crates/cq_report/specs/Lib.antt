@@ -4,5 +4,6 @@ pub mod Reading
 pub mod Reply
 pub mod Machine
 pub mod Output
+pub mod Live
 pub mod Run
 pub mod Steps

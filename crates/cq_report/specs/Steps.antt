@@ -1,5 +1,7 @@
 -- Definitions that only private steps are stated with.
 pub mod Replies
+pub mod Lines
+pub mod Happening
 pub mod Written
 pub mod Put
 pub mod Count
@@ -8,3 +10,4 @@ pub mod Kept
 pub mod Serving
 pub mod Replay
 pub mod Playing
+pub mod Living

@@ -18,6 +18,20 @@ pub enum RunFault {
     NoMemory,
 }
 
+/// Why lines were answered no longer before the end of the input.
+#[derive(Clone, Copy, Debug, PartialEq, Eq, Error)]
+pub enum LiveFault {
+    /// The reader failed, or gave no end. Reads count from 1.
+    #[error("read failed at turn {turn}")]
+    Read { turn: u64 },
+    /// The writer failed.
+    #[error("write failed")]
+    Write,
+    /// There was no memory to begin with.
+    #[error("out of memory")]
+    NoMemory,
+}
+
 /// Why a line has no reply.
 #[derive(Clone, Copy, Debug, PartialEq, Eq)]
 pub(crate) enum ReplyFault {
@@ -107,5 +121,27 @@ impl From<Failed> for ReplyFault {
 
     fn from(_e: Failed) -> ReplyFault {
         ReplyFault::Write
+    }
+}
+
+impl From<Failed> for LiveFault {
+    ghost use Rattle.std.specs.Prelude.{◌≡◌};
+    ghost use Rattle.cq_report.specs.declared.fault.LiveFault.TheVariants.{Write};
+
+    ghost from_gives = { λ _ e. e ≡ Write };
+
+    fn from(_e: Failed) -> LiveFault {
+        LiveFault::Write
+    }
+}
+
+impl From<AllocError> for LiveFault {
+    ghost use Rattle.std.specs.Prelude.{◌≡◌};
+    ghost use Rattle.cq_report.specs.declared.fault.LiveFault.TheVariants.{NoMemory};
+
+    ghost from_gives = { λ _ e. e ≡ NoMemory };
+
+    fn from(_e: AllocError) -> LiveFault {
+        LiveFault::NoMemory
     }
 }

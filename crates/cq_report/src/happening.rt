@@ -1,13 +1,18 @@
 //! What happens on the floor of a script.
 
-ghost use Rattle.std.specs.Prelude.{◌≡◌, ◌<◌, ◌^◌, string_bytes, OnOk, IfOk};
+ghost use Rattle.std.specs.Prelude.{◌≡◌, ◌<◌, ◌^◌, string_bytes, OnOk, IfOk, IfErr, IfSome, IfNone};
+ghost use Rattle.cq_board.specs.Pool.{PoolRecord};
+ghost use Rattle.cq_desk.specs.declared.event.Event.TheVariants.{Look};
 ghost use Rattle.cq_report.specs.Machine.{opened, after, told};
 ghost use Rattle.cq_report.specs.Reply.{show_block, answer_lines};
+ghost use Rattle.cq_report.specs.Run.{IfMemory};
+ghost use Rattle.cq_report.specs.Steps.Happening.{HasNoLine, IsNoLook};
 ghost use Rattle.cq_report.specs.Steps.Put.{Put};
+ghost use Rattle.cq_report.specs.Steps.Replies.{fault_of_reply};
 
 use crate::fault::ReplyFault;
-use crate::output::{Output, put_reply};
-use crate::reply::{end_line, published_line, reply_line, show_line};
+use crate::output::Output;
+use crate::reply::{ReplyLine, end_line, published_line, reply_line, show_line};
 use crate::setup::Setup;
 use cq_atom::Edit;
 use cq_board::{Board, Why};
@@ -22,8 +27,8 @@ pub(crate) type BoardFloor<A> = Floor<Board<A>, A>;
 /// How many sessions a script has. Its one session has the number 0.
 const SESSIONS: usize = 1;
 
-/// The floor that the setup opens. One session may be, so a floor that does not begin has met want
-/// of memory.
+/// The floor that the setup opens. One session may be, so a floor that does not begin is out of
+/// memory.
 pub(crate) fn open<A: Allocator + Copy>(
     alloc: A,
     setup: Setup<A>,
@@ -38,8 +43,8 @@ pub(crate) fn open<A: Allocator + Copy>(
     }
 }
 
-/// What a look shows: the count, the report on the board, and an end. It is made whole before any of it is put, so that want of
-/// memory leaves no part of it.
+/// What a look shows: the count, the report on the board, and an end. It is made whole before any of it is put, so that
+/// where memory runs out no part of it is left.
 fn shown_block<A: Allocator + Copy>(
     alloc: A,
     board: &Board<A>,
@@ -47,32 +52,70 @@ fn shown_block<A: Allocator + Copy>(
 ) -> Result<String<A>, AllocError>
     ensures { IfOk result (λ text. string_bytes text ≡ show_block count board.now) }
 {
-    let mut text = show_line(alloc, count)?;
+    let mut text = show_line(count).to_text(alloc)?;
     put_report(alloc, board, &mut text)?;
     text.push_str(end_line())?;
     Ok(text)
 }
 
-/// Puts an answer; a look also shows the board. Nobody is told of anything.
-fn put_answer<W: Sink, A: Allocator + Copy>(
+/// Shows the board to the session, if there is one of that number. What is shown is made before the session looks.
+fn look<W: Sink, A: Allocator + Copy>(
     alloc: A,
-    board: &Board<A>,
-    answer: Answer<Why>,
+    floor: &mut BoardFloor<A>,
+    session: usize,
     output: &mut Output<'_, W, A>,
 ) -> Result<(), ReplyFault>
     requires { W.write_failures output.old.sink.now < 2 ^ 62 }
-    ensures { Put W.taken W.write_failures output.old output.new (answer_lines board.now answer) result }
+    ensures state { OnOk result (floor.new ≡ after floor.old (Look session)) }
+    ensures put { Put W.taken W.write_failures output.old output.new (told floor.old (Look session)) result }
+    ensures kept { IfErr result (λ fault. IfMemory (fault_of_reply fault) (floor.new ≡ floor.old)) }
+{
+    if floor.seen(session).is_none() {
+        return Ok(());
+    }
+    let text = shown_block(alloc, floor.board(), floor.published_count())?;
+    let _count = floor.look(session);
+    output.put_text(text.as_str())
+}
+
+/// The reply to what is answered, where it is one line.
+fn line_of(answer: &Answer<Why>) -> Option<ReplyLine>
+    ensures some { (shown : PoolRecord) → IfSome result (λ line. line ≡ answer_lines shown answer.now) }
+    ensures none { IfNone result (HasNoLine answer.now) }
 {
     match answer {
-        Answer::Replied(reply) => put_reply(reply_line(alloc, &reply), output),
-        Answer::Published(count) => put_reply(published_line(alloc, count), output),
-        Answer::Looked(count) => put_reply(shown_block(alloc, board, count), output),
-        Answer::Heard(_) => Ok(()),
+        Answer::Replied(reply) => Some(reply_line(reply)),
+        Answer::Published(count) => Some(published_line(*count)),
+        Answer::Looked(_) | Answer::Heard(_) => None,
+    }
+}
+
+/// Takes an event that is no look, and puts the reply. Nobody is told of anything.
+fn act<W: Sink, A: Allocator + Copy>(
+    floor: &mut BoardFloor<A>,
+    event: Event<Edit<A>>,
+    output: &mut Output<'_, W, A>,
+) -> Result<(), ReplyFault>
+    requires failures { W.write_failures output.old.sink.now < 2 ^ 62 }
+    requires other { IsNoLook event }
+    ensures state { OnOk result (floor.new ≡ after floor.old event) }
+    ensures put { Put W.taken W.write_failures output.old output.new (told floor.old event) result }
+    ensures kept { IfErr result (λ fault. IfMemory (fault_of_reply fault) (floor.new ≡ floor.old)) }
+{
+    match floor.step(event) {
+        Ok(answer) => match line_of(&answer) {
+            Some(line) => output.put_line(line),
+            None => Ok(()),
+        },
+        Err(fault) => match fault {
+            StepFault::NoMemory => Err(ReplyFault::NoMemory),
+            _ => Ok(()),
+        },
     }
 }
 
 /// Takes an event of the session, and puts the reply. The session is there, and nobody is told of
-/// anything, so out of memory is all that leaves an event without an answer.
+/// anything, so out of memory is all that leaves an event without an answer; the floor stays as it was then.
 pub(crate) fn happen<W: Sink, A: Allocator + Copy>(
     alloc: A,
     floor: &mut BoardFloor<A>,
@@ -82,12 +125,10 @@ pub(crate) fn happen<W: Sink, A: Allocator + Copy>(
     requires { W.write_failures output.old.sink.now < 2 ^ 62 }
     ensures state { OnOk result (floor.new ≡ after floor.old event) }
     ensures put { Put W.taken W.write_failures output.old output.new (told floor.old event) result }
+    ensures kept { IfErr result (λ fault. IfMemory (fault_of_reply fault) (floor.new ≡ floor.old)) }
 {
-    match floor.step(event) {
-        Ok(answer) => put_answer(alloc, floor.board(), answer, output),
-        Err(fault) => match fault {
-            StepFault::NoMemory => Err(ReplyFault::NoMemory),
-            _ => Ok(()),
-        },
+    match event {
+        Event::Look { session } => look(alloc, floor, session, output),
+        other => act(floor, other, output),
     }
 }

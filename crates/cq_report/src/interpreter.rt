@@ -1,11 +1,13 @@
 //! Interprets the commands of a script.
 
-ghost use Rattle.std.specs.Prelude.{◌≡◌, ◌<◌, ◌^◌, OnOk, IfOk};
+ghost use Rattle.std.specs.Prelude.{◌≡◌, ◌<◌, ◌^◌, OnOk, OnErr, IfOk, IfErr};
 ghost use Rattle.cq_desk.specs.declared.event.Event.TheVariants.{Enter};
-ghost use Rattle.cq_report.specs.declared.stage.Stage.TheVariants.{Serving};
 ghost use Rattle.cq_report.specs.Reading.{Reads};
 ghost use Rattle.cq_report.specs.Machine.{begin_stage, serving_of, prepare, happen, staged};
+ghost use Rattle.cq_report.specs.Run.{IfMemory};
+ghost use Rattle.cq_report.specs.Steps.Happening.{IsInSetup};
 ghost use Rattle.cq_report.specs.Steps.Put.{Put};
+ghost use Rattle.cq_report.specs.Steps.Replies.{fault_of_reply};
 
 use crate::fault::ReplyFault;
 use crate::happening::{BoardFloor, happen, open};
@@ -56,7 +58,8 @@ impl<A: Allocator + Copy> Interpreter<A> {
         heading: Option<Form>,
         line: &SetupLine<Name<A>>,
     ) -> Result<&'static str, AllocError>
-        ensures { IfOk result (λ reply. (self.new, reply.now) ≡ prepare self.old heading line.now) }
+        ensures ok { IfOk result (λ reply. (self.new, reply.now) ≡ prepare self.old heading line.now) }
+        ensures err { OnErr result (self.new ≡ self.old) }
     {
         match &mut self.stage {
             Stage::Setup(setup) => setup.set_up(heading, line),
@@ -74,34 +77,10 @@ impl<A: Allocator + Copy> Interpreter<A> {
         requires { W.write_failures output.old.sink.now < 2 ^ 62 }
         ensures state { OnOk result (self.new ≡ (prepare self.old heading line.now).0) }
         ensures put { Put W.taken W.write_failures output.old output.new (prepare self.old heading line.now).1 result }
+        ensures kept { IfErr result (λ fault. IfMemory (fault_of_reply fault) (self.new ≡ self.old)) }
     {
         let reply = self.prepare(heading, line)?;
         output.put_text(reply)
-    }
-
-    /// The floor opens, where the setup lasts. A floor is large, and stands in the frame of this call alone: so no other
-    /// line pays for it.
-    #[cold]
-    #[inline(never)]
-    fn open_floor(&mut self) -> Result<(), AllocError>
-        ensures { OnOk result (self.new ≡ Serving (serving_of self.old)) }
-    {
-        if let Stage::Setup(setup) = &mut self.stage {
-            let setup = mem::replace(setup, Setup::begin(self.alloc));
-            let floor = open(self.alloc, setup)?;
-            mem::drop(mem::replace(&mut self.stage, Stage::Serving(floor)));
-        }
-        Ok(())
-    }
-
-    /// The floor opens, where the setup lasts.
-    fn open(&mut self) -> Result<(), AllocError>
-        ensures { OnOk result (self.new ≡ Serving (serving_of self.old)) }
-    {
-        match &self.stage {
-            Stage::Setup(_) => self.open_floor(),
-            Stage::Serving(_) => Ok(()),
-        }
     }
 
     /// The floor, which opens where the setup lasts.
@@ -115,6 +94,31 @@ impl<A: Allocator + Copy> Interpreter<A> {
         }
     }
 
+    /// Answers an event at which the setup ends, and serves from then on. A floor is large, and stands in the frame of this call
+    /// alone: so no other line pays for it. The setup is kept until the event has happened.
+    #[cold]
+    #[inline(never)]
+    fn begin_serving<W: Sink>(
+        &mut self,
+        event: Event<Edit<A>>,
+        output: &mut Output<'_, W, A>,
+    ) -> Result<(), ReplyFault>
+        requires failures { W.write_failures output.old.sink.now < 2 ^ 62 }
+        requires setup { IsInSetup self.old }
+        ensures state { OnOk result (self.new ≡ (happen self.old event).0) }
+        ensures put { Put W.taken W.write_failures output.old output.new (happen self.old event).1 result }
+        ensures kept { IfErr result (λ fault. IfMemory (fault_of_reply fault) (self.new ≡ self.old)) }
+    {
+        let Stage::Setup(setup) = &self.stage else {
+            unreachable!();
+        };
+        let setup = setup.copy()?;
+        let mut floor = open(self.alloc, setup)?;
+        happen(self.alloc, &mut floor, event, output)?;
+        mem::drop(mem::replace(&mut self.stage, Stage::Serving(floor)));
+        Ok(())
+    }
+
     /// Answers an event of the session.
     fn happen<W: Sink>(
         &mut self,
@@ -124,10 +128,10 @@ impl<A: Allocator + Copy> Interpreter<A> {
         requires { W.write_failures output.old.sink.now < 2 ^ 62 }
         ensures state { OnOk result (self.new ≡ (happen self.old event).0) }
         ensures put { Put W.taken W.write_failures output.old output.new (happen self.old event).1 result }
+        ensures kept { IfErr result (λ fault. IfMemory (fault_of_reply fault) (self.new ≡ self.old)) }
     {
-        self.open()?;
         match &mut self.stage {
-            Stage::Setup(_) => unreachable!(),
+            Stage::Setup(_) => self.begin_serving(event, output),
             Stage::Serving(floor) => happen(self.alloc, floor, event, output),
         }
     }
@@ -141,6 +145,7 @@ impl<A: Allocator + Copy> Interpreter<A> {
         requires { W.write_failures output.old.sink.now < 2 ^ 62 }
         ensures state { OnOk result (self.new ≡ (happen self.old (Enter 0 edit)).0) }
         ensures put { Put W.taken W.write_failures output.old output.new (happen self.old (Enter 0 edit)).1 result }
+        ensures kept { IfErr result (λ fault. IfMemory (fault_of_reply fault) (self.new ≡ self.old)) }
     {
         self.happen(
             Event::Enter {
@@ -161,6 +166,7 @@ impl<A: Allocator + Copy> Interpreter<A> {
         requires { W.write_failures output.old.sink.now < 2 ^ 62 }
         ensures stage { OnOk result (self.new ≡ (staged self.old heading (Reads command)).0) }
         ensures put { Put W.taken W.write_failures output.old output.new (staged self.old heading (Reads command)).1 result }
+        ensures kept { IfErr result (λ fault. IfMemory (fault_of_reply fault) (self.new ≡ self.old)) }
     {
         match command {
             CommandKind::Blank => Ok(()),

@@ -4,7 +4,7 @@ ghost use Rattle.std.specs.Prelude.{◌≡◌, ◌<◌, ◌≤◌, ◌+◌, ◌^
 ghost use Rattle.cq_report.specs.Reading.{Reading, Reads, IsReading};
 ghost use Rattle.cq_report.specs.Machine.{begin_state, no_lines, numbered, form_in, served, counted, unnumbered, next, reply, serving_of};
 ghost use Rattle.cq_report.specs.Run.{IfMemory};
-ghost use Rattle.cq_report.specs.Steps.Replies.{fault_of_reply};
+ghost use Rattle.cq_report.specs.Steps.Replies.{UnlessStarved, fault_of_reply};
 ghost use Rattle.cq_report.specs.Steps.Written.{Puts, Breaks, Fails};
 ghost use Rattle.cq_report.specs.Steps.Put.{Put, led};
 ghost use Rattle.cq_report.specs.Steps.Count.{lines_before};
@@ -14,7 +14,7 @@ use crate::happening::BoardFloor;
 use crate::heading::{form_of, headed};
 use crate::interpreter::Interpreter;
 use crate::numbering::Numbering;
-use crate::output::{Output, put_reply};
+use crate::output::Output;
 use crate::reply::fault_line;
 use cq_devices::Sink;
 use cq_text::{Command, Form, TextFault, read_command};
@@ -107,10 +107,12 @@ impl<A: Allocator + Copy> Machine<A> {
         requires { W.write_failures output.old.sink.now < 2 ^ 62 }
         ensures state { OnOk result (self.new ≡ served self.old (Reads command)) }
         ensures put { Put W.taken W.write_failures output.old output.new (unnumbered self.old (Reads command)) result }
+        ensures kept { IfErr result (λ fault. IfMemory (fault_of_reply fault) (self.new ≡ self.old)) }
     {
-        let heading = self.heading;
-        self.heading = headed(heading, &command);
-        self.interpreter.serve(heading, command, output)
+        let heading = headed(self.heading, &command);
+        self.interpreter.serve(self.heading, command, output)?;
+        self.heading = heading;
+        Ok(())
     }
 
     /// Reads a line, and puts the reply to it, after what stands before it.
@@ -120,18 +122,19 @@ impl<A: Allocator + Copy> Machine<A> {
         output: &mut Output<'_, W, A>,
     ) -> Result<(), ReplyFault>
         requires { W.write_failures output.old.sink.now < 2 ^ 62 }
-        ensures read { OnOk result ((reading : Reading) × IsReading (form_in self.old) line.now reading) }
+        ensures read { UnlessStarved result ((reading : Reading) × IsReading (form_in self.old) line.now reading) }
         ensures ok { OnOk result ((reading : Reading) → IsReading (form_in self.old) line.now reading → (self.new ≡ served self.old reading) × Puts W.taken W.write_failures output.old output.new (led output.old.lead.now (unnumbered self.old reading))) }
         ensures err { IfErr result (λ fault. (reading : Reading) → IsReading (form_in self.old) line.now reading → Breaks W.taken W.write_failures output.old output.new (led output.old.lead.now (unnumbered self.old reading)) (fault_of_reply fault)) }
         ensures fails { IfErr result (λ fault. Fails W.write_failures output.old output.new (fault_of_reply fault)) }
         ensures nothing { IfErr result (λ fault. IfMemory (fault_of_reply fault) (Puts W.taken W.write_failures output.old output.new [])) }
+        ensures kept { IfErr result (λ fault. IfMemory (fault_of_reply fault) (self.new ≡ self.old)) }
     {
         let form = self.form();
         match read_command(self.alloc, line, form) {
             Ok(command) => self.serve(command, output),
             Err(TextFault::At { kind, offset }) => {
                 self.settle(form);
-                put_reply(fault_line(self.alloc, kind, offset), output)
+                output.put_line(fault_line(kind, offset))
             }
             Err(TextFault::NoMemory) => Err(ReplyFault::NoMemory),
         }
@@ -140,8 +143,8 @@ impl<A: Allocator + Copy> Machine<A> {
     /// Reads a line, and puts the reply to it, after its number where replies are numbered.
     ///
     /// # Errors
-    /// `Write` where the writer failed, and a front of the reply may be put then; `NoMemory` where an allocation
-    /// failed, and nothing is put then. The machine is of no use any more.
+    /// `Write` where the writer failed, and a front of the reply may be put then, and the machine is of no use any more;
+    /// `NoMemory` where an allocation failed: then nothing is put, and the machine stays as it was.
     pub(crate) fn answer<W: Sink>(
         &mut self,
         line: &[u8],
@@ -150,16 +153,18 @@ impl<A: Allocator + Copy> Machine<A> {
         requires failures { W.write_failures output.old.sink.now < 2 ^ 62 }
         requires lines { lines_before self.old < 2 ^ 62 }
         ensures lines { OnOk result (lines_before self.new ≤ lines_before self.old + 1) }
-        ensures read { OnOk result ((reading : Reading) × IsReading (form_in self.old) line.now reading) }
+        ensures read { UnlessStarved result ((reading : Reading) × IsReading (form_in self.old) line.now reading) }
         ensures ok { OnOk result ((reading : Reading) → IsReading (form_in self.old) line.now reading → (self.new ≡ next self.old reading) × Puts W.taken W.write_failures output.old output.new (reply self.old reading)) }
         ensures err { IfErr result (λ fault. (reading : Reading) → IsReading (form_in self.old) line.now reading → Breaks W.taken W.write_failures output.old output.new (reply self.old reading) (fault_of_reply fault)) }
         ensures fails { IfErr result (λ fault. Fails W.write_failures output.old output.new (fault_of_reply fault)) }
         ensures nothing { IfErr result (λ fault. IfMemory (fault_of_reply fault) (Puts W.taken W.write_failures output.old output.new [])) }
+        ensures kept { IfErr result (λ fault. IfMemory (fault_of_reply fault) (self.new ≡ self.old)) }
     {
         let lead = self.lead()?;
         output.lead_by(lead);
+        self.serve_line(line, output)?;
         self.count();
-        self.serve_line(line, output)
+        Ok(())
     }
 
     /// The floor, which opens where the setup lasts.

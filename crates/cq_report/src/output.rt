@@ -1,14 +1,18 @@
 //! A buffer before a writer.
 
-ghost use Rattle.std.specs.Prelude.{◌≡◌, ◌<◌, ◌+◌, ◌^◌, ℕ, List, ◌++◌, [], string_bytes, OnOk, OnErr, IfOk, MatchResult};
+ghost use Rattle.std.specs.Prelude.{◌≡◌, ◌<◌, ◌+◌, ◌^◌, ℕ, List, ◌++◌, [], codes, decimal, OnOk, OnErr, IfErr, MatchResult};
 ghost use Rattle.std.specs.Io.KnownBytes.{Appends};
 ghost use Rattle.cq_report.specs.declared.fault.RunFault.TheVariants.{Write};
+ghost use Rattle.cq_report.specs.declared.fault.ReplyFault.TheVariants as ReplyFault;
+ghost use Rattle.cq_report.specs.Steps.Lines.{end_bytes};
 ghost use Rattle.cq_report.specs.Steps.Put.{Put, lead_bytes};
 ghost use Rattle.cq_report.specs.Steps.Written.{Puts, Breaks};
 
 use crate::fault::ReplyFault;
+use crate::reply::ReplyLine;
 use cq_devices::{Failed, Sink, write_all};
-use std::alloc::{AllocError, Allocator};
+use itoa::Buffer;
+use std::alloc::Allocator;
 
 /// How many bytes wait at most.
 pub(crate) const ROOM: usize = 8192;
@@ -83,13 +87,52 @@ impl<'w, W: Sink, A: Allocator> Output<'w, W, A> {
     /// Puts text after what was put before, and after what stands before it.
     pub(crate) fn put_text(&mut self, text: &str) -> Result<(), ReplyFault>
         requires { W.write_failures self.old.sink.now < 2 ^ 62 }
-        ensures { Put W.taken W.write_failures self.old self.new text.now result }
+        ensures put { Put W.taken W.write_failures self.old self.new text.now result }
+        ensures of_writer { IfErr result (λ fault. fault ≡ ReplyFault.Write) }
     {
         if text.is_empty() {
             return Ok(());
         }
         self.put_lead()?;
         self.put(text.as_bytes())?;
+        Ok(())
+    }
+
+    /// Puts a number between a space and the end of its line.
+    fn put_number(&mut self, number: u64) -> Result<(), Failed>
+        requires { W.write_failures self.old.sink.now < 2 ^ 62 }
+        ensures ok { OnOk result (Puts W.taken W.write_failures self.old self.new (codes " " ++ decimal number ++ codes "\n")) }
+        ensures err { OnErr result (Breaks W.taken W.write_failures self.old self.new (codes " " ++ decimal number ++ codes "\n") Write) }
+    {
+        let mut digits = Buffer::new();
+        let text = digits.format(number);
+        self.put(b" ")?;
+        self.put(text.as_bytes())?;
+        self.put(b"\n")
+    }
+
+    /// Puts what ends a reply: a number, where there is one, and the end of the line.
+    fn put_end(&mut self, number: Option<u64>) -> Result<(), Failed>
+        requires { W.write_failures self.old.sink.now < 2 ^ 62 }
+        ensures ok { OnOk result (Puts W.taken W.write_failures self.old self.new (end_bytes number)) }
+        ensures err { OnErr result (Breaks W.taken W.write_failures self.old self.new (end_bytes number) Write) }
+    {
+        match number {
+            Some(number) => self.put_number(number),
+            None => self.put(b"\n"),
+        }
+    }
+
+    /// Puts a reply of one line after what was put before, and after what stands before it. That takes no memory.
+    pub(crate) fn put_line(&mut self, line: ReplyLine) -> Result<(), ReplyFault>
+        requires { W.write_failures self.old.sink.now < 2 ^ 62 }
+        ensures put { Put W.taken W.write_failures self.old self.new line result }
+        ensures of_writer { IfErr result (λ fault. fault ≡ ReplyFault.Write) }
+    {
+        let (words, number) = line.into_parts();
+        self.put_lead()?;
+        self.put(words.as_bytes())?;
+        self.put_end(number)?;
         Ok(())
     }
 
@@ -116,16 +159,4 @@ impl<'w, W: Sink, A: Allocator> Output<'w, W, A> {
         self.sink.flush()?;
         Ok(())
     }
-}
-
-/// Puts a reply that was made; where there was no memory for it, it says so and puts nothing.
-pub(crate) fn put_reply<W: Sink, A: Allocator>(
-    reply: Result<String<A>, AllocError>,
-    output: &mut Output<'_, W, A>,
-) -> Result<(), ReplyFault>
-    requires { W.write_failures output.old.sink.now < 2 ^ 62 }
-    ensures { (bytes : List ℕ) → IfOk reply (λ text. string_bytes text ≡ bytes) → Put W.taken W.write_failures output.old output.new bytes result }
-{
-    let reply = reply?;
-    output.put_text(reply.as_str())
 }

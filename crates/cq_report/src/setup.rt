@@ -63,6 +63,19 @@ impl<A: Allocator + Clone> Setup<A> {
         }
     }
 
+    /// An equal setup, on the same allocator.
+    ///
+    /// # Errors
+    /// `AllocError` where an allocation failed.
+    pub(crate) fn copy(&self) -> Result<Setup<A>, AllocError>
+        ensures { IfOk result (λ setup. setup ≡ self.now) }
+    {
+        Ok(Setup {
+            catalog: self.catalog.copy()?,
+            limits: self.limits,
+        })
+    }
+
     /// Takes a line of the setup, where this form was settled before it, if any, and gives the reply.
     ///
     /// # Errors

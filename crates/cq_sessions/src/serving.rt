@@ -43,7 +43,7 @@ fn publish<A: Allocator + Copy, C: Client<A>>(
     ensures { OnOk result (Onward C.opening C.limit (C.known client.old) sheet.old (C.known client.new) sheet.new (Reads Publish)) }
 {
     let published = client.submit(sheet)?;
-    tell(sheet, published_line(alloc, published))
+    tell(sheet, published_line(published).to_text(alloc))
 }
 
 /// Answers a look.
@@ -56,7 +56,7 @@ fn show<A: Allocator + Copy, C: Client<A>>(
     ensures { OnOk result (Onward C.opening C.limit (C.known client.old) sheet.old (C.known client.new) sheet.new (Reads Show)) }
 {
     let count = client.look()?;
-    tell(sheet, show_line(alloc, count))
+    tell(sheet, show_line(count).to_text(alloc))
 }
 
 /// Answers a command.
@@ -91,7 +91,7 @@ fn serve_line<A: Allocator + Copy, C: Client<A>>(
 {
     match read_command(alloc, line, form) {
         Ok(command) => serve_command(alloc, client, sheet, command),
-        Err(TextFault::At { kind, offset }) => tell(sheet, fault_line(alloc, kind, offset)),
+        Err(TextFault::At { kind, offset }) => tell(sheet, fault_line(kind, offset).to_text(alloc)),
         Err(TextFault::NoMemory) => Err(ServeFault::NoMemory),
     }
 }

@@ -88,7 +88,7 @@ fn set_fault<A: Allocator + Copy>(
     ensures settles { OnOk result (heading.new ≡ headed heading.old (Faulty kind offset)) }
     ensures told { OnOk result (sheet.new ≡ record sheet.old { batch = sheet.old.batch ++ Told (Some (fault_line kind offset)) ∷ [] }) }
 {
-    sheet.tell(Some(fault_line(alloc, kind, offset)?))?;
+    sheet.tell(Some(fault_line(kind, offset).to_text(alloc)?))?;
     *heading = Some(form_of(*heading));
     Ok(true)
 }

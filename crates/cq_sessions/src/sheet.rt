@@ -56,7 +56,7 @@ fn fill<A: Allocator>(
     match line {
         Line::Told(reply) => Ok((reply, told)),
         Line::Asks => match replies.get(told) {
-            Some(reply) => Ok((Some(reply_line(alloc, reply)?), told + 1)),
+            Some(reply) => Ok((Some(reply_line(reply).to_text(alloc)?), told + 1)),
             None => Ok((None, told)),
         },
     }

@@ -2,5 +2,6 @@
 
 mod allocations;
 mod cuts;
+mod living;
 mod runs;
 mod worked;

@@ -1,20 +1,12 @@
-use Rattle.std.proofs.Common.{◌≡◌, ◌∷◌, ◌++◌, ◌∙◌, [], ℕ, List, length, refl, sym, ap, subst, append_assoc, length-append, arith}
+use Rattle.std.proofs.Common.{◌∷◌, ◌++◌, [], ℕ, List, length, refl, ap, subst, length-append, arith}
 use Rattle.std.proofs.lemmas.Result.{err_from_is_err_and}
 use Rattle.cq_report.specs.declared.fault.RunFault.TheVariants.{NoMemory}
 use Rattle.cq_report.specs.Steps.Replies.{fault_of_reply}
 use Rattle.cq_report.specs.Steps.Serving.{ServesOn, StopsOn}
-use Rattle.cq_report.proofs.Served.{ServesOn-nothing, ServesOn-then, ServesOn-front, StopsOn-then, StopsOn-starved, IsSound-nothing, IsSound-then}
+use Rattle.cq_report.proofs.Served.{cut_on, cut_past, ServesOn-nothing, ServesOn-then, ServesOn-front, StopsOn-then, StopsOn-starved, IsSound-nothing, IsSound-then}
 use Rattle.cq_report.specs.Steps.Writing.{Puts-nothing}
 use Rattle.cq_report.proofs.Starving.{IfMemory-weaker, StarvesOn-behind}
 use Rattle.cq_report.proofs.running.feed.Goals as goal
-
--- the lines that were served, one more, and what is left
-cut_on : (done rest line behind piece : List ℕ) → done ++ rest ≡ piece → rest ≡ line ++ (10 ∷ behind) → done ++ (line ++ (10 ∷ behind)) ≡ piece
-cut_on done rest line behind piece e f = ap (λ (l : List ℕ). done ++ l) (sym f) ∙ e
-
-cut_past : (done rest line behind piece : List ℕ) → done ++ rest ≡ piece → rest ≡ line ++ (10 ∷ behind) → (done ++ (line ++ 10 ∷ [])) ++ behind ≡ piece
-cut_past done rest line behind piece e f =
-    append_assoc done (line ++ 10 ∷ []) behind ∙ ap (λ (l : List ℕ). done ++ l) (append_assoc line (10 ∷ []) behind) ∙ cut_on done rest line behind piece e f
 
 pub loop-last-init : goal.loop-last-init
 loop-last-init g c = record {

@@ -6,4 +6,4 @@ use Rattle.cq_sessions.proofs.serving.publish.Goals as goal
 pub returns : goal.returns
 returns g c =
     on_ok_weaker c.tell.result (λ is. publish_onward g.C.Client.opening g.C.Client.limit _ _ c.args.sheet.now c.submit.new.sheet c.tell.new.sheet c.in_ok-published.published c.in_ok-published.ensures is)
-    (c.tell.ensures (published_line c.in_ok-published.published) c.published_line.ensures)
+    (c.tell.ensures (published_line c.in_ok-published.published) (rw c.published_line.ensures at c.to_text.ensures))

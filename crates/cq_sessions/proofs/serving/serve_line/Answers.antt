@@ -17,4 +17,4 @@ returns-in-Err-At g c =
       reading = Faulty kind offset;
       is = the_fault c.args.form c.args.line.now _ kind offset c.in-Err-At.field-0-is c.in-Err-At.ensures.fault;
       onward = told_onward g.C.Client.opening g.C.Client.limit _ _ c.args.sheet.now c.tell.new.sheet (Faulty kind offset) (Some (fault_line kind offset)) (λ rs lines own behind last s. (refl, s)) c.requires is;
-    }) (c.tell.ensures (fault_line kind offset) c.fault_line.ensures)
+    }) (c.tell.ensures (fault_line kind offset) (rw c.fault_line.ensures at c.to_text.ensures))

@@ -10,4 +10,4 @@ returns g c =
     on_ok_weaker c.tell.result
     (λ is. told_onward g.C.Client.opening g.C.Client.limit _ now c.args.sheet.now c.tell.new.sheet _ (Some (show_line c.in_ok-count.count))
     (λ rs lines own behind last s. (now, c.in_ok-count.ensures.seen, ap (λ n. Some (show_line n)) c.in_ok-count.ensures.shown, s)) c.requires is)
-    (c.tell.ensures (show_line c.in_ok-count.count) c.show_line.ensures)
+    (c.tell.ensures (show_line c.in_ok-count.count) (rw c.show_line.ensures at c.to_text.ensures))

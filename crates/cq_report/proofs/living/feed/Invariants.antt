@@ -1,0 +1,17 @@
+use Rattle.std.proofs.Common.{◌≡◌, ◌++◌, ℕ, List, None, length}
+use Rattle.cq_report.specs.Steps.Living.{LivesOn}
+use Rattle.cq_report.specs.Steps.Serving.{IsSound}
+use Rattle.cq_report.proofs.living.feed.Given as goal
+
+-- what was answered so far, and what is left of the piece
+abbrev pub invariant-loop-last : goal.invariant-loop-last
+invariant-loop-last g l = record {
+  done : List ℕ;
+  cut : done ++ l.rest ≡ l.piece;
+  on : LivesOn g.W.Sink.taken g.W.Sink.write_failures l.fn.output l.output l.fn.machine l.machine l.fn.line l.line done;
+  plain : l.machine.lines ≡ None;
+  sound : IsSound g.W.Sink.write_failures l.fn.output l.output;
+}
+
+abbrev pub decreases-loop-last : goal.decreases-loop-last
+decreases-loop-last g l = length l.rest

@@ -1,0 +1,105 @@
+use Rattle.std.proofs.Common.{◌++◌, [], ◌∙◌, arith, take, refl}
+use Rattle.std.proofs.KnownBytes.{Consumes-nil, Consumes-trans, Consumes-kept}
+use Rattle.std.proofs.lemmas.Result.{err_from_is_err_and}
+use Rattle.cq_report.proofs.Ending.{Consumes-none}
+use Rattle.cq_report.proofs.Served.{IsSound-nothing, IsSound-then, IsSound-puts}
+use Rattle.cq_report.proofs.Lives.{Lived-nothing, Lived-passed, LiveBreaks-passing}
+use Rattle.cq_report.proofs.living.serve.Goals as goal
+
+pub loop-i-init : goal.loop-i-init
+loop-i-init g c = record {
+  bytes = [];
+  read = Consumes-nil _;
+  lived = rw c.requires.line (Lived-nothing _ _ _ _);
+  plain = c.requires.plain;
+  sound = IsSound-nothing g.W.Sink.taken _ _;
+  held = c.requires.held;
+  reads = omega arith;
+  failures = refl;
+  room = refl;
+}
+
+pub returns-in_default-clause-err : goal.returns-in_default-clause-err
+returns-in_default-clause-err g c =
+    let i = c.loop-i.invariant in
+    record {
+      bytes = i.bytes;
+      read = Consumes-kept _ _ _ _ i.read c.in_default.ensures.bytes;
+      state = c.loop-i.machine;
+      line = c.loop-i.line;
+      lived = i.lived;
+      held = i.held;
+    }
+
+pub returns-then-len-eq0-clause-ok : goal.returns-then-len-eq0-clause-ok
+returns-then-len-eq0-clause-ok g c =
+    let i = c.loop-i.invariant in
+    let none = rw c.if-len-eq0.true at c.in-Ok.ensures.bytes.0 in
+    record {
+      bytes = i.bytes;
+      read = Consumes-none _ _ _ _ i.read none;
+      at_end = c.in-Ok.ensures.bytes.1 c.if-len-eq0.true (omega arith);
+      ends = c.in_ok-finish.ensures.ok _ _ _ i.lived;
+      held = c.in_ok-finish.ensures.held;
+    }
+
+pub returns-in_err-finish-clause-err : goal.returns-in_err-finish-clause-err
+returns-in_err-finish-clause-err g c =
+    let p = err_from_is_err_and c.from_residual.result c.from_residual.ensures.1 in
+    let i = c.loop-i.invariant in
+    let none = rw c.if-len-eq0.true at c.in-Ok.ensures.bytes.0 in
+    rw (p.1, p.2) (record {
+      bytes = i.bytes ++ [];
+      read = Consumes-trans _ _ _ i.bytes [] i.read none;
+      breaks = c.in_err-finish.ensures.err _ _ _ i.lived;
+    })
+
+pub returns-in_err-feed-clause-err : goal.returns-in_err-feed-clause-err
+returns-in_err-feed-clause-err g c =
+    let p = err_from_is_err_and c.from_residual-in_err-feed.result c.from_residual-in_err-feed.ensures.1 in
+    let i = c.loop-i.invariant in
+    let piece = take c.in-Ok.len c.read.new.buf in
+    rw (p.1, p.2) (record {
+      bytes = i.bytes ++ piece;
+      read = Consumes-trans _ _ _ i.bytes piece i.read c.in-Ok.ensures.bytes.0;
+      breaks = c.in_err-feed.ensures.err _ _ _ i.lived;
+    })
+
+pub returns-in_err-write_out-clause-err : goal.returns-in_err-write_out-clause-err
+returns-in_err-write_out-clause-err g c =
+    let p = err_from_is_err_and c.from_residual-in_err-write_out.result c.from_residual-in_err-write_out.ensures.1 in
+    let i = c.loop-i.invariant in
+    let piece = take c.in-Ok.len c.read.new.buf in
+    rw (p.1, p.2) (record {
+      bytes = i.bytes ++ piece;
+      read = Consumes-trans _ _ _ i.bytes piece i.read c.in-Ok.ensures.bytes.0;
+      breaks = LiveBreaks-passing _ _ _ _ _ _ _ _ _ (c.in_ok-feed.ensures.ok _ _ _ i.lived) c.in_err-write_out.ensures.err;
+    })
+
+pub loop-i-preserved : goal.loop-i-preserved
+loop-i-preserved g c =
+    let i = c.loop-i.invariant in
+    let piece = take c.in-Ok.len c.read.new.buf in
+    record {
+      bytes = i.bytes ++ piece;
+      read = Consumes-trans _ _ _ i.bytes piece i.read c.in-Ok.ensures.bytes.0;
+      lived = Lived-passed _ _ _ _ _ _ _ _ _ (c.in_ok-feed.ensures.ok _ _ _ i.lived) c.in_ok-write_out.ensures.ok;
+      plain = c.in_ok-feed.ensures.plain;
+      sound = IsSound-then g.W.Sink.taken _ _ _ _ (IsSound-then g.W.Sink.taken _ _ _ _ i.sound c.in_ok-feed.ensures.sound) (IsSound-puts _ _ _ _ _ c.in_ok-write_out.ensures.ok);
+      held = c.in_ok-write_out.ensures.held;
+      reads = omega (arith, c.in-Ok.ensures.reads, i.reads);
+      failures = c.in-Ok.ensures.failures ∙ i.failures;
+      room = omega arith;
+    }
+
+pub returns-clause-err : goal.returns-clause-err
+returns-clause-err g c =
+    let i = c.loop-i.invariant in
+    record {
+      bytes = i.bytes;
+      read = i.read;
+      state = c.loop-i.machine;
+      line = c.loop-i.line;
+      lived = i.lived;
+      held = i.held;
+    }

@@ -1,6 +1,0 @@
-use Rattle.std.proofs.Common.{◌∙◌, append_assoc}
-use Rattle.std.proofs.lemmas.Result.{IfOk-weaker}
-use Rattle.cq_report.proofs.reply.place_line.Goals as goal
-
-pub returns : goal.returns
-returns g c = IfOk-weaker c.format.result _ _ (λ text e. e ∙ simp append_assoc) c.format.ensures.ok

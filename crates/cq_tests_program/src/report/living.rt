@@ -1,0 +1,103 @@
+//! Lines that are answered on and on while an allocation fails.
+
+use crate::devices::OneLine;
+use cq_devices::Counted;
+use cq_report::live;
+use cq_tests_allocations::{ENOUGH, Refusing};
+use std::alloc::{Allocator, Global};
+use std::io::{self, ErrorKind, Write};
+
+const LINES: &[u8] = b"relation T 1\ninsert T(1)\npost a {} R(x) <- T(x)\npublish\nshow\n";
+
+/// How many texts of answers there are.
+const TEXTS: usize = 5;
+
+/// The answers where no allocation fails, and where one does at the first line, the second, the third and the last. A publish takes
+/// no memory.
+const ANSWERS: [&[u8]; TEXTS] = [
+    b"ok\nok 1\nok 2\npublished 2\nshow 2\nrelation T 1 rows 1\nquery a matched
+  text {} R(x) <- T(x)\n  groundings 1 (x)\n    (1)\nend\n",
+    b"refused Memory\nrefused UnknownRelation 0\nrefused UnknownRelation 0\npublished 0\nshow 0\nend\n",
+    b"ok\nrefused Memory\nok 1\npublished 1\nshow 1\nrelation T 1 rows 0\nquery a waiting
+  text {} R(x) <- T(x)\n  groundings 0 (x)\nend\n",
+    b"ok\nok 1\nrefused Memory\npublished 1\nshow 1\nrelation T 1 rows 1\nend\n",
+    b"ok\nok 1\nok 2\npublished 2\nrefused Memory\n",
+];
+
+/// Takes the bytes of any of the texts, and fails at others. It takes no memory.
+#[derive(Drop)]
+struct AnyOf {
+    rests: [Option<&'static [u8]>; TEXTS],
+}
+
+impl AnyOf {
+    fn new() -> AnyOf {
+        let mut rests = [None; TEXTS];
+        for text in 0..TEXTS {
+            rests[text] = Some(ANSWERS[text]);
+        }
+        AnyOf { rests }
+    }
+
+    /// The text that was written whole.
+    fn whole(&self) -> Option<usize> {
+        self.rests.iter().position(|rest| *rest == Some(b""))
+    }
+}
+
+/// What is left of a text after these bytes, where it begins with them.
+fn behind(text: Option<&'static [u8]>, bytes: &[u8]) -> Option<&'static [u8]> {
+    let rest = text?;
+    let (front, rest) = rest.split_at_checked(bytes.len())?;
+    if front == bytes { Some(rest) } else { None }
+}
+
+impl Write for AnyOf {
+    fn write(&mut self, buf: &[u8]) -> io::Result<usize> {
+        let mut is_any = false;
+        for text in 0..TEXTS {
+            self.rests[text] = behind(self.rests[text], buf);
+            is_any = is_any || self.rests[text].is_some();
+        }
+        if is_any {
+            Ok(buf.len())
+        } else {
+            Err(ErrorKind::WriteZero.into())
+        }
+    }
+
+    fn flush(&mut self) -> io::Result<()> {
+        Ok(())
+    }
+}
+
+/// Which of the texts the lines are answered with; none where there was no memory to begin with, or they are answered otherwise.
+fn answered<A: Allocator + Copy>(alloc: A) -> Option<usize> {
+    let mut reader = Counted::new(OneLine(LINES));
+    let mut writer = Counted::new(AnyOf::new());
+    match live(alloc, &mut reader, &mut writer) {
+        Ok(()) => writer.into_inner().whole(),
+        Err(_) => None,
+    }
+}
+
+/// Which of the texts are met while each allocation is refused in turn, but for the first one, without which nothing begins.
+fn met(alloc: Global) -> Option<[bool; TEXTS]> {
+    let mut met = [false; TEXTS];
+    for left in 1..ENOUGH {
+        let heap = Refusing::new(alloc, left);
+        let text = answered(&heap)?;
+        met[text] = true;
+        if !heap.has_refused() {
+            return Some(met);
+        }
+    }
+    None
+}
+
+// A failed allocation is answered, and changes nothing: the lines after it are answered as if its line had not been.
+#[test]
+fn failed_allocation_in_live(rt: HostRuntime) {
+    assert!(rt; met(rt.alloc()) == Some([true; TEXTS]));
+    assert!(rt; answered(&Refusing::new(rt.alloc(), 0)).is_none());
+}
