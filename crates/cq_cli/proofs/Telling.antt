@@ -1,11 +1,14 @@
 -- What is said of a board that a script leaves.
 use Rattle.std.proofs.Common.{◌≡◌, ℕ, ◌+◌, List, Option, refl, sym, subst, arith, inl, inr}
-use Rattle.std.specs.Prelude.{◌↔◌, ◌⊎◌, Result, Ok, Err, IfOk, IfErr, IfSome, MatchResult}
+use Rattle.std.specs.Prelude.{◌↔◌, ◌⊎◌, Result, Ok, Err, IfOk, IfErr, IfSome}
 use Rattle.std.proofs.lemmas.Option.{IfSome_then}
 use Rattle.cq_board.specs.Choice.{ChoiceRecord, IsCoordinating}
 use Rattle.cq_board.specs.Pool.{PoolRecord}
 use Rattle.cq_report.specs.declared.fault.RunFault.{RunFault}
 use Rattle.cq_report.specs.declared.fault.RunFault.TheVariants as runs
+use Rattle.cq_report.specs.declared.fault.LiveFault.{LiveFault}
+use Rattle.cq_report.specs.declared.fault.LiveFault.TheVariants as lives
+use Rattle.cq_report.specs.Live.{ReadsFailed, write_failures_of}
 use Rattle.cq_report.specs.Run.{IfRead, IsOfRead, fault_of_reading, failures_of}
 use Rattle.cq_devices.specs.declared.fault.WholeFault.{WholeFault}
 use Rattle.cq_devices.specs.declared.fault.WholeFault.TheVariants as reads
@@ -21,7 +24,7 @@ use Rattle.cq_cli.specs.declared.status.Status.{Status}
 use Rattle.cq_cli.specs.declared.rows.RowsFault.{RowsFault}
 use Rattle.cq_cli.specs.declared.rows.RowsFault.TheVariants as rows
 use Rattle.cq_cli.specs.declared.status.Status.TheVariants.{Done, Failed, Usage, NoMemory, BadRecord, NotSo}
-use Rattle.cq_cli.specs.Status.{IsRefused, ended, status_of_choices, status_of_rows, status_of_run}
+use Rattle.cq_cli.specs.Status.{IsRefused, ended, status_of_choices, status_of_live, status_of_rows, status_of_run}
 use Rattle.cq_cli.specs.Devices.{DeviceCounts, EndsRun, LeavesRefused, ReportsFailures, ReportsWriting}
 use Rattle.cq_cli.specs.Rows.{MatchFault, IsOfReader}
 use Rattle.cq_cli.specs.Rows as rows_failures
@@ -67,7 +70,7 @@ none_failed before after status other reads writes = record {
 -- the status after a fault of a run reports it
 pub run_reported : (before after : DeviceCounts) (fault : RunFault) → IfRead fault (λ turn. FailedAtTurn turn before.reads after.reads before.read_failures after.read_failures) → ((IsOfRead fault → ⊥) → after.read_failures ≡ before.read_failures)
     → after.write_failures ≡ before.write_failures + failures_of fault → ReportsFailures before after (status_of_run fault)
-run_reported before after (runs.Read n) turn reads writes = record { read = λ _. refl; write = λ _. refl; failed = λ _. inr (n, turn) }
+run_reported before after (runs.Read n) turn reads writes = record { read = λ _. refl; write = λ _. refl; failed = λ _. inr (inl (n, turn)) }
 run_reported before after runs.Write turn reads writes = record { read = λ _. refl; write = λ _. refl; failed = λ _. inl (omega (arith, writes)) }
 run_reported before after runs.NoMemory turn reads writes = none_failed before after NoMemory (λ is. cc) (reads (λ no. no)) (omega (arith, writes))
 
@@ -99,6 +102,19 @@ not_refused source source' sink sink' status other = record {
   unread = λ is. absurd (other (subst IsRefused (sym is) tt));
 }
 
+-- the status after a fault of lines that were answered on and on reports it
+pub live_reported : (before after : DeviceCounts) (fault : LiveFault) → ReadsFailed fault before.reads after.reads before.read_failures after.read_failures → after.write_failures ≡ before.write_failures + write_failures_of fault
+    → ReportsFailures before after (status_of_live fault)
+live_reported before after (lives.Read n) (inl failed) writes = record { read = λ _. refl; write = λ _. refl; failed = λ _. inr (inl (n, inl failed)) }
+live_reported before after (lives.Read n) (inr endless) writes = record { read = λ _. refl; write = λ _. refl; failed = λ _. inr (inr endless.1) }
+live_reported before after lives.Write same writes = record { read = λ _. refl; write = λ _. refl; failed = λ _. inl (omega (arith, writes)) }
+live_reported before after lives.NoMemory same writes = none_failed before after NoMemory (λ is. cc) same (omega (arith, writes))
+
+pub live_not_refused : (fault : LiveFault) → IsRefused (status_of_live fault) → ⊥
+live_not_refused (lives.Read n) refused = refused
+live_not_refused lives.Write refused = refused
+live_not_refused lives.NoMemory refused = refused
+
 pub run_not_refused : (fault : RunFault) → IsRefused (status_of_run fault) → ⊥
 run_not_refused (runs.Read n) is = is
 run_not_refused runs.Write is = is
@@ -112,7 +128,7 @@ ended_not_refused (Err fault) either is = run_not_refused fault is
 -- the status after a fault of rows reports it
 pub rows_reported : (before after : DeviceCounts) (words writer of_record of_memory : Type 0) (fault : RowsFault) → MatchFault fault words (λ turn. FailedAtTurn turn before.reads after.reads before.read_failures after.read_failures) writer of_record of_memory
     → ((IsOfReader fault → ⊥) → after.read_failures ≡ before.read_failures) → after.write_failures ≡ before.write_failures + rows_failures.failures_of fault → ReportsFailures before after (status_of_rows fault)
-rows_reported before after words writer of_record of_memory (rows.Read n) h reads writes = record { read = λ _. refl; write = λ _. refl; failed = λ _. inr (n, h) }
+rows_reported before after words writer of_record of_memory (rows.Read n) h reads writes = record { read = λ _. refl; write = λ _. refl; failed = λ _. inr (inl (n, h)) }
 rows_reported before after words writer of_record of_memory rows.Write h reads writes = record { read = λ _. refl; write = λ _. refl; failed = λ _. inl (omega (arith, writes)) }
 rows_reported before after words writer of_record of_memory rows.BadName h reads writes = none_failed before after Usage (λ is. cc) (reads (λ no. no)) (omega (arith, writes))
 rows_reported before after words writer of_record of_memory rows.BadArity h reads writes = none_failed before after Usage (λ is. cc) (reads (λ no. no)) (omega (arith, writes))

@@ -2,6 +2,7 @@
 use Rattle.std.specs.Prelude.{◌≡◌, ◌<◌, ◌+◌, ◌^◌, ℕ, ◌⊎◌, Result, MatchResult, IfErr}
 use Rattle.cq_devices.specs.Device.{FailedAtTurn}
 use Rattle.cq_report.specs.declared.fault.RunFault.{RunFault}
+use Rattle.cq_report.specs.Live.{max_live_reads}
 use Rattle.cq_report.specs.Run.{IfRead, IsOfRead, failures_of}
 use Rattle.cq_cli.specs.declared.status.Status.{Status}
 use Rattle.cq_cli.specs.declared.status.Status.TheVariants.{Failed, Usage}
@@ -23,11 +24,12 @@ pub record HaveRoom (now : DeviceCounts) : Type 0 where
   pub read_failures : now.read_failures < 2 ^ 62
   pub write_failures : now.write_failures < 2 ^ 62
 
--- The sink failed, or the source did at some read or gave no end.
+-- The sink failed, or the source did at some read or gave no end, in as many reads as a run makes or as lines are answered by.
 abbrev pub DeviceFailed : (before after : DeviceCounts) → Type 0
 DeviceFailed before after =
     (before.write_failures < after.write_failures)
     ⊎ ((turn : ℕ) × FailedAtTurn turn before.reads after.reads before.read_failures after.read_failures)
+    ⊎ (after.reads ≡ before.reads + max_live_reads)
 
 -- A run ended by a fault exactly where a device failed or memory ran out, and the fault tells which.
 pub record EndsRun {X : Type 0} (before after : DeviceCounts) (ended : Result X RunFault) : Type 0 where

@@ -4,6 +4,8 @@ use Rattle.cq_devices.specs.declared.fault.WholeFault.{WholeFault}
 use Rattle.cq_devices.specs.declared.fault.WholeFault.TheVariants as reads
 use Rattle.cq_report.specs.declared.fault.RunFault.{RunFault}
 use Rattle.cq_report.specs.declared.fault.RunFault.TheVariants as runs
+use Rattle.cq_report.specs.declared.fault.LiveFault.{LiveFault}
+use Rattle.cq_report.specs.declared.fault.LiveFault.TheVariants as lives
 use Rattle.cq_sessions.specs.declared.fault.SessionsFault.{SessionsFault}
 use Rattle.cq_sessions.specs.declared.fault.SessionsFault.TheVariants as sessions
 use Rattle.cq_cli.specs.declared.rows.RowsFault.{RowsFault}
@@ -31,6 +33,11 @@ abbrev pub status_of_run : RunFault → Status
 status_of_run (runs.Read turn) = Failed
 status_of_run runs.Write = Failed
 status_of_run runs.NoMemory = NoMemory
+
+abbrev pub status_of_live : LiveFault → Status
+status_of_live (lives.Read turn) = Failed
+status_of_live lives.Write = Failed
+status_of_live lives.NoMemory = NoMemory
 
 -- A file whose reading fails is none of the standard devices.
 abbrev pub status_of_reading : WholeFault → Status

@@ -15,7 +15,7 @@ use clap::Error;
 use clap::error::ErrorKind;
 use cq_budget::Budget;
 use cq_devices::{Sink, Source};
-use cq_report::{Numbering, RunFault, run};
+use cq_report::{Numbering, RunFault, live, run};
 use std::alloc::{Allocator, Global};
 use std::convert::AsStr;
 use std::fs::Files;
@@ -70,6 +70,26 @@ fn answer_replay<A: Allocator + Copy, R: Source, W: Sink, E: Sink>(
     };
     tell_fault(alloc, &fault, errors);
     Status::of_run(fault)
+}
+
+/// Answers the lines that the source gives, and tells a fault of it.
+fn answer_live<A: Allocator + Copy, R: Source, W: Sink, E: Sink>(
+    alloc: Global,
+    heap: A,
+    source: &mut R,
+    sink: &mut W,
+    errors: &mut E,
+) -> Status
+    requires devices { HaveRoom (counts R.reads_made R.failures_met W.write_failures source.old sink.old) }
+    requires errors { E.write_failures errors.old < 2 ^ 62 }
+    ensures failures { ReportsFailures (counts R.reads_made R.failures_met W.write_failures source.old sink.old) (counts R.reads_made R.failures_met W.write_failures source.new sink.new) result }
+    ensures refused { LeavesRefused source.old source.new sink.old sink.new result }
+{
+    let Err(fault) = live(heap, source, sink) else {
+        return Status::Done;
+    };
+    tell_fault(alloc, &fault, errors);
+    Status::of_live(fault)
 }
 
 /// Writes the insert lines of the CSV that the source gives, and tells a fault of it.
@@ -146,6 +166,7 @@ fn answer_task<
         Task::Replay { numbering } => {
             answer_replay(alloc, heap, *numbering, source, sink, errors)
         }
+        Task::Live => answer_live(alloc, heap, source, sink, errors),
         Task::Rows { relation, arity } => {
             answer_rows(alloc, heap, relation, arity, source, sink, errors)
         }

@@ -1,13 +1,13 @@
 //! How the program ends.
 
 ghost use Rattle.std.specs.Prelude.{◌≡◌};
-ghost use Rattle.cq_cli.specs.Status.{code_of, status_of_run, status_of_choices, status_of_files, status_of_reading, status_of_rows, status_of_sessions};
+ghost use Rattle.cq_cli.specs.Status.{code_of, status_of_live, status_of_run, status_of_choices, status_of_files, status_of_reading, status_of_rows, status_of_sessions};
 
 use crate::choices::ChoiceFault;
 use crate::rows::RowsFault;
 use crate::sessions::{FileFault, FilesFault};
 use cq_devices::WholeFault;
-use cq_report::RunFault;
+use cq_report::{LiveFault, RunFault};
 use cq_sessions::SessionsFault;
 
 /// How the program ends.
@@ -52,6 +52,16 @@ impl Status {
         match fault {
             RunFault::Read { turn: _ } | RunFault::Write => Status::Failed,
             RunFault::NoMemory => Status::NoMemory,
+        }
+    }
+
+    /// How the program ends after lines that ended so.
+    pub(crate) fn of_live(fault: LiveFault) -> Status
+        ensures { result ≡ status_of_live fault }
+    {
+        match fault {
+            LiveFault::Read { turn: _ } | LiveFault::Write => Status::Failed,
+            LiveFault::NoMemory => Status::NoMemory,
         }
     }
 

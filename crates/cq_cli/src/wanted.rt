@@ -52,6 +52,25 @@ reply, and `board: out of memory` is told.
 Exit status: 0 done (refused lines included), 1 a device failed, 2 usage, 3 out of memory.
 docs/formats.md describes the language.";
 
+const ABOUT_LIVE: &str =
+    "Reads lines of a script on standard input, and answers each at once, as long as there are any.";
+
+const BEHIND_LIVE: &str =
+    "The lines are those of `board replay`, and are answered as it answers them: each before the next one is read. So a program can
+drive a board over two pipes.
+
+A line that needs more memory than there is, or than --memory allows, is answered `refused Memory`. It changes nothing, and the
+board goes on.
+
+Example:
+  printf 'post elaine {} R(Elaine, 122) <-\\npublish\\n' | board live
+writes
+  ok 1
+  published 1
+
+Exit status: 0 the lines ended, 1 a device failed, 2 usage, 3 no memory to begin with.
+docs/formats.md describes the language.";
+
 const ABOUT_ROWS: &str =
     "Reads CSV on standard input, and writes an insert line for each record, in order.";
 
@@ -169,6 +188,8 @@ pub(crate) enum Task<'a> {
         /// Whether replies have the numbers of their lines.
         numbering: Numbering,
     },
+    /// Lines are answered one at a time.
+    Live,
     /// CSV becomes insert lines.
     Rows {
         /// The word that stands for the relation's name.
@@ -222,6 +243,16 @@ fn replay_command<'a>(alloc: Global) -> Result<Command<'a>, AllocError> {
         .arg(memory(
             alloc,
             "The most bytes of memory that the script may have at a time",
+        ))
+}
+
+fn live_command<'a>(alloc: Global) -> Result<Command<'a>, AllocError> {
+    Command::new(alloc, "live")
+        .about(ABOUT_LIVE)
+        .after_help(BEHIND_LIVE)
+        .arg(memory(
+            alloc,
+            "The most bytes of memory that the board may have at a time",
         ))
 }
 
@@ -334,6 +365,7 @@ fn board_command<'a>(alloc: Global) -> Result<Command<'a>, AllocError> {
         .arg_required_else_help(true)
         .bin_name("board")?;
     let board = with(board, replay_command(alloc))?;
+    let board = with(board, live_command(alloc))?;
     let board = with(board, rows_command(alloc))?;
     let board = with(board, sessions_command(alloc))?;
     let board = with(board, explain_command(alloc))?;
@@ -368,6 +400,7 @@ fn task_of<'a>(
     matches: &ArgMatches<'a>,
 ) -> Result<Task<'a>, AllocError> {
     Ok(match name {
+        "live" => Task::Live,
         "rows" => Task::Rows {
             relation: matches.get_str("RELATION").unwrap_or(""),
             arity: matches.get_str("ARITY").unwrap_or(""),
