@@ -2,7 +2,7 @@
 # `passed` and `fail`.
 
 # Cases, by what they do where nothing fails.
-readers="examples/travel.board examples/flights.csv"
+readers="examples/travel.board examples/flights.csv cases/live_lines"
 writers="$readers cases/one_file_session cases/help_long cases/version_long"
 unreading="cases/one_file_session cases/help_long cases/version_long cases/no_words"
 silent="cases/nothing cases/no_words cases/rows_first_record_at_fault"
