@@ -87,7 +87,9 @@ fn met(alloc: Global) -> Option<[bool; TEXTS]> {
     for left in 1..ENOUGH {
         let heap = Refusing::new(alloc, left);
         let text = answered(&heap)?;
-        met[text] = true;
+        if text < TEXTS {
+            met[text] = true;
+        }
         if !heap.has_refused() {
             return Some(met);
         }
