@@ -308,9 +308,6 @@ module _ {W A : Type 0} (taken : W → Option (List ℕ)) (failures : W → ℕ)
 pub FailsOnce-then : {W A : Type 0} (failures : W → ℕ) (a b c : Output W A) → IsSound failures a b → FailsOnce failures b c → FailsOnce failures a c
 FailsOnce-then failures a b c p q = record { writer = q.writer ∙ p.writer; failed = q.failed ∙ ap (λ (n : ℕ). n + 1) p.failed }
 
-pub FailsOnce-breaks : {W A : Type 0} (taken : W → Option (List ℕ)) (failures : W → ℕ) (a b : Output W A) (bytes : List ℕ) → Breaks taken failures a b bytes Write → FailsOnce failures a b
-FailsOnce-breaks taken failures a b bytes p = record { writer = p.writer; failed = p.failed }
-
 -- ---- a whole life
 
 module _ {W A : Type 0} (taken : W → Option (List ℕ)) (failures : W → ℕ) (opening : State) (left left' : Option (List ℕ)) (first now : Output W A) (t t' : Option (List ℕ)) (begins : opening ≡ begin_live) (none : first.held.now.items ≡ []) (e : taken first.sink.now ≡ t) (e' : taken now.sink.now ≡ t') where
