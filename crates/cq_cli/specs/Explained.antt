@@ -4,14 +4,9 @@ use Rattle.std.specs.List.{flat_map}
 use Rattle.std.specs.Option.{is_some}
 use Rattle.std.specs.Io.KnownBytes.{Appends}
 use Rattle.cq_board.specs.Pool.{PoolRecord}
-use Rattle.cq_render.specs.Explain.{ArePieces, IsTold, state_of, waiting_names}
+use Rattle.cq_render.specs.Explain.{IsExplained, state_of}
 use Rattle.cq_cli.specs.declared.status.Status.{Status}
 use Rattle.cq_cli.specs.declared.status.Status.TheVariants.{Done, NotSo}
-
--- Of all queries that wait where no name is asked for, and else of each of the names.
-abbrev pub IsExplained : PoolRecord → List (List ℕ) → List ℕ → Type 0
-IsExplained pool [] text = ArePieces (IsTold pool) (waiting_names pool) text
-IsExplained pool (name ∷ names) text = ArePieces (IsTold pool) (name ∷ names) text
 
 -- That is what a writer took.
 abbrev pub IsWritten : PoolRecord → List (List ℕ) → Option (List ℕ) → Option (List ℕ) → Type 0

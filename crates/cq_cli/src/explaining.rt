@@ -11,7 +11,7 @@ ghost use Rattle.cq_render.specs.Explain.{state_of};
 ghost use Rattle.cq_cli.specs.declared.status.Status.{Status};
 ghost use Rattle.cq_cli.specs.Devices.{counts, EndsRun, HaveRoom, LeavesRefused, ReportsFailures};
 ghost use Rattle.cq_cli.specs.Steps.Answers.{fault_of_answer};
-ghost use Rattle.cq_cli.specs.Explained.{absent_line, absent_lines, absent_names, IsExplained, IsWritten, status_of_absent};
+ghost use Rattle.cq_cli.specs.Explained.{absent_line, absent_lines, absent_names, IsWritten, status_of_absent};
 
 use crate::fault::AnswerFault;
 use crate::status::Status;
@@ -20,24 +20,9 @@ use crate::writing::{tell, write_text};
 use cq_atom::{Bad, Name};
 use cq_board::Board;
 use cq_devices::{Sink, Source};
-use cq_render::{explain, explain_named};
+use cq_render::explain_these;
 use cq_report::{RunFault, read_script};
 use std::alloc::{AllocError, Allocator, Global};
-
-/// What is reported about these names; of all queries that wait where there is none.
-fn text_of<A: Allocator + Copy>(
-    heap: A,
-    board: &Board<A>,
-    names: &[&str],
-) -> Result<String<A>, AllocError>
-    ensures { IfOk result (λ text. IsExplained board.now (map (λ name. name.now) names.now) (string_bytes text)) }
-{
-    if names.is_empty() {
-        explain(heap, board)
-    } else {
-        explain_named(heap, board, names)
-    }
-}
 
 /// Whether a query is pending under that name.
 fn is_pending<A: Allocator + Copy>(
@@ -125,7 +110,7 @@ fn write_told<A: Allocator + Copy, W: Sink>(
     ensures ok { OnOk result (IsWritten board.now (map (λ name. name.now) names.now) (W.taken sink.old) (W.taken sink.new)) }
     ensures failures { MatchResult result (λ _. W.write_failures sink.new ≡ W.write_failures sink.old) (λ fault. W.write_failures sink.new ≡ W.write_failures sink.old + failures_of (fault_of_answer fault)) }
 {
-    let text = text_of(heap, board, names)?;
+    let text = explain_these(heap, board, names)?;
     write_text(sink, &text)?;
     Ok(())
 }

@@ -12,10 +12,10 @@ use Rattle.cq_board.specs.Pool.{PendingQuery, PoolRecord, name_of, IsPool}
 use Rattle.cq_board.specs.Board.{is_matched_at, name_at}
 use Rattle.cq_board.specs.Named.{query_named, matched_named, groundings_named}
 use Rattle.cq_board.proofs.CallerLemmas as by_name
-use Rattle.cq_render.specs.Report.{query_lines}
+use Rattle.cq_render.specs.Report.{query_lines, block_of}
 use Rattle.cq_render.specs.Graph.{query_box, supplies}
 use Rattle.cq_render.specs.Json.{query_json}
-use Rattle.cq_render.specs.Steps.Walking.{ShownRecord, shown_of, all_shown, shown_lines, shown_box, shown_supplies, shown_json}
+use Rattle.cq_render.specs.Steps.Walking.{ShownRecord, shown_of, all_shown, shown_lines, shown_block, shown_box, shown_supplies, shown_json}
 use Rattle.cq_render.proofs.Pieces.{ahead}
 
 -- ---- names
@@ -91,6 +91,9 @@ names_of_shown read items pool walked = sym (map_twice (λ (s : ShownRecord). s.
 
 pub lines_all : (pool : PoolRecord) → flat_map (shown_lines pool.pending) (all_shown pool) ≡ flat_map (query_lines pool) (enumerate_from 0 pool.pending)
 lines_all pool = flat_map-map (shown_lines pool.pending) (shown_of pool) (enumerate_from 0 pool.pending)
+
+pub blocks_all : (pool : PoolRecord) (name : List ℕ) → flat_map (shown_block pool.pending name) (all_shown pool) ≡ block_of pool name
+blocks_all pool name = flat_map-map (shown_block pool.pending name) (shown_of pool) (enumerate_from 0 pool.pending)
 
 pub boxes_all : (pool : PoolRecord) → flat_map shown_box (all_shown pool) ≡ flat_map (query_box pool) (enumerate_from 0 pool.pending)
 boxes_all pool = flat_map-map shown_box (shown_of pool) (enumerate_from 0 pool.pending)

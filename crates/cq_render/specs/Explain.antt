@@ -1,6 +1,6 @@
 -- Why pending queries wait: a text made of whole lines. (this project's profile)
 use Rattle.std.specs.Prelude.{◌≡◌, ◌↔◌, ℕ, Bool, true, false, ◌==◌, List, [], ◌∷◌, ◌++◌, length, map, filter, codes, decimal, if◌then◌else◌, Option, Some, None}
-use Rattle.std.specs.List.{Contains, slice_get, join_by}
+use Rattle.std.specs.List.{Contains, slice_get, flat_map, join_by}
 use Rattle.std.specs.List.Sorted.{IsStrictlyIncreasing}
 use Rattle.std.specs.Option.{option_and_then}
 use Rattle.cq_atom.specs.Text.{is_name}
@@ -17,6 +17,7 @@ use Rattle.cq_board.specs.Board.{name_at, name_or_none, place_of}
 use Rattle.cq_board.specs.Named.{query_named, matched_named}
 use Rattle.cq_board.specs.Near.{post_named, misses_named, miss_named, AreNearest}
 use Rattle.cq_board.specs.Waiting.{is_waiting, IsReasonPart}
+use Rattle.cq_render.specs.Report.{line}
 
 -- A text is made of pieces, one for each element of a list, in its order, which tells that element.
 abbrev pub ArePieces : {X : Type 0} → (X → List ℕ → Type 0) → List X → List ℕ → Type 0
@@ -104,3 +105,13 @@ IsTold pool word text = IsToldBy (state_of pool word) pool word text
 -- The names of the queries that wait, in posting order.
 abbrev pub waiting_names : PoolRecord → List (List ℕ)
 waiting_names pool = filter (λ name. is_waiting name pool) (map name_of pool.pending)
+
+-- What is reported about these names; where there is none, about all queries that wait.
+abbrev pub IsExplained : PoolRecord → List (List ℕ) → List ℕ → Type 0
+IsExplained pool [] text = ArePieces (IsTold pool) (waiting_names pool) text
+IsExplained pool (name ∷ names) text = ArePieces (IsTold pool) (name ∷ names) text
+
+-- The heads that are nearest to a postcondition, each in a line.
+abbrev pub IsNearTold : List PendingQuery → List ℕ → ℕ → List ℕ → Type 0
+IsNearTold pending name post text =
+    (nearest : List (ℕ × ℕ × ℕ)) × AreNearest (misses_named name post pending) nearest × (text ≡ flat_map (λ near. line (near_words pending near)) (map (miss_named pending) nearest))

@@ -1,6 +1,7 @@
 -- The report on a pool: a text made of whole lines. (this project's profile)
 use Rattle.std.specs.Prelude.{ℕ, Bool, List, [], ◌++◌, length, codes, decimal, if◌then◌else◌}
 use Rattle.std.specs.List.{flat_map, enumerate_from, join_by}
+use Rattle.std.specs.Str.{bytes_eq}
 use Rattle.cq_atom.specs.Value.{ValueContent}
 use Rattle.cq_atom.specs.Atom.{RowRecord}
 use Rattle.cq_atom.specs.Query.{QueryRecord, variables_of}
@@ -71,3 +72,7 @@ query_lines pool (place, posted) =
 -- The report on a pool: the relations in order of declaration, and the pending queries in posting order.
 abbrev pub report : PoolRecord → List ℕ
 report pool = flat_map (relation_line pool.tables) pool.tables.catalog ++ flat_map (query_lines pool) (enumerate_from 0 pool.pending)
+
+-- The lines of the query of that name, where one is pending.
+abbrev pub block_of : PoolRecord → List ℕ → List ℕ
+block_of pool name = flat_map (λ entry. if bytes_eq entry.1.name name then query_lines pool entry else []) (enumerate_from 0 pool.pending)

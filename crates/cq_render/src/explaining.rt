@@ -1,8 +1,8 @@
 //! Why the queries of a board wait, put on a page line by line.
 
-ghost use Rattle.std.specs.Prelude.{◌≡◌, ◌<◌, ℕ, List, length, map, filter, string_bytes, true, false, [], Some, IfOk, OnOk};
+ghost use Rattle.std.specs.Prelude.{◌≡◌, ◌<◌, ◌++◌, ℕ, List, length, map, filter, string_bytes, true, false, [], Some, IfOk, OnOk};
 ghost use Rattle.std.specs.HashMap.{get_by};
-ghost use Rattle.std.specs.List.{All};
+ghost use Rattle.std.specs.List.{All, flat_map};
 ghost use Rattle.std.specs.Option.{option_copied};
 ghost use Rattle.std.specs.Str.{bytes_eq};
 ghost use Rattle.cq_match.specs.Falling.{IsUnmatched};
@@ -12,7 +12,8 @@ ghost use Rattle.cq_board.specs.Named.{matched_named};
 ghost use Rattle.cq_board.specs.Near.{miss_read, post_named};
 ghost use Rattle.cq_board.specs.Waiting.{is_waiting, IsReasonPart};
 ghost use Rattle.cq_render.specs.Steps.Falls.{AreFalls};
-ghost use Rattle.cq_render.specs.Explain.{ArePieces, AreProviders, IsExplanation, atom_or_none, head_named, name_of_number, near_words, missing_words, wait_word, only_words, IsUnmetTold, IsReasonTold, IsStep, IsToldBy, IsTold, waiting_names};
+ghost use Rattle.cq_render.specs.Explain.{ArePieces, AreProviders, IsExplanation, atom_or_none, head_named, name_of_number, near_words, missing_words, wait_word, only_words, IsUnmetTold, IsReasonTold, IsStep, IsToldBy, IsTold, waiting_names, IsExplained, IsNearTold};
+ghost use Rattle.cq_render.specs.Report.{line};
 
 use crate::numbering::{Numbers, numbers_of};
 use crate::walking::{Listing, name_or_none, providers, walk};
@@ -84,6 +85,35 @@ fn near_words<A: Allocator + Copy>(
     let head = near.head;
     let atom = atom.as_str();
     format!(in alloc; "{name} head {head} {atom}")
+}
+
+/// Puts a head in a line.
+fn put_near<A: Allocator + Copy>(
+    alloc: A,
+    board: &Board<A>,
+    near: &NearMiss<&Name<A>>,
+    page: &mut String<A>,
+) -> Result<(), AllocError>
+    ensures { OnOk result (string_bytes page.new ≡ string_bytes page.old ++ line (near_words board.now.pending (miss_read (λ name. name.now) near.now))) }
+{
+    let words = near_words(alloc, board, near)?;
+    page.push_str(words.as_str())?;
+    page.push('\n')
+}
+
+/// Puts each of these heads in a line.
+fn put_nears<A: Allocator + Copy>(
+    alloc: A,
+    board: &Board<A>,
+    near: &[NearMiss<&Name<A>>],
+    page: &mut String<A>,
+) -> Result<(), AllocError>
+    ensures { OnOk result (string_bytes page.new ≡ string_bytes page.old ++ flat_map (λ near. line (near_words board.now.pending near)) (map (miss_read (λ name. name.now)) near.now)) }
+{
+    for miss in near {
+        put_near(alloc, board, miss, page)?;
+    }
+    Ok(())
 }
 
 /// The words of each of these heads.
@@ -462,4 +492,41 @@ pub fn explain<A: Allocator + Copy>(alloc: A, board: &Board<A>) -> Result<String
     let names = board.names()?;
     let waiting = waiting(alloc, board, &names)?;
     explain_named(alloc, board, &waiting)
+}
+
+/// Why the queries of these names wait; where there is no name, all that wait.
+///
+/// # Errors
+/// `AllocError` where an allocation failed.
+pub fn explain_these<A: Allocator + Copy>(
+    alloc: A,
+    board: &Board<A>,
+    names: &[&str],
+) -> Result<String<A>, AllocError>
+    ensures { IfOk result (λ text. IsExplained board.now (map (λ name. name.now) names.now) (string_bytes text)) }
+{
+    if names.is_empty() {
+        explain(alloc, board)
+    } else {
+        explain_named(alloc, board, names)
+    }
+}
+
+/// The heads that are nearest to a postcondition of the query of that name, counted from 0, as [`Board::near_misses`] tells them:
+/// each in a line, nothing where there is no such postcondition.
+///
+/// # Errors
+/// `AllocError` where an allocation failed.
+pub fn near<A: Allocator + Copy>(
+    alloc: A,
+    board: &Board<A>,
+    name: &Name<A>,
+    post: u8,
+) -> Result<String<A>, AllocError>
+    ensures { IfOk result (λ text. IsNearTold board.now.pending name.now post (string_bytes text)) }
+{
+    let near = board.near_misses(name, post)?;
+    let mut page = String::new(alloc);
+    put_nears(alloc, board, &near, &mut page)?;
+    Ok(page)
 }

@@ -4,8 +4,8 @@ ghost use Rattle.std.specs.Prelude.{◌≡◌, ◌++◌, length, string_bytes, I
 ghost use Rattle.std.specs.List.{flat_map, enumerate_from};
 ghost use Rattle.cq_atom.specs.Query.{variables_of};
 ghost use Rattle.cq_rel.specs.Tables.{declaration};
-ghost use Rattle.cq_render.specs.Report.{relation_line, name_line, text_line, provider_line, crowd_word, count_line, post_lines, groundings_line, values_line, query_lines, report};
-ghost use Rattle.cq_render.specs.Steps.Walking.{shown_lines, shown_read};
+ghost use Rattle.cq_render.specs.Report.{relation_line, name_line, text_line, provider_line, crowd_word, count_line, post_lines, groundings_line, values_line, query_lines, block_of, report};
+ghost use Rattle.cq_render.specs.Steps.Walking.{shown_lines, shown_block, shown_read};
 
 use crate::walking::{Listing, Shown, name_or_none, providers, walk};
 use crate::words::{row_count, state_word};
@@ -215,6 +215,53 @@ fn put_each<A: Allocator + Copy>(
         put_query(alloc, listing, shown, page)?;
     }
     Ok(())
+}
+
+/// Puts what is reported about the query, where it has that name.
+fn put_if_named<A: Allocator + Copy>(
+    alloc: A,
+    listing: &Listing<'_, A>,
+    shown: &Shown<'_, A>,
+    name: &str,
+    page: &mut String<A>,
+) -> Result<(), AllocError>
+    ensures { OnOk result (string_bytes page.new ≡ string_bytes page.old ++ shown_block listing.now.board.now.pending name.now (shown_read shown.now)) }
+{
+    if shown.name.as_str() != name {
+        return Ok(());
+    }
+    put_query(alloc, listing, shown, page)
+}
+
+/// Puts what is reported about each pending query that has that name.
+fn put_named<A: Allocator + Copy>(
+    alloc: A,
+    listing: &Listing<'_, A>,
+    name: &str,
+    page: &mut String<A>,
+) -> Result<(), AllocError>
+    ensures { OnOk result (string_bytes page.new ≡ string_bytes page.old ++ block_of listing.now.board.now name.now) }
+{
+    for shown in &listing.queries {
+        put_if_named(alloc, listing, shown, name, page)?;
+    }
+    Ok(())
+}
+
+/// Puts the lines of the query of that name after the page; nothing, where none is pending. It takes a walk over the board.
+///
+/// # Errors
+/// `AllocError` where an allocation failed. The page may then have a part of the lines.
+pub fn put_block<A: Allocator + Copy>(
+    alloc: A,
+    board: &Board<A>,
+    name: &str,
+    page: &mut String<A>,
+) -> Result<(), AllocError>
+    ensures { OnOk result (string_bytes page.new ≡ string_bytes page.old ++ block_of board.now name.now) }
+{
+    let listing = walk(alloc, board)?;
+    put_named(alloc, &listing, name, page)
 }
 
 /// Puts what is reported about each pending query of a board.

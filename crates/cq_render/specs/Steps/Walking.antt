@@ -1,6 +1,7 @@
 -- The pending queries of a board one after another, each with what the board shows of it, and the texts of one query by that.
-use Rattle.std.specs.Prelude.{ℕ, Bool, List, [], ◌∷◌, ◌++◌, length, map, codes}
+use Rattle.std.specs.Prelude.{ℕ, Bool, List, [], ◌∷◌, ◌++◌, length, map, codes, if◌then◌else◌}
 use Rattle.std.specs.List.{flat_map, enumerate_from}
+use Rattle.std.specs.Str.{bytes_eq}
 use Rattle.json.specs.Json.{Json, string}
 use Rattle.cq_atom.specs.Value.{ValueContent}
 use Rattle.cq_atom.specs.Query.{QueryRecord, variables_of}
@@ -59,3 +60,7 @@ shown_json pending shown = object_of (
     ∷ (codes "variables", array_of (map string (variables_of shown.query.body)))
     ∷ (codes "groundings", array_of (map grounding_json shown.groundings))
     ∷ [])
+
+-- Its lines of the report, where it has that name.
+abbrev pub shown_block : List PendingQuery → List ℕ → ShownRecord → List ℕ
+shown_block pending name shown = if bytes_eq shown.name name then shown_lines pending shown else []

@@ -1,5 +1,5 @@
 use Rattle.std.proofs.Common.{List, ℕ, sym, subst, map}
-use Rattle.cq_cli.specs.Explained.{IsExplained}
+use Rattle.cq_render.specs.Explain.{IsExplained}
 use Rattle.cq_cli.proofs.explaining.write_told.Goals as goal
 
 pub returns-clause-ok : goal.returns-clause-ok
