@@ -1,10 +1,13 @@
 -- What is kept of a line is read as the line is.
-use Rattle.std.proofs.Common.{◌≡◌, ℕ, ◌<◌, ◌≤◌, List, length, sym, subst, ◌⊎◌, inl, inr, arith}
+use Rattle.std.proofs.Common.{◌≡◌, ℕ, ◌<◌, ◌≤◌, false, List, length, take, refl, sym, ap, subst, ◌⊎◌, inl, inr, arith}
+use Rattle.std.specs.Prelude.{nat_le}
 use Rattle.std.proofs.lemmas.Bool.{cases_lt}
 use Rattle.std.proofs.lemmas.List.{take_all, length-take}
 use Rattle.cq_text.specs.declared.form.Form.{Form}
 use Rattle.cq_text.specs.declared.form.Form.TheVariants.{One, Two}
 use Rattle.cq_text.specs.Forms.{most_bytes}
+use Rattle.cq_text.specs.Limits.{max_bytes}
+use Rattle.cq_ask.specs.Ask.{asked}
 use Rattle.cq_report.specs.declared.line_buffer.TheConstants.{KEPT}
 use Rattle.cq_report.specs.Reading.{Reading, Reads, Faulty, IsReading}
 use Rattle.cq_report.specs.Steps.Kept.{kept}
@@ -44,3 +47,17 @@ IsReading-whole_by form line reading (inr h) i = subst (λ (l : List ℕ). IsRea
 
 pub IsReading-whole : (form : Form) (line : List ℕ) (reading : Reading) → IsReading form (kept line) reading → IsReading form line reading
 IsReading-whole form line reading i = IsReading-whole_by form line reading (cases_lt (most_bytes form) (length line)) i
+
+too_many : (m n : ℕ) → n < m → nat_le m n ≡ false
+too_many m n h = grind arith
+
+asked_kept_by : (line : List ℕ) → (max_bytes < length line) ⊎ (length line ≤ max_bytes) → asked (kept line) ≡ asked line
+unfolding kept
+asked_kept_by line (inl h) =
+    let long : max_bytes < length (take KEPT line) = omega (arith, length-take KEPT line, h) in
+    rw (too_many (length line) max_bytes h, too_many (length (take KEPT line)) max_bytes long) refl
+asked_kept_by line (inr h) = ap asked (take_all KEPT line (omega (arith, h)))
+
+-- what is kept of a line asks what the line asks
+pub asked_kept : (line : List ℕ) → asked (kept line) ≡ asked line
+asked_kept line = asked_kept_by line (cases_lt max_bytes (length line))

@@ -1,5 +1,5 @@
 -- What is written for lines that are answered one at a time, and what an allocation that fails leaves. (this project's profile)
-use Rattle.std.specs.Prelude.{◌≡◌, ◌+◌, ◌^◌, ◌⊎◌, ℕ, List, [], ◌∷◌, ◌++◌, Option, codes, ⊤}
+use Rattle.std.specs.Prelude.{◌≡◌, ◌+◌, ◌^◌, ◌⊎◌, ℕ, List, [], ◌∷◌, ◌++◌, Option, Some, None, Bool, true, false, codes, ⊤}
 use Rattle.std.specs.Io.KnownBytes.{Appends, Consumes}
 use Rattle.cq_devices.specs.Device.{TakesFront}
 use Rattle.cq_report.specs.declared.fault.LiveFault.{LiveFault}
@@ -7,53 +7,68 @@ use Rattle.cq_report.specs.declared.fault.LiveFault.TheVariants as faults
 use Rattle.cq_report.specs.Lines.{lines_of, whole_lines}
 use Rattle.cq_report.specs.Reading.{Reading, IsReading}
 use Rattle.cq_report.specs.Reply.{refused_line}
-use Rattle.cq_report.specs.Machine.{State, form_in, next, reply, begin_state}
+use Rattle.cq_report.specs.Machine.{State, form_in, next, reply, begin_state, serving_of}
+use Rattle.cq_ask.specs.Ask.{AskRecord, asked, is_quit}
+use Rattle.cq_ask.specs.Answer.{IsAnswer}
 use Rattle.cq_report.specs.declared.numbering.Numbering.TheVariants.{Plain}
 
--- What comes of a line: it is served as it is read, or an allocation failed.
+-- A board that is live: the state of its script, and whether it is over.
+pub record Life : Type 0 where
+  pub state : State
+  pub is_over : Bool
+
+-- What comes of a line: it is served as it is read; or it asks, and has this answer; or an allocation failed; or the board is over, and does not hear it.
 pub data Turn : Type 0 where
   Served : Reading → Turn
+  Asked : AskRecord → List ℕ → Turn
   OutOfMemory : Turn
+  Unheard : Turn
 
 -- The reply where an allocation failed.
 abbrev pub memory_line : List ℕ
 memory_line = refused_line (codes "Memory")
 
--- The line is served as it is read in this state. An allocation may fail at any line.
-abbrev pub IsTurn : State → List ℕ → Turn → Type 0
-IsTurn state line (Served reading) = IsReading (form_in state) line reading
-IsTurn state line OutOfMemory = ⊤
+-- A line that does not ask is served as it is read in this state; one that asks has an answer of what is published. An allocation may fail at any line.
+abbrev pub IsTurn : Life → List ℕ → Turn → Type 0
+IsTurn life line (Served reading) = (life.is_over ≡ false) × (asked line ≡ None) × IsReading (form_in life.state) line reading
+IsTurn life line (Asked ask answer) = (life.is_over ≡ false) × (asked line ≡ Some ask) × IsAnswer (serving_of life.state.stage) life.state.before ask answer
+IsTurn life line OutOfMemory = life.is_over ≡ false
+IsTurn life line Unheard = life.is_over ≡ true
 
--- The state after a line. An allocation that failed changes nothing.
-abbrev pub turned : State → Turn → State
-turned state (Served reading) = next state reading
-turned state OutOfMemory = state
+-- The board after a line. One that asks changes nothing, but that the board may be over; an allocation that failed changes nothing.
+abbrev pub turned : Life → Turn → Life
+turned life (Served reading) = record life { state = next life.state reading }
+turned life (Asked ask answer) = record life { is_over = is_quit ask.kind }
+turned life OutOfMemory = life
+turned life Unheard = life
 
 -- The reply to a line.
-abbrev pub turn_reply : State → Turn → List ℕ
-turn_reply state (Served reading) = reply state reading
-turn_reply state OutOfMemory = memory_line
+abbrev pub turn_reply : Life → Turn → List ℕ
+turn_reply life (Served reading) = reply life.state reading
+turn_reply life (Asked ask answer) = answer
+turn_reply life OutOfMemory = memory_line
+turn_reply life Unheard = []
 
 -- These come of the lines, one after another.
-abbrev pub AreTurns : State → List (List ℕ) → List Turn → Type 0
-AreTurns state [] [] = ⊤
-AreTurns state [] (turn ∷ turns) = ⊥
-AreTurns state (line ∷ lines) [] = ⊥
-AreTurns state (line ∷ lines) (turn ∷ turns) = IsTurn state line turn × AreTurns (turned state turn) lines turns
+abbrev pub AreTurns : Life → List (List ℕ) → List Turn → Type 0
+AreTurns life [] [] = ⊤
+AreTurns life [] (turn ∷ turns) = ⊥
+AreTurns life (line ∷ lines) [] = ⊥
+AreTurns life (line ∷ lines) (turn ∷ turns) = IsTurn life line turn × AreTurns (turned life turn) lines turns
 
--- The state after lines of which these come.
-abbrev pub state_turned : State → List Turn → State
-state_turned state [] = state
-state_turned state (turn ∷ turns) = state_turned (turned state turn) turns
+-- The board after lines of which these come.
+abbrev pub life_turned : Life → List Turn → Life
+life_turned life [] = life
+life_turned life (turn ∷ turns) = life_turned (turned life turn) turns
 
 -- The replies to them.
-abbrev pub replies_to : State → List Turn → List ℕ
-replies_to state [] = []
-replies_to state (turn ∷ turns) = turn_reply state turn ++ replies_to (turned state turn) turns
+abbrev pub replies_to : Life → List Turn → List ℕ
+replies_to life [] = []
+replies_to life (turn ∷ turns) = turn_reply life turn ++ replies_to (turned life turn) turns
 
 -- Before the first line nothing has happened, and replies have no numbers.
-abbrev pub begin_live : State
-begin_live = begin_state Plain
+abbrev pub begin_live : Life
+begin_live = record { state = begin_state Plain; is_over = false }
 
 -- ---- what a life leaves after
 

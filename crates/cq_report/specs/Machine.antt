@@ -36,12 +36,13 @@ ServingRecord = StandingRecord PoolRecord Edit
 abbrev pub Staged : Type 0
 Staged = Stage SetupRecord ServingRecord
 
--- How many lines came before, where replies are numbered; which form a script is in, once a line was read that is not blank; and what
--- serves its lines.
+-- How many lines came before, where replies are numbered; which form a script is in, once a line was read that is not blank; what
+-- serves its lines; and how many entries were published before the last publish.
 pub record State : Type 0 where
   pub lines : Option ℕ
   pub heading : Option Form
   pub stage : Staged
+  pub before : ℕ
 
 -- At first nothing is declared, and the limits are those of a script that names none.
 abbrev pub begin_setup : SetupRecord
@@ -56,7 +57,7 @@ no_lines Plain = None
 no_lines Numbered = Some 0
 
 abbrev pub begin_state : Numbering → State
-begin_state numbering = record { lines = no_lines numbering; heading = None; stage = begin_stage }
+begin_state numbering = record { lines = no_lines numbering; heading = None; stage = begin_stage; before = 0 }
 
 -- ---- the form
 
@@ -152,9 +153,14 @@ numbered None bytes = bytes
 numbered (Some before) [] = []
 numbered (Some before) (b ∷ bs) = decimal (before + 1) ++ codes ": " ++ b ∷ bs
 
+-- How many entries were published before the last publish, after a line.
+abbrev pub before_after : State → Reading → ℕ
+before_after state (Reads commands.Publish) = (serving_of state.stage).machine.published
+before_after state reading = state.before
+
 -- The state after a line that is not counted yet.
 abbrev pub served : State → Reading → State
-served state reading = record state { heading = headed state.heading reading; stage = (staged state.stage state.heading reading).0 }
+served state reading = record state { heading = headed state.heading reading; stage = (staged state.stage state.heading reading).0; before = before_after state reading }
 
 -- One line more came.
 abbrev pub counted : State → State

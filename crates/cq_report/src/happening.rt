@@ -69,6 +69,7 @@ fn look<W: Sink, A: Allocator + Copy>(
     ensures state { OnOk result (floor.new ≡ after floor.old (Look session)) }
     ensures put { Put W.taken W.write_failures output.old output.new (told floor.old (Look session)) result }
     ensures kept { IfErr result (λ fault. IfMemory (fault_of_reply fault) (floor.new ≡ floor.old)) }
+    ensures opening { floor.new.opening ≡ floor.old.opening }
 {
     if floor.seen(session).is_none() {
         return Ok(());
@@ -101,6 +102,7 @@ fn act<W: Sink, A: Allocator + Copy>(
     ensures state { OnOk result (floor.new ≡ after floor.old event) }
     ensures put { Put W.taken W.write_failures output.old output.new (told floor.old event) result }
     ensures kept { IfErr result (λ fault. IfMemory (fault_of_reply fault) (floor.new ≡ floor.old)) }
+    ensures opening { floor.new.opening ≡ floor.old.opening }
 {
     match floor.step(event) {
         Ok(answer) => match line_of(&answer) {
@@ -126,6 +128,7 @@ pub(crate) fn happen<W: Sink, A: Allocator + Copy>(
     ensures state { OnOk result (floor.new ≡ after floor.old event) }
     ensures put { Put W.taken W.write_failures output.old output.new (told floor.old event) result }
     ensures kept { IfErr result (λ fault. IfMemory (fault_of_reply fault) (floor.new ≡ floor.old)) }
+    ensures opening { floor.new.opening ≡ floor.old.opening }
 {
     match event {
         Event::Look { session } => look(alloc, floor, session, output),

@@ -1,6 +1,7 @@
 //! Interprets the commands of a script.
 
-ghost use Rattle.std.specs.Prelude.{◌≡◌, ◌<◌, ◌^◌, OnOk, OnErr, IfOk, IfErr};
+ghost use Rattle.std.specs.Prelude.{◌≡◌, ◌<◌, ◌^◌, string_bytes, OnOk, OnErr, IfOk, IfErr};
+ghost use Rattle.cq_ask.specs.Answer.{IsAnswer};
 ghost use Rattle.cq_desk.specs.declared.event.Event.TheVariants.{Enter};
 ghost use Rattle.cq_report.specs.Reading.{Reads};
 ghost use Rattle.cq_report.specs.Machine.{begin_stage, serving_of, prepare, happen, staged};
@@ -15,6 +16,7 @@ use crate::output::Output;
 use crate::reply::late_line;
 use crate::setup::Setup;
 use crate::stage::Stage;
+use cq_ask::{Ask, answer};
 use cq_atom::{Edit, Name};
 use cq_desk::Event;
 use cq_devices::Sink;
@@ -34,11 +36,14 @@ pub(crate) struct Interpreter<A: Allocator + Copy> {
 }
 
 impl<A: Allocator + Copy> Model for Interpreter<A> {
-    ghost use Rattle.cq_report.specs.Machine.{Staged};
+    ghost use Rattle.cq_ask.specs.Answer.{BeganEmpty};
+    ghost use Rattle.cq_report.specs.Machine.{Staged, serving_of};
 
     ghost Value = { Staged };
 
     ghost view = { λ s. s.stage };
+
+    ghost invariant = { λ s. BeganEmpty (serving_of s.stage) };
 }
 
 impl<A: Allocator + Copy> Interpreter<A> {
@@ -81,6 +86,30 @@ impl<A: Allocator + Copy> Interpreter<A> {
     {
         let reply = self.prepare(heading, line)?;
         output.put_text(reply)
+    }
+
+    /// How many entries are published.
+    pub(crate) fn published_count(&self) -> u64
+        ensures { result ≡ (serving_of self.now).machine.published }
+    {
+        match &self.stage {
+            Stage::Setup(_) => 0,
+            Stage::Serving(floor) => floor.published_count(),
+        }
+    }
+
+    /// The answer to what is asked, where so many entries were published before the last publish. Where the setup lasts, it is
+    /// asked of the floor that would open.
+    pub(crate) fn tell(&self, before: u64, ask: &Ask<A>) -> Result<String<A>, AllocError>
+        ensures { IfOk result (λ text. IsAnswer (serving_of self.now) before ask.now (string_bytes text)) }
+    {
+        match &self.stage {
+            Stage::Setup(setup) => {
+                let floor = open(self.alloc, setup.copy()?)?;
+                answer(self.alloc, &floor, before, ask)
+            }
+            Stage::Serving(floor) => answer(self.alloc, floor, before, ask),
+        }
     }
 
     /// The floor, which opens where the setup lasts.

@@ -13,6 +13,7 @@ mod fault;
 mod happening;
 mod heading;
 mod interpreter;
+mod life;
 mod limits;
 mod line_buffer;
 mod live_line;

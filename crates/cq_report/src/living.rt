@@ -1,107 +1,78 @@
 //! Lines that are answered one at a time, on and on.
 
-ghost use Rattle.std.specs.Prelude.{◌≡◌, ◌<◌, ◌≤◌, ◌+◌, ◌^◌, ℕ, List, None, Some, length, ◌++◌, ◌∷◌, [], OnOk, OnErr, IfErr, IfSome, MatchResult};
+ghost use Rattle.std.specs.Prelude.{◌≡◌, ◌<◌, ◌+◌, ◌^◌, ℕ, List, Some, length, ◌++◌, ◌∷◌, [], OnOk, OnErr, IfErr, IfSome, MatchResult};
 ghost use Rattle.cq_report.specs.Lines.{HasNoEnd};
 ghost use Rattle.cq_report.specs.Lines.{lines_of};
 ghost use Rattle.cq_report.specs.Live.{Answered, Leaves, write_failures_of, ReadsFailed};
-ghost use Rattle.cq_report.specs.Steps.Living.{Turns, TurnBreaks, Answers, AnswerBreaks, LivesOn, BreaksOn, FailsOnce, EndsLive, LivedOut, LiveFails};
+ghost use Rattle.cq_report.specs.Steps.Living.{Answers, AnswerBreaks, LivesOn, BreaksOn, FailsOnce, EndsLive, LivedOut, LiveFails};
 ghost use Rattle.cq_report.specs.Steps.Serving.{IsSound};
 
-use crate::fault::{LiveFault, ReplyFault};
+use crate::fault::LiveFault;
+use crate::life::Life;
 use crate::live_line::LiveLine;
-use crate::machine::Machine;
-use crate::numbering::Numbering;
 use crate::output::{Output, ROOM};
-use crate::reply::memory_line;
 use crate::running::first_line;
 use cq_devices::{Failed, MAX_PIECE, Sink, Source};
 use std::alloc::Allocator;
 use std::mem;
 
-/// Answers a line. Where an allocation failed, the reply says so, and nothing has changed.
-fn answer_line<W: Sink, A: Allocator + Copy>(
-    machine: &mut Machine<A>,
-    line: &[u8],
-    output: &mut Output<'_, W, A>,
-) -> Result<(), Failed>
-    requires failures { W.write_failures output.old.sink.now < 2 ^ 62 }
-    requires plain { machine.old.lines ≡ None }
-    ensures plain { OnOk result (machine.new.lines ≡ None) }
-    ensures ok { OnOk result (Turns W.taken W.write_failures output.old output.new machine.old machine.new line.now) }
-    ensures sound { OnOk result (IsSound W.write_failures output.old output.new) }
-    ensures err { OnErr result (TurnBreaks W.taken W.write_failures output.old output.new machine.old line.now) }
-    ensures fails { OnErr result (FailsOnce W.write_failures output.old output.new) }
-{
-    match machine.answer(line, output) {
-        Ok(()) => Ok(()),
-        Err(ReplyFault::NoMemory) => output.put(memory_line().as_bytes()),
-        Err(ReplyFault::Write) => Err(Failed),
-    }
-}
-
 /// Answers the line that is kept; where an allocation failed while it was kept, the reply says so.
 fn answer_kept<W: Sink, A: Allocator + Copy>(
-    machine: &mut Machine<A>,
+    life: &mut Life<A>,
     line: &LiveLine<A>,
     output: &mut Output<'_, W, A>,
 ) -> Result<(), Failed>
     requires failures { W.write_failures output.old.sink.now < 2 ^ 62 }
-    requires plain { machine.old.lines ≡ None }
-    ensures plain { OnOk result (machine.new.lines ≡ None) }
-    ensures ok { OnOk result (Answers W.taken W.write_failures output.old output.new machine.old machine.new line.now) }
+    ensures ok { OnOk result (Answers W.taken W.write_failures output.old output.new life.old life.new line.now) }
     ensures sound { OnOk result (IsSound W.write_failures output.old output.new) }
-    ensures err { OnErr result (AnswerBreaks W.taken W.write_failures output.old output.new machine.old line.now) }
+    ensures err { OnErr result (AnswerBreaks W.taken W.write_failures output.old output.new life.old line.now) }
     ensures fails { OnErr result (FailsOnce W.write_failures output.old output.new) }
 {
     match line.bytes() {
-        Some(bytes) => answer_line(machine, bytes, output),
-        None => output.put(memory_line().as_bytes()),
+        Some(bytes) => life.answer(bytes, output),
+        None => life.refuse(output),
     }
 }
 
 /// Answers the line of which these are the last bytes: as they lie there, where they are all of it.
 fn answer_end<W: Sink, A: Allocator + Copy>(
-    machine: &mut Machine<A>,
+    life: &mut Life<A>,
     line: &mut LiveLine<A>,
     output: &mut Output<'_, W, A>,
     last: &[u8],
 ) -> Result<(), Failed>
     requires failures { W.write_failures output.old.sink.now < 2 ^ 62 }
     requires last { HasNoEnd last.now }
-    requires plain { machine.old.lines ≡ None }
-    ensures plain { OnOk result (machine.new.lines ≡ None) }
-    ensures ok { OnOk result (LivesOn W.taken W.write_failures output.old output.new machine.old machine.new line.old line.new (last.now ++ 10 ∷ [])) }
+    ensures ok { OnOk result (LivesOn W.taken W.write_failures output.old output.new life.old life.new line.old line.new (last.now ++ 10 ∷ [])) }
     ensures sound { OnOk result (IsSound W.write_failures output.old output.new) }
-    ensures err { OnErr result ((rest : List ℕ) → BreaksOn W.taken W.write_failures output.old output.new machine.old line.old (last.now ++ (10 ∷ rest))) }
+    ensures err { OnErr result ((rest : List ℕ) → BreaksOn W.taken W.write_failures output.old output.new life.old line.old (last.now ++ (10 ∷ rest))) }
     ensures fails { OnErr result (FailsOnce W.write_failures output.old output.new) }
 {
     if line.is_new() {
-        return answer_line(machine, last, output);
+        return life.answer(last, output);
     }
     line.extend(last);
-    answer_kept(machine, line, output)?;
+    answer_kept(life, line, output)?;
     line.clear();
     Ok(())
 }
 
 /// Answers each line that the piece ends, and keeps what begins the next one.
 fn feed<W: Sink, A: Allocator + Copy>(
-    machine: &mut Machine<A>,
+    life: &mut Life<A>,
     line: &mut LiveLine<A>,
     output: &mut Output<'_, W, A>,
     piece: &[u8],
 ) -> Result<(), Failed>
     requires failures { W.write_failures output.old.sink.now < 2 ^ 62 }
-    requires plain { machine.old.lines ≡ None }
-    ensures plain { OnOk result (machine.new.lines ≡ None) }
-    ensures ok { OnOk result (LivesOn W.taken W.write_failures output.old output.new machine.old machine.new line.old line.new piece.now) }
+    ensures ok { OnOk result (LivesOn W.taken W.write_failures output.old output.new life.old life.new line.old line.new piece.now) }
     ensures sound { OnOk result (IsSound W.write_failures output.old output.new) }
-    ensures err { OnErr result (BreaksOn W.taken W.write_failures output.old output.new machine.old line.old piece.now) }
+    ensures err { OnErr result (BreaksOn W.taken W.write_failures output.old output.new life.old line.old piece.now) }
     ensures fails { OnErr result (FailsOnce W.write_failures output.old output.new) }
 {
     let mut rest = piece;
     while let Some((last, after)) = first_line(rest) {
-        answer_end(machine, line, output, last)?;
+        answer_end(life, line, output, last)?;
         rest = after;
     }
     line.extend(rest);
@@ -110,46 +81,44 @@ fn feed<W: Sink, A: Allocator + Copy>(
 
 /// Answers the last line, where no LF ends it, and passes on all that waits.
 fn finish<W: Sink, A: Allocator + Copy>(
-    machine: &mut Machine<A>,
+    life: &mut Life<A>,
     line: &LiveLine<A>,
     output: &mut Output<'_, W, A>,
 ) -> Result<(), Failed>
     requires failures { W.write_failures output.old.sink.now < 2 ^ 62 }
-    requires plain { machine.old.lines ≡ None }
-    ensures ok { OnOk result (EndsLive W.taken W.write_failures output.old output.new machine.old line.now) }
+    ensures ok { OnOk result (EndsLive W.taken W.write_failures output.old output.new life.old line.now) }
     ensures held { OnOk result (output.new.held.now.items ≡ []) }
     ensures sound { OnOk result (IsSound W.write_failures output.old output.new) }
-    ensures err { OnErr result (BreaksOn W.taken W.write_failures output.old output.new machine.old line.now []) }
+    ensures err { OnErr result (BreaksOn W.taken W.write_failures output.old output.new life.old line.now []) }
     ensures fails { OnErr result (FailsOnce W.write_failures output.old output.new) }
 {
     if line.is_new() {
         return output.finish();
     }
-    answer_kept(machine, line, output)?;
+    answer_kept(life, line, output)?;
     output.finish()
 }
 
 /// The most reads of one life. Nobody lives so long.
 const MOST_READS: u64 = 1 << 62;
 
-/// Reads pieces to the end, and answers the lines: all whole lines that were read are answered, and the replies passed on,
+/// Reads pieces to the end, or until no further line is heard, and answers the lines: all whole lines that were read are answered, and the replies passed on,
 /// before the next read.
 fn serve<A: Allocator + Copy, R: Source, W: Sink>(
-    machine: &mut Machine<A>,
+    life: &mut Life<A>,
     line: &mut LiveLine<A>,
     piece: &mut [u8],
     reader: &mut R,
     output: &mut Output<'_, W, A>,
 ) -> Result<(), LiveFault>
-    requires plain { machine.old.lines ≡ None }
     requires line { line.old ≡ Some [] }
     requires piece { length piece.old ≡ MAX_PIECE }
     requires reads { R.reads_made reader.old < 2 ^ 62 }
     requires failures { R.failures_met reader.old < 2 ^ 62 }
     requires write_failures { W.write_failures output.old.sink.now < 2 ^ 62 }
     requires held { output.old.held.now.items ≡ [] }
-    ensures ok { OnOk result (LivedOut W.taken W.write_failures machine.old (R.left reader.old) (R.left reader.new) output.old output.new) }
-    ensures err { IfErr result (λ fault. LiveFails W.taken W.write_failures machine.old (R.left reader.old) (R.left reader.new) output.old output.new fault) }
+    ensures ok { OnOk result (LivedOut W.taken W.write_failures life.old (R.left reader.old) (R.left reader.new) output.old output.new) }
+    ensures err { IfErr result (λ fault. LiveFails W.taken W.write_failures life.old (R.left reader.old) (R.left reader.new) output.old output.new fault) }
     ensures writer { output.new.sink.ghost_name ≡ output.old.sink.ghost_name }
     ensures write_failures { MatchResult result (λ _. W.write_failures output.new.sink.now ≡ W.write_failures output.old.sink.now) (λ fault. W.write_failures output.new.sink.now ≡ W.write_failures output.old.sink.now + write_failures_of fault) }
     ensures read_failures { MatchResult result (λ _. R.failures_met reader.new ≡ R.failures_met reader.old) (λ fault. ReadsFailed fault (R.reads_made reader.old) (R.reads_made reader.new) (R.failures_met reader.old) (R.failures_met reader.new)) }
@@ -159,11 +128,15 @@ fn serve<A: Allocator + Copy, R: Source, W: Sink>(
             return Err(LiveFault::Read { turn: i + 1 });
         };
         if len == 0 {
-            finish(machine, line, output)?;
+            finish(life, line, output)?;
             return Ok(());
         }
-        feed(machine, line, output, &piece[..len])?;
+        feed(life, line, output, &piece[..len])?;
         output.write_out()?;
+        if life.is_over() {
+            output.finish()?;
+            return Ok(());
+        }
     }
     Err(LiveFault::Read {
         turn: MOST_READS + 1,
@@ -172,8 +145,8 @@ fn serve<A: Allocator + Copy, R: Source, W: Sink>(
 
 /// Answers lines one at a time, as long as there are any.
 ///
-/// The lines are those of a script, and are answered as [`run`](crate::run) answers them, without numbers: each before the next
-/// read. A line at which an allocation fails is answered `refused Memory`. It changes nothing, and the lines after it are
+/// A line that [asks](cq_ask::read_ask) is answered of the board that is published, and changes nothing; after `quit` none is read. The others are those of a
+/// script, and are answered as [`run`](crate::run) answers them, without numbers. Each is answered before the next read. A line at which an allocation fails is answered `refused Memory`. It changes nothing, and the lines after it are
 /// answered as if it had not been.
 ///
 /// # Errors
@@ -201,11 +174,11 @@ pub fn live<A: Allocator + Copy, R: Source, W: Sink>(
     let mut room = Vec::with_capacity(alloc, ROOM)?;
     let mut lead = None;
     let mut output = Output::new(writer, &mut room, &mut lead);
-    let mut machine = Machine::begin(alloc, Numbering::Plain);
+    let mut life = Life::begin(alloc);
     let mut line = LiveLine::new(alloc);
     let mut piece = [0u8; MAX_PIECE];
-    let ended = serve(&mut machine, &mut line, &mut piece, reader, &mut output);
+    let ended = serve(&mut life, &mut line, &mut piece, reader, &mut output);
     mem::drop(line);
-    mem::drop(machine);
+    mem::drop(life);
     ended
 }

@@ -1,8 +1,10 @@
 //! The machine of a script, line by line.
 
-ghost use Rattle.std.specs.Prelude.{◌≡◌, ◌<◌, ◌≤◌, ◌+◌, ◌^◌, ℕ, List, [], Some, OnOk, IfOk, IfErr};
+ghost use Rattle.std.specs.Prelude.{◌≡◌, ◌<◌, ◌≤◌, ◌+◌, ◌^◌, ℕ, List, [], Some, None, string_bytes, OnOk, IfOk, IfErr};
+ghost use Rattle.cq_ask.specs.Ask.{asked};
+ghost use Rattle.cq_ask.specs.Answer.{IsAnswer};
 ghost use Rattle.cq_report.specs.Reading.{Reading, Reads, IsReading};
-ghost use Rattle.cq_report.specs.Machine.{begin_state, no_lines, numbered, form_in, served, counted, unnumbered, next, reply, serving_of};
+ghost use Rattle.cq_report.specs.Machine.{begin_state, no_lines, numbered, form_in, served, counted, unnumbered, before_after, next, reply, serving_of};
 ghost use Rattle.cq_report.specs.Run.{IfMemory};
 ghost use Rattle.cq_report.specs.Steps.Replies.{UnlessStarved, fault_of_reply};
 ghost use Rattle.cq_report.specs.Steps.Written.{Puts, Breaks, Fails};
@@ -16,8 +18,9 @@ use crate::interpreter::Interpreter;
 use crate::numbering::Numbering;
 use crate::output::Output;
 use crate::reply::fault_line;
+use cq_ask::{Ask, read_ask};
 use cq_devices::Sink;
-use cq_text::{Command, Form, TextFault, read_command};
+use cq_text::{Command, CommandKind, Form, TextFault, read_command};
 use std::alloc::{AllocError, Allocator};
 use std::marker::Model;
 
@@ -31,13 +34,14 @@ fn no_lines(numbering: Numbering) -> Option<u64>
     }
 }
 
-/// What serves the next line: how many lines came before, where replies are numbered, the form that is settled, if any, and what answers commands. Contracts see the state.
+/// What serves the next line: how many lines came before, where replies are numbered, the form that is settled, if any, what answers commands, and how many entries were published before the last publish. Contracts see the state.
 #[derive(Drop)]
 pub(crate) struct Machine<A: Allocator + Copy> {
     alloc: A,
     lines: Option<u64>,
     heading: Option<Form>,
     interpreter: Interpreter<A>,
+    before: u64,
 }
 
 impl<A: Allocator + Copy> Model for Machine<A> {
@@ -45,7 +49,7 @@ impl<A: Allocator + Copy> Model for Machine<A> {
 
     ghost Value = { State };
 
-    ghost view = { λ m. record { lines = m.lines; heading = m.heading; stage = m.interpreter } };
+    ghost view = { λ m. record { lines = m.lines; heading = m.heading; stage = m.interpreter; before = m.before } };
 }
 
 impl<A: Allocator + Copy> Machine<A> {
@@ -59,6 +63,7 @@ impl<A: Allocator + Copy> Machine<A> {
             lines: no_lines(numbering),
             heading: None,
             interpreter: Interpreter::begin(alloc),
+            before: 0,
         }
     }
 
@@ -98,6 +103,16 @@ impl<A: Allocator + Copy> Machine<A> {
         self.heading = Some(form);
     }
 
+    /// How many entries were published before the last publish, once the command is answered.
+    fn before_after(&self, command: &Command<A>) -> u64
+        ensures { result ≡ before_after self.now (Reads command.now) }
+    {
+        match command {
+            CommandKind::Publish => self.interpreter.published_count(),
+            _ => self.before,
+        }
+    }
+
     /// Answers a command.
     fn serve<W: Sink>(
         &mut self,
@@ -105,13 +120,16 @@ impl<A: Allocator + Copy> Machine<A> {
         output: &mut Output<'_, W, A>,
     ) -> Result<(), ReplyFault>
         requires { W.write_failures output.old.sink.now < 2 ^ 62 }
+        ensures lines { self.new.lines ≡ self.old.lines }
         ensures state { OnOk result (self.new ≡ served self.old (Reads command)) }
         ensures put { Put W.taken W.write_failures output.old output.new (unnumbered self.old (Reads command)) result }
         ensures kept { IfErr result (λ fault. IfMemory (fault_of_reply fault) (self.new ≡ self.old)) }
     {
         let heading = headed(self.heading, &command);
+        let before = self.before_after(&command);
         self.interpreter.serve(self.heading, command, output)?;
         self.heading = heading;
+        self.before = before;
         Ok(())
     }
 
@@ -122,6 +140,7 @@ impl<A: Allocator + Copy> Machine<A> {
         output: &mut Output<'_, W, A>,
     ) -> Result<(), ReplyFault>
         requires { W.write_failures output.old.sink.now < 2 ^ 62 }
+        ensures lines { self.new.lines ≡ self.old.lines }
         ensures read { UnlessStarved result ((reading : Reading) × IsReading (form_in self.old) line.now reading) }
         ensures ok { OnOk result ((reading : Reading) → IsReading (form_in self.old) line.now reading → (self.new ≡ served self.old reading) × Puts W.taken W.write_failures output.old output.new (led output.old.lead.now (unnumbered self.old reading))) }
         ensures err { IfErr result (λ fault. (reading : Reading) → IsReading (form_in self.old) line.now reading → Breaks W.taken W.write_failures output.old output.new (led output.old.lead.now (unnumbered self.old reading)) (fault_of_reply fault)) }
@@ -153,6 +172,7 @@ impl<A: Allocator + Copy> Machine<A> {
         requires failures { W.write_failures output.old.sink.now < 2 ^ 62 }
         requires lines { lines_before self.old < 2 ^ 62 }
         ensures lines { OnOk result (lines_before self.new ≤ lines_before self.old + 1) }
+        ensures plain { self.old.lines ≡ None → self.new.lines ≡ None }
         ensures read { UnlessStarved result ((reading : Reading) × IsReading (form_in self.old) line.now reading) }
         ensures ok { OnOk result ((reading : Reading) → IsReading (form_in self.old) line.now reading → (self.new ≡ next self.old reading) × Puts W.taken W.write_failures output.old output.new (reply self.old reading)) }
         ensures err { IfErr result (λ fault. (reading : Reading) → IsReading (form_in self.old) line.now reading → Breaks W.taken W.write_failures output.old output.new (reply self.old reading) (fault_of_reply fault)) }
@@ -165,6 +185,20 @@ impl<A: Allocator + Copy> Machine<A> {
         self.serve_line(line, output)?;
         self.count();
         Ok(())
+    }
+
+    /// What a line asks, if it asks.
+    pub(crate) fn read_ask(&self, line: &[u8]) -> Result<Option<Ask<A>>, AllocError>
+        ensures { IfOk result (λ ask. ask ≡ asked line.now) }
+    {
+        read_ask(self.alloc, line)
+    }
+
+    /// The answer to what is asked, of what is published.
+    pub(crate) fn tell(&self, ask: &Ask<A>) -> Result<String<A>, AllocError>
+        ensures { IfOk result (λ text. IsAnswer (serving_of self.now.stage) self.now.before ask.now (string_bytes text)) }
+    {
+        self.interpreter.tell(self.before, ask)
     }
 
     /// The floor, which opens where the setup lasts.

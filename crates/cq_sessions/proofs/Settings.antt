@@ -12,10 +12,10 @@ use Rattle.cq_text.specs.Grammar.{CommandContent, StandsFor}
 use Rattle.cq_sessions.specs.declared.sheet.Line.{Line}
 use Rattle.cq_sessions.specs.declared.sheet.Line.TheVariants.{Told}
 use Rattle.cq_report.specs.Lines.{lines_of}
-use Rattle.cq_report.specs.Reading.{Reading, Reads, IsReading, AreReadIn}
+use Rattle.cq_report.specs.Reading.{Reading, Reads, Faulty, IsReading, AreReadIn}
 use Rattle.cq_report.specs.declared.numbering.Numbering.TheVariants.{Plain}
 use Rattle.cq_report.specs.declared.stage.Stage.TheVariants as stages
-use Rattle.cq_report.specs.Machine.{State, SetupRecord, begin_state, begin_setup, form_of, form_in, headed, declared, set_up, next, reply}
+use Rattle.cq_report.specs.Machine.{State, SetupRecord, begin_state, begin_setup, form_of, form_in, headed, declared, set_up, before_after, next, reply}
 use Rattle.cq_report.specs.Output.{AreReadFrom, state_after}
 use Rattle.cq_sessions.specs.Script.{Sheet}
 use Rattle.cq_sessions.specs.Sessions.{is_of_setup, in_setup, IsSetBy, BeginsBoard, setup_sheet, told_or_none}
@@ -49,13 +49,22 @@ setup_sheet-snoc state (r ∷ front) heading setup reading set = ap (λ (z : She
 pub set_begin : (bytes : List ℕ) (heading : Option Form) (setup : SetupRecord) (sheet : SheetRecord) → heading ≡ None → setup ≡ begin_setup → sheet ≡ blank → SetTo bytes bytes heading setup sheet
 set_begin bytes heading setup sheet fresh is empty = record { lines = []; cut = refl; front = []; are = tt; set = rw (fresh, is) refl; told = empty }
 
+-- no line of a setup is a publish
+no_publish : (state : State) (reading : Reading) → is_of_setup reading ≡ true → before_after state reading ≡ state.before
+no_publish state (Faulty kind offset) of_setup = refl
+no_publish state (Reads commands.Blank) of_setup = refl
+no_publish state (Reads (commands.Setup setup)) of_setup = refl
+no_publish state (Reads (commands.Edit edit)) of_setup = refl
+no_publish state (Reads commands.Publish) of_setup = cc
+no_publish state (Reads commands.Show) of_setup = refl
+
 set_on : (bytes rest rest' line : List ℕ) (heading heading' : Option Form) (setup setup' : SetupRecord) (sheet sheet' : SheetRecord) → lines_of rest ≡ line ∷ lines_of rest' → SetTo bytes rest heading setup sheet → SetsLine heading setup sheet heading' setup' sheet' line → SetTo bytes rest' heading' setup' sheet'
 set_on bytes rest rest' line heading heading' setup setup' sheet sheet' cut so l = record {
   lines = so.lines ++ line ∷ [];
   cut = so.cut ∙ ap (λ (z : List (List ℕ)). so.lines ++ z) cut ∙ sym (append_assoc so.lines (line ∷ []) (lines_of rest'));
   front = so.front ++ l.reading ∷ [];
   are = AreReadFrom-snoc (begin_state Plain) so.lines so.front line l.reading so.are (subst (λ (s : State). IsReading (form_in s) line l.reading) (sym (set_state (begin_state Plain) so.front heading setup so.set)) l.is);
-  set = IsSetBy-snoc (begin_state Plain) so.front heading heading' setup setup' l.reading so.set l.sets.of_setup (rw (l.sets.stage, l.settles) refl);
+  set = IsSetBy-snoc (begin_state Plain) so.front heading heading' setup setup' l.reading so.set l.sets.of_setup (rw (l.sets.stage, l.settles, no_publish (in_setup heading setup) l.reading l.sets.of_setup) refl);
   told = l.sets.told ∙ ap (λ (z : SheetRecord). record z { batch = z.batch ++ Told (told_or_none (reply (in_setup heading setup) l.reading)) ∷ [] }) so.told
       ∙ ap (λ (z : List (Line (List ℕ))). record blank { batch = z })
       (sym (map-snoc Told (setup_sheet (begin_state Plain) so.front) (told_or_none (reply (in_setup heading setup) l.reading))) ∙ ap (map Told) (sym (setup_sheet-snoc (begin_state Plain) so.front heading setup l.reading so.set)));

@@ -5,11 +5,11 @@ use Rattle.cq_report.proofs.living.answer_end.Goals as goal
 
 pub returns-then-is_new-clause-ok : goal.returns-then-is_new-clause-ok
 returns-then-is_new-clause-ok g c =
-    on_ok_weaker c.answer_line.result (λ turns first opening bytes s. Lived-alone _ _ first opening _ _ _ _ _ bytes c.args.last.now s c.requires.last (sym c.is_new.ensures ∙ c.if-is_new.true) turns) c.answer_line.ensures.ok
+    on_ok_weaker c.answer.result (λ turns first opening bytes s. Lived-alone _ _ first opening _ _ _ _ _ bytes c.args.last.now s c.requires.last (sym c.is_new.ensures ∙ c.if-is_new.true) turns) c.answer.ensures.ok
 
 pub returns-then-is_new-clause-err : goal.returns-then-is_new-clause-err
 returns-then-is_new-clause-err g c =
-    on_err_weaker c.answer_line.result (λ breaks rest first opening bytes s. LiveBreaks-alone _ _ first opening _ _ _ _ bytes c.args.last.now rest s c.requires.last (sym c.is_new.ensures ∙ c.if-is_new.true) breaks) c.answer_line.ensures.err
+    on_err_weaker c.answer.result (λ breaks rest first opening bytes s. LiveBreaks-alone _ _ first opening _ _ _ _ bytes c.args.last.now rest s c.requires.last (sym c.is_new.ensures ∙ c.if-is_new.true) breaks) c.answer.ensures.err
 
 pub returns-in_err-answer_kept-clause-err : goal.returns-in_err-answer_kept-clause-err
 returns-in_err-answer_kept-clause-err g c =

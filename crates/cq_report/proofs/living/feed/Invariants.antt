@@ -1,4 +1,4 @@
-use Rattle.std.proofs.Common.{◌≡◌, ◌++◌, ℕ, List, None, length}
+use Rattle.std.proofs.Common.{◌≡◌, ◌++◌, ℕ, List, length}
 use Rattle.cq_report.specs.Steps.Living.{LivesOn}
 use Rattle.cq_report.specs.Steps.Serving.{IsSound}
 use Rattle.cq_report.proofs.living.feed.Given as goal
@@ -8,8 +8,7 @@ abbrev pub invariant-loop-last : goal.invariant-loop-last
 invariant-loop-last g l = record {
   done : List ℕ;
   cut : done ++ l.rest ≡ l.piece;
-  on : LivesOn g.W.Sink.taken g.W.Sink.write_failures l.fn.output l.output l.fn.machine l.machine l.fn.line l.line done;
-  plain : l.machine.lines ≡ None;
+  on : LivesOn g.W.Sink.taken g.W.Sink.write_failures l.fn.output l.output l.fn.life l.life l.fn.line l.line done;
   sound : IsSound g.W.Sink.write_failures l.fn.output l.output;
 }
 

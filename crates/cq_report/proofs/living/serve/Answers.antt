@@ -1,9 +1,9 @@
-use Rattle.std.proofs.Common.{◌++◌, [], ◌∙◌, arith, take, refl}
+use Rattle.std.proofs.Common.{◌++◌, [], ◌∙◌, arith, take, refl, sym, inl, inr}
 use Rattle.std.proofs.KnownBytes.{Consumes-nil, Consumes-trans, Consumes-kept}
 use Rattle.std.proofs.lemmas.Result.{err_from_is_err_and}
 use Rattle.cq_report.proofs.Ending.{Consumes-none}
 use Rattle.cq_report.proofs.Served.{IsSound-nothing, IsSound-then, IsSound-puts}
-use Rattle.cq_report.proofs.Lives.{Lived-nothing, Lived-passed, LiveBreaks-passing}
+use Rattle.cq_report.proofs.Lives.{Lived-nothing, Lived-passed, LiveBreaks-passing, LiveQuits-passed}
 use Rattle.cq_report.proofs.living.serve.Goals as goal
 
 pub loop-i-init : goal.loop-i-init
@@ -11,7 +11,6 @@ loop-i-init g c = record {
   bytes = [];
   read = Consumes-nil _;
   lived = rw c.requires.line (Lived-nothing _ _ _ _);
-  plain = c.requires.plain;
   sound = IsSound-nothing g.W.Sink.taken _ _;
   held = c.requires.held;
   reads = omega arith;
@@ -25,7 +24,7 @@ returns-in_default-clause-err g c =
     record {
       bytes = i.bytes;
       read = Consumes-kept _ _ _ _ i.read c.in_default.ensures.bytes;
-      state = c.loop-i.machine;
+      state = c.loop-i.life;
       line = c.loop-i.line;
       lived = i.lived;
       held = i.held;
@@ -38,8 +37,7 @@ returns-then-len-eq0-clause-ok g c =
     record {
       bytes = i.bytes;
       read = Consumes-none _ _ _ _ i.read none;
-      at_end = c.in-Ok.ensures.bytes.1 c.if-len-eq0.true (omega arith);
-      ends = c.in_ok-finish.ensures.ok _ _ _ i.lived;
+      ends = inl (c.in-Ok.ensures.bytes.1 c.if-len-eq0.true (omega arith), c.in_ok-finish.ensures.ok _ _ _ i.lived);
       held = c.in_ok-finish.ensures.held;
     }
 
@@ -76,6 +74,28 @@ returns-in_err-write_out-clause-err g c =
       breaks = LiveBreaks-passing _ _ _ _ _ _ _ _ _ (c.in_ok-feed.ensures.ok _ _ _ i.lived) c.in_err-write_out.ensures.err;
     })
 
+pub returns-in_err-finish-2-clause-err : goal.returns-in_err-finish-2-clause-err
+returns-in_err-finish-2-clause-err g c =
+    let p = err_from_is_err_and c.from_residual-in_err-finish-2.result c.from_residual-in_err-finish-2.ensures.1 in
+    let i = c.loop-i.invariant in
+    let piece = take c.in-Ok.len c.read.new.buf in
+    rw (p.1, p.2) (record {
+      bytes = i.bytes ++ piece;
+      read = Consumes-trans _ _ _ i.bytes piece i.read c.in-Ok.ensures.bytes.0;
+      breaks = LiveBreaks-passing _ _ _ _ _ _ _ _ _ (Lived-passed _ _ _ _ _ _ _ _ _ (c.in_ok-feed.ensures.ok _ _ _ i.lived) c.in_ok-write_out.ensures.ok) c.in_err-finish-2.ensures.err;
+    })
+
+pub returns-then-is_over-clause-ok : goal.returns-then-is_over-clause-ok
+returns-then-is_over-clause-ok g c =
+    let i = c.loop-i.invariant in
+    let piece = take c.in-Ok.len c.read.new.buf in
+    record {
+      bytes = i.bytes ++ piece;
+      read = Consumes-trans _ _ _ i.bytes piece i.read c.in-Ok.ensures.bytes.0;
+      ends = inr (LiveQuits-passed _ _ _ _ _ _ _ _ _ (sym c.is_over.ensures ∙ c.if-is_over.true) (Lived-passed _ _ _ _ _ _ _ _ _ (c.in_ok-feed.ensures.ok _ _ _ i.lived) c.in_ok-write_out.ensures.ok) c.in_ok-finish-2.ensures.ok);
+      held = c.in_ok-finish-2.ensures.held;
+    }
+
 pub loop-i-preserved : goal.loop-i-preserved
 loop-i-preserved g c =
     let i = c.loop-i.invariant in
@@ -84,7 +104,6 @@ loop-i-preserved g c =
       bytes = i.bytes ++ piece;
       read = Consumes-trans _ _ _ i.bytes piece i.read c.in-Ok.ensures.bytes.0;
       lived = Lived-passed _ _ _ _ _ _ _ _ _ (c.in_ok-feed.ensures.ok _ _ _ i.lived) c.in_ok-write_out.ensures.ok;
-      plain = c.in_ok-feed.ensures.plain;
       sound = IsSound-then g.W.Sink.taken _ _ _ _ (IsSound-then g.W.Sink.taken _ _ _ _ i.sound c.in_ok-feed.ensures.sound) (IsSound-puts _ _ _ _ _ c.in_ok-write_out.ensures.ok);
       held = c.in_ok-write_out.ensures.held;
       reads = omega (arith, c.in-Ok.ensures.reads, i.reads);
@@ -98,7 +117,7 @@ returns-clause-err g c =
     record {
       bytes = i.bytes;
       read = i.read;
-      state = c.loop-i.machine;
+      state = c.loop-i.life;
       line = c.loop-i.line;
       lived = i.lived;
       held = i.held;

@@ -1,4 +1,4 @@
-use Rattle.std.proofs.Common.{◌≡◌, ◌+◌, ℕ, List, None, length, []}
+use Rattle.std.proofs.Common.{◌≡◌, ◌+◌, ℕ, List, length, []}
 use Rattle.std.specs.Io.KnownBytes.{Consumes}
 use Rattle.cq_report.specs.Steps.Living.{Lived}
 use Rattle.cq_report.specs.Steps.Serving.{IsSound}
@@ -8,8 +8,7 @@ abbrev pub invariant-loop-i : goal.invariant-loop-i
 invariant-loop-i g l = record {
   bytes : List ℕ;
   read : Consumes (g.R.Source.left l.fn.reader) (g.R.Source.left l.reader) bytes;
-  lived : Lived g.W.Sink.taken g.W.Sink.write_failures l.fn.output l.fn.machine l.output l.machine l.line bytes;
-  plain : l.machine.lines ≡ None;
+  lived : Lived g.W.Sink.taken g.W.Sink.write_failures l.fn.output l.fn.life l.output l.life l.line bytes;
   sound : IsSound g.W.Sink.write_failures l.fn.output l.output;
   held : l.output.held.now.items ≡ [];
   reads : g.R.Source.reads_made l.reader ≡ g.R.Source.reads_made l.fn.reader + l.i;

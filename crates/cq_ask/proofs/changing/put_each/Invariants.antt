@@ -1,0 +1,11 @@
+use Rattle.std.proofs.Common.{◌≡◌, ◌++◌, ℕ, List, map, drop}
+use Rattle.std.specs.Prelude.{string_bytes}
+use Rattle.std.specs.List.{flat_map}
+use Rattle.cq_board.specs.Named.{matched_named}
+use Rattle.cq_ask.specs.Answer.{change_words, change_line}
+use Rattle.cq_ask.proofs.changing.put_each.Given as goal
+
+abbrev pub invariant-loop-name : goal.invariant-loop-name
+invariant-loop-name g l =
+    string_bytes l.page ++ flat_map (λ (name : List ℕ). change_line name (change_words (matched_named name l.before) (matched_named name l.now))) (map (λ name. name.now) (drop l.name-index l.names))
+    ≡ string_bytes l.initial.page ++ flat_map (λ (name : List ℕ). change_line name (change_words (matched_named name l.before) (matched_named name l.now))) (map (λ name. name.now) l.names)

@@ -1,0 +1,135 @@
+-- What is answered to lines that ask. (this project's profile)
+use Rattle.std.specs.Prelude.{◌≡◌, ℕ, ◌+◌, ◌-◌, Bool, true, false, map, List, [], ◌++◌, length, fold, codes, decimal, Option, Some, None}
+use Rattle.std.specs.List.{flat_map}
+use Rattle.json.specs.Tree.{json_tokens}
+use Rattle.json.specs.Print.{print}
+use Rattle.cq_atom.specs.Edit.{Edit}
+use Rattle.cq_rel.specs.Tables.{TablesRecord, rows_in}
+use Rattle.cq_board.specs.Pool.{PoolRecord, name_of, opening_pool}
+use Rattle.cq_board.specs.Edits.{pool_after}
+use Rattle.cq_board.specs.Named.{matched_named, matched_names}
+use Rattle.cq_desk.specs.Machine.{published_content}
+use Rattle.cq_desk.specs.Standing.{StandingRecord}
+use Rattle.cq_render.specs.Report.{line, state_word, block_of}
+use Rattle.cq_render.specs.Explain.{ArePieces, IsExplained, IsNearTold}
+use Rattle.cq_render.specs.Graph.{graph}
+use Rattle.cq_render.specs.Json.{json_of}
+use Rattle.cq_ask.specs.declared.ask.AskKind.{AskKind}
+use Rattle.cq_ask.specs.declared.ask.AskKind.TheVariants.{Count, Status, Query, Explain, Near, Changes, Graph, Json, Help, Quit, Unfit}
+use Rattle.cq_ask.specs.Ask.{AskRecord}
+
+-- A floor over a pool.
+abbrev pub FloorRecord : Type 0
+FloorRecord = StandingRecord PoolRecord Edit
+
+-- The pool that is published: of it all answers are.
+abbrev pub published_pool : FloorRecord → PoolRecord
+published_pool floor = published_content pool_after floor.opening floor.machine
+
+-- The floor began with no row and no query.
+abbrev pub BeganEmpty : FloorRecord → Type 0
+BeganEmpty floor = floor.opening ≡ opening_pool floor.opening.tables.catalog floor.opening.limits
+
+-- The last line of an answer of several lines.
+abbrev pub end_line : List ℕ
+end_line = line (codes "end")
+
+-- ---- counts
+
+-- How many rows all relations have.
+abbrev pub row_count : TablesRecord → ℕ
+row_count tables = fold (λ count declared. count + length (rows_in declared.relation tables)) 0 tables.catalog
+
+abbrev pub pool_counts : PoolRecord → List ℕ
+pool_counts pool =
+    codes "queries " ++ decimal (length pool.pending) ++ codes " matched " ++ decimal (length (matched_names pool)) ++ codes " waiting " ++ decimal (length pool.pending - length (matched_names pool))
+    ++ codes " rows " ++ decimal (row_count pool.tables)
+
+-- The queries, those that are matched, the others, and the rows of the published pool; the entries that are published, and those that are not yet.
+abbrev pub count_line : FloorRecord → List ℕ
+count_line floor =
+    line (pool_counts (published_pool floor) ++ codes " entries " ++ decimal floor.machine.published ++ codes " unpublished " ++ decimal (length floor.machine.journal - floor.machine.published))
+
+-- ---- names
+
+-- A pending query is matched, or it waits; under another name there is none.
+abbrev pub standing_word : Option Bool → List ℕ
+standing_word None = codes "absent"
+standing_word (Some matched) = state_word matched
+
+abbrev pub status_line : PoolRecord → List ℕ → List ℕ
+status_line pool name = line (name ++ codes " " ++ standing_word (matched_named name pool))
+
+abbrev pub absent_line : List ℕ → Option Bool → List ℕ
+absent_line name None = line (name ++ codes " is absent")
+absent_line name (Some matched) = []
+
+-- Those of the names under which no query is pending.
+abbrev pub absent_lines : PoolRecord → List (List ℕ) → List ℕ
+absent_lines pool names = flat_map (λ name. absent_line name (matched_named name pool)) names
+
+-- ---- changes
+
+-- The floor when so many entries were published.
+abbrev pub floor_at : FloorRecord → ℕ → FloorRecord
+floor_at floor count = record floor { machine = record floor.machine { published = count } }
+
+-- A query went, if none is pending under its name.
+abbrev pub went_line : List ℕ → Option Bool → List ℕ
+went_line name None = line (name ++ codes " went")
+went_line name (Some matched) = []
+
+-- What became of a query that is pending, by whether it was pending and matched before, and whether it is matched.
+abbrev pub change_words : Option Bool → Option Bool → Option (List ℕ)
+change_words None (Some true) = Some (codes "came matched")
+change_words None (Some false) = Some (codes "came waiting")
+change_words (Some true) (Some false) = Some (codes "turned waiting")
+change_words (Some false) (Some true) = Some (codes "turned matched")
+change_words before now = None
+
+abbrev pub change_line : List ℕ → Option (List ℕ) → List ℕ
+change_line name None = []
+change_line name (Some words) = line (name ++ codes " " ++ words)
+
+-- The queries of the pool before that went, and then those that came or turned, each in posting order.
+abbrev pub changes : PoolRecord → PoolRecord → List ℕ
+changes before now =
+    flat_map (λ name. went_line name (matched_named name now)) (map name_of before.pending)
+    ++ flat_map (λ name. change_line name (change_words (matched_named name before) (matched_named name now))) (map name_of now.pending)
+
+-- ---- answers
+
+-- Which lines ask.
+abbrev pub help_text : List ℕ
+help_text =
+    codes
+    "count                queries, rows and entries\nstatus NAME..        whether queries are matched, waiting or absent\nquery NAME           its block of the report\nexplain [NAME..]     why queries wait\nnear NAME POST       which heads nearly supply a postcondition\nchanges              queries that came, went or turned at the last publish\ngraph                who can supply whom, for Graphviz\njson                 the board as JSON\nhelp                 these lines\nquit                 ends; no later line is answered\nAll other lines are those of a script.\n"
+
+-- Why queries wait: those of these names, and which of the names are absent; where there is no name, all that wait.
+pub record IsWhyTold (pool : PoolRecord) (names : List (List ℕ)) (text : List ℕ) : Type 0 where
+  pub why : List ℕ
+  pub told : IsExplained pool names why
+  pub is : text ≡ why ++ absent_lines pool names ++ end_line
+
+-- The heads that are nearest to that postcondition of the queries of these names; and which of the names are absent.
+pub record IsNearAnswer (pool : PoolRecord) (post : ℕ) (names : List (List ℕ)) (text : List ℕ) : Type 0 where
+  pub near : List ℕ
+  pub told : ArePieces (λ name. IsNearTold pool.pending name post) names near
+  pub is : text ≡ near ++ absent_lines pool names ++ end_line
+
+-- The text answers what is asked of the floor and its pool; before the last publish so many entries were published.
+abbrev pub IsAnswerOf : FloorRecord → PoolRecord → ℕ → AskKind → List (List ℕ) → List ℕ → Type 0
+IsAnswerOf floor pool before Count names text = text ≡ count_line floor
+IsAnswerOf floor pool before Status names text = text ≡ flat_map (status_line pool) names ++ end_line
+IsAnswerOf floor pool before Query names text = text ≡ flat_map (block_of pool) names ++ absent_lines pool names ++ end_line
+IsAnswerOf floor pool before Explain names text = IsWhyTold pool names text
+IsAnswerOf floor pool before (Near post) names text = IsNearAnswer pool post names text
+IsAnswerOf floor pool before Changes names text = text ≡ changes (published_pool (floor_at floor before)) pool ++ end_line
+IsAnswerOf floor pool before Graph names text = text ≡ graph pool ++ end_line
+IsAnswerOf floor pool before Json names text = text ≡ line (print (json_tokens (json_of pool)))
+IsAnswerOf floor pool before Help names text = text ≡ help_text ++ end_line
+IsAnswerOf floor pool before Quit names text = text ≡ []
+IsAnswerOf floor pool before Unfit names text = text ≡ line (codes "refused Words")
+
+abbrev pub IsAnswer : FloorRecord → ℕ → AskRecord → List ℕ → Type 0
+IsAnswer floor before ask text = IsAnswerOf floor (published_pool floor) before ask.kind ask.names text

@@ -1,0 +1,320 @@
+//! Answers lines that ask, of the board that a floor publishes.
+
+ghost use Rattle.std.specs.Prelude.{◌≡◌, ◌++◌, ◌-◌, ◌≤◌, ◌*◌, ◌^◌, [], codes, decimal, length, map, string_bytes, IfOk, OnOk};
+ghost use Rattle.std.specs.List.{flat_map};
+ghost use Rattle.json.specs.Print.{print};
+ghost use Rattle.json.specs.Tree.{json_tokens};
+ghost use Rattle.cq_board.specs.Named.{matched_named, matched_names};
+ghost use Rattle.cq_rel.specs.Tables.{rows_in};
+ghost use Rattle.cq_render.specs.Report.{line, block_of};
+ghost use Rattle.cq_render.specs.Explain.{ArePieces, IsNearTold};
+ghost use Rattle.cq_render.specs.Graph.{graph};
+ghost use Rattle.cq_render.specs.Json.{json_of};
+ghost use Rattle.cq_ask.specs.Answer.{BeganEmpty, floor_at, published_pool, changes, end_line, row_count, pool_counts, count_line, standing_word, status_line, absent_line, absent_lines, help_text, IsWhyTold, IsNearAnswer, IsAnswer};
+
+use crate::ask::{Ask, AskKind};
+use crate::changing::put_last_changes;
+use cq_atom::Name;
+use cq_board::Board;
+use cq_desk::Floor;
+use cq_rel::Tables;
+use cq_render::{explain_these, graph, json, near, put_block};
+use std::alloc::{AllocError, Allocator};
+
+/// A floor over a board.
+type BoardFloor<A> = Floor<Board<A>, A>;
+
+/// The last line of an answer of several lines.
+const END: &str = "end\n";
+
+/// How many rows the relation has; none where it is not declared.
+fn rows_of<A: Allocator>(tables: &Tables<A>, relation: &str) -> usize
+    ensures { result ≡ length (rows_in relation.now tables.now) }
+{
+    tables.count(relation).unwrap_or(0)
+}
+
+/// How many rows all relations have.
+fn row_count<A: Allocator>(tables: &Tables<A>) -> u128
+    ensures { result ≡ row_count tables.now }
+{
+    let catalog = tables.catalog();
+    let mut count = 0u128;
+    for place in 0..catalog.len() {
+        let (relation, _arity) = match catalog.entry(place) {
+            Some(entry) => entry,
+            None => unreachable!(),
+        };
+        count += rows_of(tables, relation) as u128;
+    }
+    count
+}
+
+/// Puts how many queries and rows there are.
+fn put_pool_counts<A: Allocator + Copy>(
+    board: &Board<A>,
+    page: &mut String<A>,
+) -> Result<(), AllocError>
+    ensures { OnOk result (string_bytes page.new ≡ string_bytes page.old ++ pool_counts board.now) }
+{
+    let queries = board.len();
+    let matched = board.matched()?.len();
+    let waiting = queries.saturating_sub(matched);
+    let rows = row_count(board.tables());
+    write!(
+        page,
+        "queries {queries} matched {matched} waiting {waiting} rows {rows}"
+    )
+}
+
+fn count_line<A: Allocator + Copy>(alloc: A, floor: &BoardFloor<A>) -> Result<String<A>, AllocError>
+    ensures { IfOk result (λ text. string_bytes text ≡ count_line floor.now) }
+{
+    let mut page = String::new(alloc);
+    put_pool_counts(floor.board(), &mut page)?;
+    let published = floor.published_count();
+    let unpublished = (floor.journal().len() as u64).saturating_sub(published);
+    write!(page, " entries {published} unpublished {unpublished}\n")?;
+    Ok(page)
+}
+
+fn standing_word(matched: Option<bool>) -> &'static str
+    ensures { result.now ≡ standing_word matched }
+{
+    match matched {
+        None => "absent",
+        Some(true) => "matched",
+        Some(false) => "waiting",
+    }
+}
+
+fn put_status<A: Allocator + Copy>(
+    board: &Board<A>,
+    name: &Name<A>,
+    page: &mut String<A>,
+) -> Result<(), AllocError>
+    ensures { OnOk result (string_bytes page.new ≡ string_bytes page.old ++ status_line board.now name.now) }
+{
+    let text = name.as_str();
+    let word = standing_word(board.is_matched(name));
+    write!(page, "{text} {word}\n")
+}
+
+/// Puts whether the queries of these names are matched.
+fn put_statuses<A: Allocator + Copy>(
+    board: &Board<A>,
+    names: &[Name<A>],
+    page: &mut String<A>,
+) -> Result<(), AllocError>
+    ensures { OnOk result (string_bytes page.new ≡ string_bytes page.old ++ flat_map (status_line board.now) names.now) }
+{
+    for name in names {
+        put_status(board, name, page)?;
+    }
+    Ok(())
+}
+
+/// Puts a line, where no query is pending under the name.
+fn put_if_absent<A: Allocator + Copy>(
+    board: &Board<A>,
+    name: &Name<A>,
+    page: &mut String<A>,
+) -> Result<(), AllocError>
+    ensures { OnOk result (string_bytes page.new ≡ string_bytes page.old ++ absent_line name.now (matched_named name.now board.now)) }
+{
+    if board.is_matched(name).is_some() {
+        return Ok(());
+    }
+    let text = name.as_str();
+    write!(page, "{text} is absent\n")
+}
+
+/// Puts those of the names under which no query is pending.
+fn put_absent<A: Allocator + Copy>(
+    board: &Board<A>,
+    names: &[Name<A>],
+    page: &mut String<A>,
+) -> Result<(), AllocError>
+    ensures { OnOk result (string_bytes page.new ≡ string_bytes page.old ++ absent_lines board.now names.now) }
+{
+    for name in names {
+        put_if_absent(board, name, page)?;
+    }
+    Ok(())
+}
+
+/// Puts the blocks of the queries of these names.
+fn put_blocks<A: Allocator + Copy>(
+    alloc: A,
+    board: &Board<A>,
+    names: &[Name<A>],
+    page: &mut String<A>,
+) -> Result<(), AllocError>
+    ensures { OnOk result (string_bytes page.new ≡ string_bytes page.old ++ flat_map (block_of board.now) names.now) }
+{
+    for name in names {
+        put_block(alloc, board, name.as_str(), page)?;
+    }
+    Ok(())
+}
+
+fn status_text<A: Allocator + Copy>(
+    alloc: A,
+    board: &Board<A>,
+    names: &[Name<A>],
+) -> Result<String<A>, AllocError>
+    ensures { IfOk result (λ text. string_bytes text ≡ flat_map (status_line board.now) names.now ++ end_line) }
+{
+    let mut page = String::new(alloc);
+    put_statuses(board, names, &mut page)?;
+    page.push_str(END)?;
+    Ok(page)
+}
+
+fn query_text<A: Allocator + Copy>(
+    alloc: A,
+    board: &Board<A>,
+    names: &[Name<A>],
+) -> Result<String<A>, AllocError>
+    ensures { IfOk result (λ text. string_bytes text ≡ flat_map (block_of board.now) names.now ++ absent_lines board.now names.now ++ end_line) }
+{
+    let mut page = String::new(alloc);
+    put_blocks(alloc, board, names, &mut page)?;
+    put_absent(board, names, &mut page)?;
+    page.push_str(END)?;
+    Ok(page)
+}
+
+/// The names as words.
+fn words_of<A: Allocator>(alloc: A, names: &[Name<A>]) -> Result<Vec<&str, A>, AllocError>
+    ensures { IfOk result (λ words. map (λ word. word.now) words.items ≡ names.now) }
+{
+    let mut words = Vec::with_capacity(alloc, names.len())?;
+    for name in names {
+        words.push(name.as_str())?;
+    }
+    Ok(words)
+}
+
+fn explain_text<A: Allocator + Copy>(
+    alloc: A,
+    board: &Board<A>,
+    names: &[Name<A>],
+) -> Result<String<A>, AllocError>
+    ensures { IfOk result (λ text. IsWhyTold board.now names.now (string_bytes text)) }
+{
+    let words = words_of(alloc, names)?;
+    let mut page = explain_these(alloc, board, &words)?;
+    put_absent(board, names, &mut page)?;
+    page.push_str(END)?;
+    Ok(page)
+}
+
+/// Puts the heads that are nearest to that postcondition of the queries of these names on an empty page.
+fn put_nears<A: Allocator + Copy>(
+    alloc: A,
+    board: &Board<A>,
+    post: u8,
+    names: &[Name<A>],
+    page: &mut String<A>,
+) -> Result<(), AllocError>
+    ensures { string_bytes page.old ≡ [] → OnOk result (ArePieces (λ name. IsNearTold board.now.pending name post) names.now (string_bytes page.new)) }
+{
+    for name in names {
+        let text = near(alloc, board, name, post)?;
+        page.push_str(text.as_str())?;
+    }
+    Ok(())
+}
+
+fn near_text<A: Allocator + Copy>(
+    alloc: A,
+    board: &Board<A>,
+    post: u8,
+    names: &[Name<A>],
+) -> Result<String<A>, AllocError>
+    ensures { IfOk result (λ text. IsNearAnswer board.now post names.now (string_bytes text)) }
+{
+    let mut page = String::new(alloc);
+    put_nears(alloc, board, post, names, &mut page)?;
+    put_absent(board, names, &mut page)?;
+    page.push_str(END)?;
+    Ok(page)
+}
+
+fn changes_text<A: Allocator + Copy>(
+    alloc: A,
+    floor: &BoardFloor<A>,
+    before: u64,
+) -> Result<String<A>, AllocError>
+    requires { BeganEmpty floor.now }
+    ensures { IfOk result (λ text. string_bytes text ≡ changes (published_pool (floor_at floor.now before)) (published_pool floor.now) ++ end_line) }
+{
+    let mut page = String::new(alloc);
+    put_last_changes(alloc, floor, before, &mut page)?;
+    page.push_str(END)?;
+    Ok(page)
+}
+
+fn graph_text<A: Allocator + Copy>(alloc: A, board: &Board<A>) -> Result<String<A>, AllocError>
+    ensures { IfOk result (λ text. string_bytes text ≡ graph board.now ++ end_line) }
+{
+    let mut page = graph(alloc, board)?;
+    page.push_str(END)?;
+    Ok(page)
+}
+
+fn json_text<A: Allocator + Copy>(alloc: A, board: &Board<A>) -> Result<String<A>, AllocError>
+    ensures { IfOk result (λ text. string_bytes text ≡ line (print (json_tokens (json_of board.now)))) }
+{
+    let mut page = json(alloc, board)?;
+    page.push('\n')?;
+    Ok(page)
+}
+
+/// Which lines ask.
+pub fn help() -> &'static str
+    ensures { result.now ≡ help_text }
+{
+    "count                queries, rows and entries\nstatus NAME..        whether queries are matched, waiting or absent\nquery NAME           its block of the report\nexplain [NAME..]     why queries wait\nnear NAME POST       which heads nearly supply a postcondition\nchanges              queries that came, went or turned at the last publish\ngraph                who can supply whom, for Graphviz\njson                 the board as JSON\nhelp                 these lines\nquit                 ends; no later line is answered\nAll other lines are those of a script.\n"
+}
+
+fn help_lines<A: Allocator>(alloc: A) -> Result<String<A>, AllocError>
+    ensures { IfOk result (λ text. string_bytes text ≡ help_text ++ end_line) }
+{
+    let mut page = String::from_str(alloc, help())?;
+    page.push_str(END)?;
+    Ok(page)
+}
+
+/// The answer to what is asked, of the board that the floor publishes; before the last publish so many entries were published. Its
+/// time is that of the text that it has: for `count`, `status` and `help` that of the names, for a query's block that of a walk over
+/// the board, for `changes` that of taking once more the edits that were published before.
+///
+/// # Errors
+/// `AllocError` where an allocation failed.
+pub fn answer<A: Allocator + Copy>(
+    alloc: A,
+    floor: &Floor<Board<A>, A>,
+    before: u64,
+    ask: &Ask<A>,
+) -> Result<String<A>, AllocError>
+    requires { BeganEmpty floor.now }
+    ensures { IfOk result (λ text. IsAnswer floor.now before ask.now (string_bytes text)) }
+{
+    let board = floor.board();
+    let names = ask.names();
+    match ask.kind() {
+        AskKind::Count => count_line(alloc, floor),
+        AskKind::Status => status_text(alloc, board, names),
+        AskKind::Query => query_text(alloc, board, names),
+        AskKind::Explain => explain_text(alloc, board, names),
+        AskKind::Near { post } => near_text(alloc, board, post, names),
+        AskKind::Changes => changes_text(alloc, floor, before),
+        AskKind::Graph => graph_text(alloc, board),
+        AskKind::Json => json_text(alloc, board),
+        AskKind::Help => help_lines(alloc),
+        AskKind::Quit => Ok(String::new(alloc)),
+        AskKind::Unfit => Ok(String::from_str(alloc, "refused Words\n")?),
+    }
+}

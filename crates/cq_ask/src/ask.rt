@@ -1,0 +1,80 @@
+//! What a line asks.
+
+ghost use Rattle.std.specs.Prelude.{◌≡◌};
+ghost use Rattle.cq_ask.specs.Ask.{is_quit};
+
+use cq_atom::Name;
+use std::alloc::Allocator;
+use std::marker::Model;
+
+/// What is asked.
+#[derive(Clone, Copy, Debug, PartialEq, Eq)]
+pub enum AskKind {
+    /// How many queries, rows and entries there are.
+    Count,
+    /// Whether queries are matched.
+    Status,
+    /// What the report tells of a query.
+    Query,
+    /// Why queries wait.
+    Explain,
+    /// Which heads nearly supply that postcondition of a query, counted from 0.
+    Near { post: u8 },
+    /// Which queries came, went or turned between the last two publishes.
+    Changes,
+    /// The graph of who can supply whom.
+    Graph,
+    /// What the report tells, in JSON.
+    Json,
+    /// Which lines ask.
+    Help,
+    /// That no further line is heard.
+    Quit,
+    /// A line that begins as one that asks, and goes on as none.
+    Unfit,
+}
+
+/// What a line asks, and the names that it is asked of.
+#[derive(Drop)]
+pub struct Ask<A: Allocator> {
+    kind: AskKind,
+    names: Vec<Name<A>, A>,
+}
+
+impl<A: Allocator> Model for Ask<A> {
+    ghost use Rattle.cq_ask.specs.Ask.{AskRecord};
+
+    ghost Value = { AskRecord };
+
+    ghost view = { λ a. record { kind = a.kind; names = a.names.items } };
+}
+
+impl<A: Allocator> Ask<A> {
+    /// This, asked of these names.
+    pub(crate) fn new(kind: AskKind, names: Vec<Name<A>, A>) -> Ask<A>
+        ensures { result ≡ record { kind = kind; names = names.items } }
+    {
+        Ask { kind, names }
+    }
+
+    /// What is asked.
+    pub(crate) fn kind(&self) -> AskKind
+        ensures { result ≡ self.now.kind }
+    {
+        self.kind
+    }
+
+    /// Whether it is asked that no further line is heard.
+    pub fn is_quit(&self) -> bool
+        ensures { result ≡ is_quit self.now.kind }
+    {
+        matches!(self.kind, AskKind::Quit)
+    }
+
+    /// The names that it is asked of.
+    pub(crate) fn names(&self) -> &[Name<A>]
+        ensures { result.now ≡ self.now.names }
+    {
+        &self.names
+    }
+}

@@ -1,0 +1,144 @@
+//! What changed at the last publish.
+
+ghost use Rattle.std.specs.Prelude.{◌≡◌, ◌≤◌, ◌++◌, map, length, take, string_bytes, IfOk, OnOk, option_map};
+ghost use Rattle.std.specs.List.{flat_map};
+ghost use Rattle.cq_board.specs.Pool.{name_of, opening_pool};
+ghost use Rattle.cq_board.specs.Named.{matched_named};
+ghost use Rattle.cq_board.specs.Journal.{pool_left};
+ghost use Rattle.cq_ask.specs.Answer.{BeganEmpty, floor_at, published_pool, went_line, change_words, change_line, changes};
+
+use cq_atom::{Edit, Name};
+use cq_board::Board;
+use cq_desk::{Entry, Floor};
+use std::alloc::{AllocError, Allocator};
+
+/// Puts a line, where no query is pending under the name now.
+fn put_if_gone<A: Allocator + Copy>(
+    now: &Board<A>,
+    name: &Name<A>,
+    page: &mut String<A>,
+) -> Result<(), AllocError>
+    ensures { OnOk result (string_bytes page.new ≡ string_bytes page.old ++ went_line name.now (matched_named name.now now.now)) }
+{
+    if now.is_matched(name).is_some() {
+        return Ok(());
+    }
+    let text = name.as_str();
+    write!(page, "{text} went\n")
+}
+
+/// Puts those of these names under which no query is pending now.
+fn put_gone<A: Allocator + Copy>(
+    now: &Board<A>,
+    names: &[&Name<A>],
+    page: &mut String<A>,
+) -> Result<(), AllocError>
+    ensures { OnOk result (string_bytes page.new ≡ string_bytes page.old ++ flat_map (λ name. went_line name (matched_named name now.now)) (map (λ name. name.now) names.now)) }
+{
+    for name in names {
+        put_if_gone(now, name, page)?;
+    }
+    Ok(())
+}
+
+/// What became of a query that is pending now, where something did.
+fn change_words(before: Option<bool>, now: Option<bool>) -> Option<&'static str>
+    ensures { option_map (λ words. words.now) result ≡ change_words before now }
+{
+    match (before, now) {
+        (None, Some(true)) => Some("came matched"),
+        (None, Some(false)) => Some("came waiting"),
+        (Some(true), Some(false)) => Some("turned waiting"),
+        (Some(false), Some(true)) => Some("turned matched"),
+        _ => None,
+    }
+}
+
+/// Puts a line, where something became of the query that is pending under the name now.
+fn put_change<A: Allocator + Copy>(
+    before: &Board<A>,
+    now: &Board<A>,
+    name: &Name<A>,
+    page: &mut String<A>,
+) -> Result<(), AllocError>
+    ensures { OnOk result (string_bytes page.new ≡ string_bytes page.old ++ change_line name.now (change_words (matched_named name.now before.now) (matched_named name.now now.now))) }
+{
+    let Some(words) = change_words(before.is_matched(name), now.is_matched(name)) else {
+        return Ok(());
+    };
+    let text = name.as_str();
+    write!(page, "{text} {words}\n")
+}
+
+/// Puts what became of the queries of these names.
+fn put_each<A: Allocator + Copy>(
+    before: &Board<A>,
+    now: &Board<A>,
+    names: &[&Name<A>],
+    page: &mut String<A>,
+) -> Result<(), AllocError>
+    ensures { OnOk result (string_bytes page.new ≡ string_bytes page.old ++ flat_map (λ name. change_line name (change_words (matched_named name before.now) (matched_named name now.now))) (map (λ name. name.now) names.now)) }
+{
+    for name in names {
+        put_change(before, now, name, page)?;
+    }
+    Ok(())
+}
+
+/// Puts what changed between two boards.
+fn put_changes<A: Allocator + Copy>(
+    before: &Board<A>,
+    now: &Board<A>,
+    page: &mut String<A>,
+) -> Result<(), AllocError>
+    ensures { OnOk result (string_bytes page.new ≡ string_bytes page.old ++ changes before.now now.now) }
+{
+    put_gone(now, &before.names()?, page)?;
+    put_each(before, now, &now.names()?, page)
+}
+
+/// Takes the edits of the entries.
+fn play<A: Allocator + Copy>(
+    board: &mut Board<A>,
+    entries: &[Entry<Edit<A>>],
+) -> Result<(), AllocError>
+    ensures { OnOk result (board.new ≡ pool_left board.old entries.now) }
+{
+    for entry in entries {
+        board.admit(&entry.edit)?;
+    }
+    Ok(())
+}
+
+/// The board that was published when so many entries were.
+fn board_at<A: Allocator + Copy>(
+    alloc: A,
+    floor: &Floor<Board<A>, A>,
+    count: u64,
+) -> Result<Board<A>, AllocError>
+    requires { BeganEmpty floor.now }
+    ensures { IfOk result (λ board. board ≡ published_pool (floor_at floor.now count)) }
+{
+    let shown = floor.board();
+    let catalog = shown.tables().catalog().copy()?;
+    let mut board = Board::begin(alloc, catalog, shown.limits())?;
+    let journal = floor.journal();
+    let count = (count as usize).min(journal.len());
+    play(&mut board, &journal[..count])?;
+    Ok(board)
+}
+
+/// Puts what changed at the last publish, before which so many entries were published. Its time is that of taking the edits of these
+/// entries once more.
+pub(crate) fn put_last_changes<A: Allocator + Copy>(
+    alloc: A,
+    floor: &Floor<Board<A>, A>,
+    before: u64,
+    page: &mut String<A>,
+) -> Result<(), AllocError>
+    requires { BeganEmpty floor.now }
+    ensures { OnOk result (string_bytes page.new ≡ string_bytes page.old ++ changes (published_pool (floor_at floor.now before)) (published_pool floor.now)) }
+{
+    let past = board_at(alloc, floor, before)?;
+    put_changes(&past, floor.board(), page)
+}

@@ -1,0 +1,16 @@
+//! Lines that ask: what is asked of a board, and the answers.
+//!
+//! Who answers lines uses `read_ask` and `answer`. `specs/Ask` says which lines ask, and what; `specs/Answer` what is answered, of
+//! the board that is published. An answer changes nothing.
+//!
+//! Not here: lines that change a board, and where an answer goes.
+#![tactic(auto)]
+
+mod answering;
+mod ask;
+mod changing;
+mod reading;
+
+pub use answering::{answer, help};
+pub use ask::{Ask, AskKind};
+pub use reading::read_ask;

@@ -1,0 +1,207 @@
+//! Reads lines that ask.
+
+ghost use Rattle.std.specs.Prelude.{◌≡◌, ◌≤◌, map, length, filter, IfOk, Some, None, option_map, not, ◌==◌, if◌then◌else◌};
+ghost use Rattle.std.specs.List.{prefix_len, slice_split, list_all};
+ghost use Rattle.std.specs.Str.{bytes_eq};
+ghost use Rattle.cq_atom.specs.Text.{is_name};
+ghost use Rattle.cq_text.specs.Lexing.{is_space};
+ghost use Rattle.cq_ask.specs.Ask.{is_part, cut_word, words_of, kind_of, takes, unfit, asked_of_names, post_of, asked_of_post, asked_of, asked};
+
+use crate::ask::{Ask, AskKind};
+use cq_atom::{Bad, Name};
+use cq_text::{MAX_BYTES, TextFault, read_field};
+use std::alloc::{AllocError, Allocator};
+use std::str;
+
+fn is_space(byte: u8) -> bool
+    ensures { result ≡ is_space byte }
+{
+    byte == b' ' || byte == b'\t' || byte == b'\r'
+}
+
+/// How many spaces stand at the front.
+fn spaces_len(bytes: &[u8]) -> usize
+    ensures len { result ≡ prefix_len is_space bytes.now }
+    ensures within { result ≤ length bytes.now }
+{
+    bytes.iter().take_while(|byte| is_space(**byte)).count()
+}
+
+/// How many bytes at the front are no spaces.
+fn word_len(bytes: &[u8]) -> usize
+    ensures len { result ≡ prefix_len is_part bytes.now }
+    ensures within { result ≤ length bytes.now }
+{
+    bytes.iter().take_while(|byte| !is_space(**byte)).count()
+}
+
+/// The first word of a line, and what stands after it.
+fn cut_word(line: &[u8]) -> (&[u8], &[u8])
+    ensures { (result.0.now, result.1.now) ≡ cut_word line.now }
+{
+    let (_, rest) = line.split_at(spaces_len(line));
+    rest.split_at(word_len(rest))
+}
+
+/// The words of a text.
+fn words_of<A: Allocator>(alloc: A, text: &[u8]) -> Result<Vec<&[u8], A>, AllocError>
+    ensures { IfOk result (λ words. map (λ word. word.now) words.items ≡ words_of text.now) }
+{
+    text.split(|byte| is_space(*byte))
+        .filter(|word| !word.is_empty())
+        .collect(alloc)
+}
+
+fn is_word(word: &[u8], text: &str) -> bool
+    ensures { result ≡ bytes_eq word.now text.now }
+{
+    word == text.as_bytes()
+}
+
+/// What the word asks, if it asks.
+fn kind_of(word: &[u8]) -> Option<AskKind>
+    ensures { result ≡ kind_of word.now }
+{
+    if is_word(word, "count") {
+        Some(AskKind::Count)
+    } else if is_word(word, "status") {
+        Some(AskKind::Status)
+    } else if is_word(word, "query") {
+        Some(AskKind::Query)
+    } else if is_word(word, "explain") {
+        Some(AskKind::Explain)
+    } else if is_word(word, "near") {
+        Some(AskKind::Near { post: 0 })
+    } else if is_word(word, "changes") {
+        Some(AskKind::Changes)
+    } else if is_word(word, "graph") {
+        Some(AskKind::Graph)
+    } else if is_word(word, "json") {
+        Some(AskKind::Json)
+    } else if is_word(word, "help") {
+        Some(AskKind::Help)
+    } else if is_word(word, "quit") {
+        Some(AskKind::Quit)
+    } else {
+        None
+    }
+}
+
+/// Whether so many names may be asked of.
+fn takes(kind: AskKind, count: usize) -> bool
+    ensures { result ≡ takes kind count }
+{
+    match kind {
+        AskKind::Status => count >= 1,
+        AskKind::Query | AskKind::Near { .. } => count == 1,
+        AskKind::Explain | AskKind::Unfit => true,
+        _ => count == 0,
+    }
+}
+
+/// The name that a word is, if it is one.
+fn name_of<A: Allocator>(alloc: A, word: &[u8]) -> Result<Option<Name<A>>, AllocError>
+    ensures { IfOk result (λ name. name ≡ (if is_name word.now then Some word.now else None)) }
+{
+    let Ok(text) = str::from_utf8(word) else {
+        return Ok(None);
+    };
+    match Name::new(alloc, text) {
+        Ok(name) => Ok(Some(name)),
+        Err(Bad::NoMemory) => Err(AllocError),
+        Err(_) => Ok(None),
+    }
+}
+
+/// The names that words are, if each is one.
+fn names_of<A: Allocator + Copy>(
+    alloc: A,
+    words: &[&[u8]],
+) -> Result<Option<Vec<Name<A>, A>>, AllocError>
+    ensures { IfOk result (λ names. option_map (λ names. names.items) names ≡ (if list_all is_name (map (λ word. word.now) words.now) then Some (map (λ word. word.now) words.now) else None)) }
+{
+    let mut names = Vec::with_capacity(alloc, words.len())?;
+    for word in words {
+        let Some(name) = name_of(alloc, word)? else {
+            return Ok(None);
+        };
+        names.push(name)?;
+    }
+    Ok(Some(names))
+}
+
+/// What is asked by a word of that kind before others, which are to be names.
+fn asked_of_names<A: Allocator + Copy>(
+    alloc: A,
+    kind: AskKind,
+    words: &[&[u8]],
+) -> Result<Ask<A>, AllocError>
+    ensures { IfOk result (λ ask. ask ≡ asked_of_names kind (map (λ word. word.now) words.now)) }
+{
+    if takes(kind, words.len()) {
+        if let Some(names) = names_of(alloc, words)? {
+            return Ok(Ask::new(kind, names));
+        }
+    }
+    Ok(Ask::new(AskKind::Unfit, Vec::new(alloc)))
+}
+
+/// The postcondition that a word names: a number of the script language below 256.
+fn post_of<A: Allocator>(alloc: A, word: &[u8]) -> Result<Option<u8>, AllocError>
+    ensures { IfOk result (λ post. post ≡ post_of word.now) }
+{
+    match read_field(alloc, word) {
+        Ok(value) => match value.as_num() {
+            Some(number) => Ok(u8::try_from(number).ok()),
+            None => Ok(None),
+        },
+        Err(TextFault::NoMemory) => Err(AllocError),
+        Err(_) => Ok(None),
+    }
+}
+
+/// What is asked by `near` before others: a name and a postcondition.
+fn asked_of_post<A: Allocator + Copy>(alloc: A, words: &[&[u8]]) -> Result<Ask<A>, AllocError>
+    ensures { IfOk result (λ ask. ask ≡ asked_of_post (map (λ word. word.now) words.now)) }
+{
+    if words.len() != 2 {
+        return Ok(Ask::new(AskKind::Unfit, Vec::new(alloc)));
+    }
+    match post_of(alloc, words[1])? {
+        Some(post) => asked_of_names(alloc, AskKind::Near { post }, &words[..1]),
+        None => Ok(Ask::new(AskKind::Unfit, Vec::new(alloc))),
+    }
+}
+
+/// What is asked by a word of that kind before others.
+fn asked_of<A: Allocator + Copy>(
+    alloc: A,
+    kind: AskKind,
+    words: &[&[u8]],
+) -> Result<Ask<A>, AllocError>
+    ensures { IfOk result (λ ask. ask ≡ asked_of kind (map (λ word. word.now) words.now)) }
+{
+    match kind {
+        AskKind::Near { .. } => asked_of_post(alloc, words),
+        _ => asked_of_names(alloc, kind, words),
+    }
+}
+
+/// What a line asks; nothing, where its first word is no asking one, or it is longer than a line may be. No memory is taken where
+/// it does not ask.
+///
+/// # Errors
+/// `AllocError` where an allocation failed.
+pub fn read_ask<A: Allocator + Copy>(alloc: A, line: &[u8]) -> Result<Option<Ask<A>>, AllocError>
+    ensures { IfOk result (λ ask. ask ≡ asked line.now) }
+{
+    if line.len() > MAX_BYTES {
+        return Ok(None);
+    }
+    let (word, rest) = cut_word(line);
+    let Some(kind) = kind_of(word) else {
+        return Ok(None);
+    };
+    let words = words_of(alloc, rest)?;
+    Ok(Some(asked_of(alloc, kind, &words)?))
+}

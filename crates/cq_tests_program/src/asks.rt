@@ -1,0 +1,148 @@
+//! Lines that ask: each kind answered once, and with each allocation refused in turn.
+
+ghost use Rattle.std.specs.Prelude.{◌≡◌, IfSome};
+ghost use Rattle.cq_ask.specs.Answer.{BeganEmpty};
+
+use cq_ask::{answer, read_ask};
+use cq_board::{Board, Limits};
+use cq_desk::{Event, Floor};
+use cq_rel::Catalog;
+use cq_tests_allocations::{Outcome, Tried, refusals};
+use cq_text::{CommandKind, Form, read_command};
+use std::alloc::{AllocError, Allocator};
+
+/// A floor over a board.
+type BoardFloor<A> = Floor<Board<A>, A>;
+
+/// A line, and its answer.
+type Asked = (&'static [u8], &'static str);
+
+const LIMITS: Limits = Limits {
+    pool: 9,
+    journal: 9,
+};
+
+/// The one query that is pending.
+const POST: &[u8] = b"post a {R(1)} S(2) <-";
+
+const ASKED: &[Asked] = &[
+    (
+        b"count",
+        "queries 1 matched 0 waiting 1 rows 0 entries 1 unpublished 0\n",
+    ),
+    (b" status a\tb\r", "a waiting\nb absent\nend\n"),
+    (
+        b"query a",
+        "query a waiting\n  text {R(1)} S(2) <-\n  post 0 providers 0\n  groundings 1 ()\n    ()\nend\n",
+    ),
+    (
+        b"explain b a",
+        "a waits\n  a: post 0 R(1): no provider\nb is absent\nend\n",
+    ),
+    (b"near b 0", "b is absent\nend\n"),
+    (b"changes", "a came waiting\nend\n"),
+    (
+        b"graph",
+        "digraph board {
+  q0 [label=\"a\\nwaiting\", shape=box, style=dashed];
+  n0_0 [label=\"no provider\", shape=plaintext];
+  n0_0 -> q0 [label=\"post 0 R(1)\", style=dotted];
+}
+end
+",
+    ),
+    (
+        b"json",
+        "{\"relations\":[],\"queries\":[{\"name\":\"a\",\"state\":\"waiting\",\"text\":\"{R(1)} S(2) <-\",\"postconditions\":[{\"providers\":[],\"crowded\":false}],\"variables\":[],\"groundings\":[[]]}]}\n",
+    ),
+    (b"query a b", "refused Words\n"),
+];
+
+/// A floor at which nothing has happened, where there was memory for that.
+fn begun<A: Allocator + Copy>(alloc: A) -> Option<BoardFloor<A>>
+    ensures { IfSome result (λ floor. BeganEmpty floor) }
+{
+    let Ok(board) = Board::begin(alloc, Catalog::empty(alloc), LIMITS) else {
+        return None;
+    };
+    let Ok(floor) = Floor::begin(alloc, board, LIMITS.journal, 1) else {
+        return None;
+    };
+    Some(floor)
+}
+
+/// Posts the query and publishes it, where there is memory for that.
+fn post<A: Allocator + Copy>(alloc: A, floor: &mut BoardFloor<A>) -> Option<()>
+    ensures { floor.new.opening ≡ floor.old.opening }
+{
+    let Ok(CommandKind::Edit(edit)) = read_command(alloc, POST, Form::One) else {
+        return None;
+    };
+    let Ok(_) = floor.step(Event::Enter { author: 0, edit }) else {
+        return None;
+    };
+    let Ok(_) = floor.step(Event::Publish) else {
+        return None;
+    };
+    Some(())
+}
+
+/// The query is posted and published, where there was memory for that.
+fn floor_of<A: Allocator + Copy>(alloc: A) -> Option<BoardFloor<A>>
+    ensures { IfSome result (λ floor. BeganEmpty floor) }
+{
+    let mut floor = begun(alloc)?;
+    post(alloc, &mut floor)?;
+    Some(floor)
+}
+
+/// Whether the line asks, and has that answer.
+fn is_answered<A: Allocator + Copy>(
+    alloc: A,
+    floor: &BoardFloor<A>,
+    line: &[u8],
+    wanted: &str,
+) -> Result<bool, AllocError>
+    requires { BeganEmpty floor.now }
+{
+    let Some(ask) = read_ask(alloc, line)? else {
+        return Ok(false);
+    };
+    let text = answer(alloc, floor, 0, &ask)?;
+    Ok(text.as_str() == wanted)
+}
+
+fn answered<A: Allocator + Copy>(alloc: A, floor: &BoardFloor<A>, asked: &Asked) -> Outcome
+    requires { BeganEmpty floor.now }
+{
+    match is_answered(alloc, floor, asked.0, asked.1) {
+        Ok(right) => Outcome::done_if(right),
+        Err(_) => Outcome::refused_if(is_answered(alloc, floor, asked.0, asked.1) == Ok(true)),
+    }
+}
+
+/// The line at that place answered.
+struct Nth<const N: usize>;
+
+impl<const N: usize> Tried for Nth<N> {
+    fn tried<A: Allocator + Copy>(alloc: A) -> Outcome {
+        match (floor_of(alloc), ASKED.get(N)) {
+            (Some(floor), Some(asked)) => answered(alloc, &floor, asked),
+            (None, _) => Outcome::Unready,
+            (_, None) => Outcome::Wrong,
+        }
+    }
+}
+
+#[test]
+fn failed_allocation_in_answers(rt: HostRuntime) {
+    assert!(rt; matches!(refusals::<Nth<0>>(rt.alloc()), Ok(2..)));
+    assert!(rt; matches!(refusals::<Nth<1>>(rt.alloc()), Ok(3..)));
+    assert!(rt; matches!(refusals::<Nth<2>>(rt.alloc()), Ok(4..)));
+    assert!(rt; matches!(refusals::<Nth<3>>(rt.alloc()), Ok(5..)));
+    assert!(rt; matches!(refusals::<Nth<4>>(rt.alloc()), Ok(3..)));
+    assert!(rt; matches!(refusals::<Nth<5>>(rt.alloc()), Ok(3..)));
+    assert!(rt; matches!(refusals::<Nth<6>>(rt.alloc()), Ok(2..)));
+    assert!(rt; matches!(refusals::<Nth<7>>(rt.alloc()), Ok(2..)));
+    assert!(rt; matches!(refusals::<Nth<8>>(rt.alloc()), Ok(1..)));
+}
