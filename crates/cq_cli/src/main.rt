@@ -1,6 +1,6 @@
 //! The program `board`: replays a script, turns CSV into the insert lines of one, serves files, or tells something of the board that a script leaves.
 //!
-//! `wanted` says what the words ask for, `rows` writes the insert lines of CSV, `views` tells what is asked of a board, `explaining` why its queries wait, `choices` reads choices from words, and `answering` turns words, a source
+//! `wanted` says what the words ask for, `rows` writes the insert lines of CSV, `views` tells what is asked of a board, `explaining` why its queries wait, `choices` reads choices from words, `prompting` prompts at a terminal, and `answering` turns words, a source
 //! and two sinks into the status that `status` numbers; `main` only opens the three standard streams. What a
 //! script means stands in the crates below.
 #![tactic(auto)]
@@ -9,6 +9,7 @@ mod answering;
 mod choices;
 mod explaining;
 mod fault;
+mod prompting;
 mod rows;
 mod sessions;
 mod status;
@@ -17,12 +18,14 @@ mod wanted;
 mod writing;
 
 use crate::answering::answer;
+use crate::prompting::Prompting;
 use crate::status::Status;
 use crate::writing::tell;
 use cq_devices::Counted;
+use std::alloc::Allocator;
 use std::env;
 use std::env::Env;
-use std::io::ErrorKind;
+use std::io::{ErrorKind, IsTerminal};
 use std::process::ExitCode;
 
 /// What is reported about words that are no text, in the form in which `clap` reports the other faults of words.
@@ -40,6 +43,14 @@ fn words<R: Env + Alloc>(rt: &R) -> Result<Vec<String<R::A>, R::A>, Status> {
     }
 }
 
+/// Whether the words ask for lines to be answered on and on.
+fn is_live<A: Allocator>(words: &[String<A>]) -> bool {
+    match words.get(1) {
+        Some(word) => word.as_str() == "live",
+        None => false,
+    }
+}
+
 fn main(rt: HostRuntime) -> ExitCode {
     let mut errors = Counted::new(rt.stderr());
     let words = match words(&rt) {
@@ -53,7 +64,13 @@ fn main(rt: HostRuntime) -> ExitCode {
             return ExitCode::from(status.code());
         }
     };
-    let mut source = Counted::new(rt.stdin());
+    let input = rt.stdin();
+    let prompts = if is_live(&words) && input.is_terminal() {
+        Some(rt.stderr())
+    } else {
+        None
+    };
+    let mut source = Counted::new(Prompting::new(input, prompts));
     let mut sink = Counted::new(rt.stdout());
     let status = answer(
         &rt,

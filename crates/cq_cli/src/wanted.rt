@@ -59,6 +59,10 @@ const BEHIND_LIVE: &str =
     "The lines are those of `board replay`, and are answered as it answers them: each before the next one is read. So a program can
 drive a board over two pipes.
 
+Beside these, a line may ask about the published board: `count`, `status NAME..`, `query NAME`, `explain [NAME..]`,
+`near NAME POST`, `changes`, `graph`, `json`. The line `help` lists them. An answer of several lines ends with `end`. `quit`
+ends the board, as the end of the input does.
+
 A line that needs more memory than there is, or than --memory allows, is answered `refused Memory`. It changes nothing, and the
 board goes on.
 
