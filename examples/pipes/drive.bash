@@ -1,24 +1,28 @@
 #!/usr/bin/env bash
-# Drives the board over pipes, a line at a time. usage: drive.bash [WORD..], the words that run the program, else ./board
+# Drives a live board over pipes. usage: drive.bash [WORD..], the words that run the program, else ./board
 set -euo pipefail
 [ $# -gt 0 ] || set -- ./board
-coproc board { exec "$@" replay; }
+coproc board { exec "$@" live; }
 exec {to}>&"${board[1]}" {from}<&"${board[0]}" {board[1]}>&-
 running=$board_PID
 
-ask() {
+send() {
     printf '%s\n' "$1" >&"$to"
     read -r told <&"$from"
+    printf '%s: %s\n' "$1" "$told"
 }
 
-while read -r line; do
-    ask "$line"
-    printf '%s: %s\n' "$line" "$told"
-done <examples/pipes/lines
-ask show
-while [ "$told" != end ]; do
-    case $told in query*) printf '%s\n' "$told" ;; esac
-    read -r told <&"$from"
-done
+ask() {
+    printf '%s\n' "$1" >&"$to"
+    while IFS= read -r told <&"$from" && [ "$told" != end ]; do printf '%s\n' "$told"; done
+}
+
+while read -r line; do send "$line"; done <examples/pipes/lines
+if ask "status kramer jerry" | grep -qx "kramer waiting"; then
+    ask "explain kramer"
+    send "insert Flights(122, Paris)"
+    send "publish"
+fi
+ask "changes"
 exec {to}>&-
 wait "$running"
