@@ -1,5 +1,5 @@
 -- What is answered to lines that ask. (this project's profile)
-use Rattle.std.specs.Prelude.{◌≡◌, ℕ, ◌+◌, ◌-◌, Bool, true, false, map, List, [], ◌++◌, length, fold, codes, decimal, Option, Some, None}
+use Rattle.std.specs.Prelude.{◌≡◌, ◌⊎◌, ℕ, ◌+◌, ◌-◌, Bool, true, false, map, List, [], ◌++◌, length, fold, codes, decimal, Option, Some, None}
 use Rattle.std.specs.List.{flat_map}
 use Rattle.json.specs.Tree.{json_tokens}
 use Rattle.json.specs.Print.{print}
@@ -15,8 +15,9 @@ use Rattle.cq_render.specs.Explain.{ArePieces, IsExplained, IsNearTold}
 use Rattle.cq_render.specs.Graph.{graph}
 use Rattle.cq_render.specs.Json.{json_of}
 use Rattle.cq_ask.specs.declared.ask.AskKind.{AskKind}
-use Rattle.cq_ask.specs.declared.ask.AskKind.TheVariants.{Count, Status, Query, Explain, Near, Changes, Graph, Json, Help, Quit, Unfit}
+use Rattle.cq_ask.specs.declared.ask.AskKind.TheVariants.{Count, Status, Query, Explain, Near, Choice, Changes, Graph, Json, Help, Quit, Unfit}
 use Rattle.cq_ask.specs.Ask.{AskRecord}
+use Rattle.cq_ask.specs.Choices.{AreCoordinating, AreNotCoordinating, StandForNone, choice_words}
 
 -- A floor over a pool.
 abbrev pub FloorRecord : Type 0
@@ -103,7 +104,7 @@ changes before now =
 abbrev pub help_text : List ℕ
 help_text =
     codes
-    "count                queries, rows and entries\nstatus NAME..        whether queries are matched, waiting or absent\nquery NAME           its block of the report\nexplain [NAME..]     why queries wait\nnear NAME POST       which heads nearly supply a postcondition\nchanges              queries that came, went or turned at the last publish\ngraph                who can supply whom, for Graphviz\njson                 the board as JSON\nhelp                 these lines\nquit                 ends; no later line is answered\nAll other lines are those of a script.\n"
+    "count                queries, rows and entries\nstatus NAME..        whether queries are matched, waiting or absent\nquery NAME           its block of the report\nexplain [NAME..]     why queries wait\nnear NAME POST       which heads nearly supply a postcondition\nchoice CHOICE..      whether a choice coordinates, as in choice a(1) b(1)\nchanges              queries that came, went or turned at the last publish\ngraph                who can supply whom, for Graphviz\njson                 the board as JSON\nhelp                 these lines\nquit                 ends; no later line is answered\nAll other lines are those of a script.\n"
 
 -- Why queries wait: those of these names, and which of the names are absent; where there is no name, all that wait.
 pub record IsWhyTold (pool : PoolRecord) (names : List (List ℕ)) (text : List ℕ) : Type 0 where
@@ -117,19 +118,31 @@ pub record IsNearAnswer (pool : PoolRecord) (post : ℕ) (names : List (List ℕ
   pub told : ArePieces (λ name. IsNearTold pool.pending name post) names near
   pub is : text ≡ near ++ absent_lines pool names ++ end_line
 
+-- The words do not fit.
+abbrev pub unfit_line : List ℕ
+unfit_line = line (codes "refused Words")
+
+-- Whether the words stand for choices that coordinate; words that stand for none do not fit, nor does it fit that there are no words.
+abbrev pub IsChoiceTold : PoolRecord → List (List ℕ) → List ℕ → Type 0
+IsChoiceTold pool [] text = text ≡ unfit_line
+IsChoiceTold pool words text =
+    (AreCoordinating pool words × (text ≡ line (codes "coordinating")))
+    ⊎ ((AreNotCoordinating pool words × (text ≡ line (codes "not coordinating"))) ⊎ (StandForNone words × (text ≡ unfit_line)))
+
 -- The text answers what is asked of the floor and its pool; before the last publish so many entries were published.
-abbrev pub IsAnswerOf : FloorRecord → PoolRecord → ℕ → AskKind → List (List ℕ) → List ℕ → Type 0
-IsAnswerOf floor pool before Count names text = text ≡ count_line floor
-IsAnswerOf floor pool before Status names text = text ≡ flat_map (status_line pool) names ++ end_line
-IsAnswerOf floor pool before Query names text = text ≡ flat_map (block_of pool) names ++ absent_lines pool names ++ end_line
-IsAnswerOf floor pool before Explain names text = IsWhyTold pool names text
-IsAnswerOf floor pool before (Near post) names text = IsNearAnswer pool post names text
-IsAnswerOf floor pool before Changes names text = text ≡ changes (published_pool (floor_at floor before)) pool ++ end_line
-IsAnswerOf floor pool before Graph names text = text ≡ graph pool ++ end_line
-IsAnswerOf floor pool before Json names text = text ≡ line (print (json_tokens (json_of pool)))
-IsAnswerOf floor pool before Help names text = text ≡ help_text ++ end_line
-IsAnswerOf floor pool before Quit names text = text ≡ []
-IsAnswerOf floor pool before Unfit names text = text ≡ line (codes "refused Words")
+abbrev pub IsAnswerOf : FloorRecord → PoolRecord → ℕ → AskKind → List (List ℕ) → List ℕ → List ℕ → Type 0
+IsAnswerOf floor pool before Count names choices text = text ≡ count_line floor
+IsAnswerOf floor pool before Status names choices text = text ≡ flat_map (status_line pool) names ++ end_line
+IsAnswerOf floor pool before Query names choices text = text ≡ flat_map (block_of pool) names ++ absent_lines pool names ++ end_line
+IsAnswerOf floor pool before Explain names choices text = IsWhyTold pool names text
+IsAnswerOf floor pool before (Near post) names choices text = IsNearAnswer pool post names text
+IsAnswerOf floor pool before Choice names choices text = IsChoiceTold pool (choice_words choices) text
+IsAnswerOf floor pool before Changes names choices text = text ≡ changes (published_pool (floor_at floor before)) pool ++ end_line
+IsAnswerOf floor pool before Graph names choices text = text ≡ graph pool ++ end_line
+IsAnswerOf floor pool before Json names choices text = text ≡ line (print (json_tokens (json_of floor.machine.published pool)))
+IsAnswerOf floor pool before Help names choices text = text ≡ help_text ++ end_line
+IsAnswerOf floor pool before Quit names choices text = text ≡ []
+IsAnswerOf floor pool before Unfit names choices text = text ≡ unfit_line
 
 abbrev pub IsAnswer : FloorRecord → ℕ → AskRecord → List ℕ → Type 0
-IsAnswer floor before ask text = IsAnswerOf floor (published_pool floor) before ask.kind ask.names text
+IsAnswer floor before ask text = IsAnswerOf floor (published_pool floor) before ask.kind ask.names ask.text text

@@ -9,12 +9,13 @@ use Rattle.cq_text.specs.Limits.{max_bytes}
 use Rattle.cq_text.specs.Lexing.{is_space}
 use Rattle.cq_text.specs.Field.{value_of_field}
 use Rattle.cq_ask.specs.declared.ask.AskKind.{AskKind}
-use Rattle.cq_ask.specs.declared.ask.AskKind.TheVariants.{Count, Status, Query, Explain, Near, Changes, Graph, Json, Help, Quit, Unfit}
+use Rattle.cq_ask.specs.declared.ask.AskKind.TheVariants.{Count, Status, Query, Explain, Near, Choice, Changes, Graph, Json, Help, Quit, Unfit}
 
--- What is asked, and the names that it is asked of.
+-- What is asked, and the names that it is asked of, or the text that has the choices.
 pub record AskRecord : Type 0 where
   pub kind : AskKind
   pub names : List (List ℕ)
+  pub text : List ℕ
 
 -- A byte of a word.
 abbrev pub is_part : ℕ → Bool
@@ -34,8 +35,8 @@ cut_word line =
 abbrev pub kind_of : List ℕ → Option AskKind
 kind_of word =
     if bytes_eq word (codes "count") then Some Count else (if bytes_eq word (codes "status") then Some Status else (if bytes_eq word (codes "query") then Some Query
-    else (if bytes_eq word (codes "explain") then Some Explain else (if bytes_eq word (codes "near") then Some (Near 0) else (if bytes_eq word (codes "changes") then Some Changes else (if bytes_eq word (codes "graph") then Some Graph else (if bytes_eq word (codes "json") then Some Json
-    else (if bytes_eq word (codes "help") then Some Help else (if bytes_eq word (codes "quit") then Some Quit else None)))))))))
+    else (if bytes_eq word (codes "explain") then Some Explain else (if bytes_eq word (codes "near") then Some (Near 0) else (if bytes_eq word (codes "choice") then Some Choice else (if bytes_eq word (codes "changes") then Some Changes else (if bytes_eq word (codes "graph") then Some Graph else (if bytes_eq word (codes "json") then Some Json
+    else (if bytes_eq word (codes "help") then Some Help else (if bytes_eq word (codes "quit") then Some Quit else None))))))))))
 
 -- Of how many names it may be asked.
 abbrev pub takes : AskKind → ℕ → Bool
@@ -43,16 +44,17 @@ takes Status count = nat_le 1 count
 takes Query count = count == 1
 takes Explain count = true
 takes (Near post) count = count == 1
+takes Choice count = true
 takes Unfit count = true
 takes _ count = count == 0
 
 -- The words do not fit.
 abbrev pub unfit : AskRecord
-unfit = record { kind = Unfit; names = [] }
+unfit = record { kind = Unfit; names = []; text = [] }
 
 -- What is asked by a word of that kind before others, which are to be names.
 abbrev pub asked_of_names : AskKind → List (List ℕ) → AskRecord
-asked_of_names kind words = if takes kind (length words) && list_all is_name words then record { kind = kind; names = words } else unfit
+asked_of_names kind words = if takes kind (length words) && list_all is_name words then record { kind = kind; names = words; text = [] } else unfit
 
 -- The number below 256 that a value is.
 abbrev pub small_number : Option ValueContent → Option ℕ
@@ -72,14 +74,15 @@ abbrev pub asked_of_post : List (List ℕ) → AskRecord
 asked_of_post (name ∷ post ∷ []) = near_asked (post_of post) name
 asked_of_post _ = unfit
 
--- What is asked by a word of that kind before others.
-abbrev pub asked_of : AskKind → List (List ℕ) → AskRecord
-asked_of (Near post) words = asked_of_post words
-asked_of kind words = asked_of_names kind words
+-- What is asked by a word of that kind before a text: of the words of the text, or of the choices that it has.
+abbrev pub asked_of : AskKind → List ℕ → AskRecord
+asked_of (Near post) text = asked_of_post (words_of text)
+asked_of Choice text = record { kind = Choice; names = []; text = text }
+asked_of kind text = asked_of_names kind (words_of text)
 
 -- What a line asks, if its first word asks and it is no longer than a line may be.
 abbrev pub asked : List ℕ → Option AskRecord
-asked line = if nat_le (length line) max_bytes then option_map (λ kind. asked_of kind (words_of (cut_word line).1)) (kind_of (cut_word line).0) else None
+asked line = if nat_le (length line) max_bytes then option_map (λ kind. asked_of kind (cut_word line).1) (kind_of (cut_word line).0) else None
 
 -- Whether it is asked that no further line is heard.
 abbrev pub is_quit : AskKind → Bool

@@ -1,2 +1,4 @@
 pub mod Ask
 pub mod Answer
+pub mod Choices
+pub mod Steps

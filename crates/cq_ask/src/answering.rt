@@ -1,6 +1,6 @@
 //! Answers lines that ask, of the board that a floor publishes.
 
-ghost use Rattle.std.specs.Prelude.{◌≡◌, ◌++◌, ◌-◌, ◌≤◌, ◌*◌, ◌^◌, [], codes, decimal, length, map, string_bytes, IfOk, OnOk};
+ghost use Rattle.std.specs.Prelude.{◌≡◌, ◌⊎◌, ◌++◌, ◌-◌, ◌≤◌, ◌*◌, ◌^◌, [], codes, decimal, length, map, string_bytes, IfOk, OnOk};
 ghost use Rattle.std.specs.List.{flat_map};
 ghost use Rattle.json.specs.Print.{print};
 ghost use Rattle.json.specs.Tree.{json_tokens};
@@ -10,12 +10,15 @@ ghost use Rattle.cq_render.specs.Report.{line, block_of};
 ghost use Rattle.cq_render.specs.Explain.{ArePieces, IsNearTold};
 ghost use Rattle.cq_render.specs.Graph.{graph};
 ghost use Rattle.cq_render.specs.Json.{json_of};
-ghost use Rattle.cq_ask.specs.Answer.{BeganEmpty, floor_at, published_pool, changes, end_line, row_count, pool_counts, count_line, standing_word, status_line, absent_line, absent_lines, help_text, IsWhyTold, IsNearAnswer, IsAnswer};
+ghost use Rattle.cq_ask.specs.Answer.{BeganEmpty, floor_at, published_pool, changes, end_line, row_count, pool_counts, count_line, standing_word, status_line, absent_line, absent_lines, help_text, unfit_line, IsWhyTold, IsNearAnswer, IsChoiceTold, IsAnswer};
+ghost use Rattle.cq_board.specs.Choice.{IsCoordinating};
+ghost use Rattle.cq_ask.specs.Choices.{choice_words};
 
 use crate::ask::{Ask, AskKind};
 use crate::changing::put_last_changes;
+use crate::choices::{ChoiceFault, choice_words, read_choices};
 use cq_atom::Name;
-use cq_board::Board;
+use cq_board::{Board, Choice};
 use cq_desk::Floor;
 use cq_rel::Tables;
 use cq_render::{explain_these, graph, json, near, put_block};
@@ -26,6 +29,9 @@ type BoardFloor<A> = Floor<Board<A>, A>;
 
 /// The last line of an answer of several lines.
 const END: &str = "end\n";
+
+/// The answer to words that do not fit.
+const UNFIT: &str = "refused Words\n";
 
 /// How many rows the relation has; none where it is not declared.
 fn rows_of<A: Allocator>(tables: &Tables<A>, relation: &str) -> usize
@@ -242,6 +248,49 @@ fn near_text<A: Allocator + Copy>(
     Ok(page)
 }
 
+/// Says whether the choices coordinate.
+fn coordination<A: Allocator + Copy>(board: &Board<A>, choices: &[Choice<A>]) -> &'static str
+    ensures so { result.now ≡ codes "coordinating\n" → IsCoordinating board.now choices.now }
+    ensures not_so { result.now ≡ codes "not coordinating\n" → IsCoordinating board.now choices.now → ⊥ }
+    ensures either { (result.now ≡ codes "coordinating\n") ⊎ (result.now ≡ codes "not coordinating\n") }
+{
+    if board.check_choice(choices) {
+        "coordinating\n"
+    } else {
+        "not coordinating\n"
+    }
+}
+
+/// Says whether the words stand for choices that coordinate.
+fn said_of<A: Allocator + Copy>(
+    alloc: A,
+    board: &Board<A>,
+    words: &[&[u8]],
+) -> Result<&'static str, AllocError>
+    ensures { IfOk result (λ text. IsChoiceTold board.now (map (λ word. word.now) words.now) text.now) }
+{
+    if words.is_empty() {
+        return Ok(UNFIT);
+    }
+    match read_choices(alloc, words) {
+        Ok(choices) => Ok(coordination(board, &choices)),
+        Err(ChoiceFault::Bad { place: _ }) => Ok(UNFIT),
+        Err(ChoiceFault::NoMemory) => Err(AllocError),
+    }
+}
+
+fn choice_text<A: Allocator + Copy>(
+    alloc: A,
+    board: &Board<A>,
+    choices: &[u8],
+) -> Result<String<A>, AllocError>
+    ensures { IfOk result (λ text. IsChoiceTold board.now (choice_words choices.now) (string_bytes text)) }
+{
+    let words = choice_words(alloc, choices)?;
+    let said = said_of(alloc, board, &words)?;
+    String::from_str(alloc, said)
+}
+
 fn changes_text<A: Allocator + Copy>(
     alloc: A,
     floor: &BoardFloor<A>,
@@ -264,10 +313,10 @@ fn graph_text<A: Allocator + Copy>(alloc: A, board: &Board<A>) -> Result<String<
     Ok(page)
 }
 
-fn json_text<A: Allocator + Copy>(alloc: A, board: &Board<A>) -> Result<String<A>, AllocError>
-    ensures { IfOk result (λ text. string_bytes text ≡ line (print (json_tokens (json_of board.now)))) }
+fn json_text<A: Allocator + Copy>(alloc: A, floor: &BoardFloor<A>) -> Result<String<A>, AllocError>
+    ensures { IfOk result (λ text. string_bytes text ≡ line (print (json_tokens (json_of floor.now.machine.published (published_pool floor.now))))) }
 {
-    let mut page = json(alloc, board)?;
+    let mut page = json(alloc, floor.published_count(), floor.board())?;
     page.push('\n')?;
     Ok(page)
 }
@@ -276,7 +325,7 @@ fn json_text<A: Allocator + Copy>(alloc: A, board: &Board<A>) -> Result<String<A
 pub fn help() -> &'static str
     ensures { result.now ≡ help_text }
 {
-    "count                queries, rows and entries\nstatus NAME..        whether queries are matched, waiting or absent\nquery NAME           its block of the report\nexplain [NAME..]     why queries wait\nnear NAME POST       which heads nearly supply a postcondition\nchanges              queries that came, went or turned at the last publish\ngraph                who can supply whom, for Graphviz\njson                 the board as JSON\nhelp                 these lines\nquit                 ends; no later line is answered\nAll other lines are those of a script.\n"
+    "count                queries, rows and entries\nstatus NAME..        whether queries are matched, waiting or absent\nquery NAME           its block of the report\nexplain [NAME..]     why queries wait\nnear NAME POST       which heads nearly supply a postcondition\nchoice CHOICE..      whether a choice coordinates, as in choice a(1) b(1)\nchanges              queries that came, went or turned at the last publish\ngraph                who can supply whom, for Graphviz\njson                 the board as JSON\nhelp                 these lines\nquit                 ends; no later line is answered\nAll other lines are those of a script.\n"
 }
 
 fn help_lines<A: Allocator>(alloc: A) -> Result<String<A>, AllocError>
@@ -289,7 +338,7 @@ fn help_lines<A: Allocator>(alloc: A) -> Result<String<A>, AllocError>
 
 /// The answer to what is asked, of the board that the floor publishes; before the last publish so many entries were published. Its
 /// time is that of the text that it has: for `count`, `status` and `help` that of the names, for a query's block that of a walk over
-/// the board, for `changes` that of taking once more the edits that were published before.
+/// the board, for `changes` that of taking once more the edits that were published before, which takes a floor that began empty.
 ///
 /// # Errors
 /// `AllocError` where an allocation failed.
@@ -299,7 +348,7 @@ pub fn answer<A: Allocator + Copy>(
     before: u64,
     ask: &Ask<A>,
 ) -> Result<String<A>, AllocError>
-    requires { BeganEmpty floor.now }
+    requires { ask.now.kind ≡ AskKind.Changes → BeganEmpty floor.now }
     ensures { IfOk result (λ text. IsAnswer floor.now before ask.now (string_bytes text)) }
 {
     let board = floor.board();
@@ -310,11 +359,12 @@ pub fn answer<A: Allocator + Copy>(
         AskKind::Query => query_text(alloc, board, names),
         AskKind::Explain => explain_text(alloc, board, names),
         AskKind::Near { post } => near_text(alloc, board, post, names),
+        AskKind::Choice => choice_text(alloc, board, ask.text()),
         AskKind::Changes => changes_text(alloc, floor, before),
         AskKind::Graph => graph_text(alloc, board),
-        AskKind::Json => json_text(alloc, board),
+        AskKind::Json => json_text(alloc, floor),
         AskKind::Help => help_lines(alloc),
         AskKind::Quit => Ok(String::new(alloc)),
-        AskKind::Unfit => Ok(String::from_str(alloc, "refused Words\n")?),
+        AskKind::Unfit => Ok(String::from_str(alloc, UNFIT)?),
     }
 }

@@ -1,10 +1,10 @@
 //! What a line asks.
 
-ghost use Rattle.std.specs.Prelude.{◌≡◌};
+ghost use Rattle.std.specs.Prelude.{◌≡◌, [], IfOk};
 ghost use Rattle.cq_ask.specs.Ask.{is_quit};
 
 use cq_atom::Name;
-use std::alloc::Allocator;
+use std::alloc::{AllocError, Allocator};
 use std::marker::Model;
 
 /// What is asked.
@@ -20,6 +20,8 @@ pub enum AskKind {
     Explain,
     /// Which heads nearly supply that postcondition of a query, counted from 0.
     Near { post: u8 },
+    /// Whether choices coordinate.
+    Choice,
     /// Which queries came, went or turned between the last two publishes.
     Changes,
     /// The graph of who can supply whom.
@@ -34,11 +36,12 @@ pub enum AskKind {
     Unfit,
 }
 
-/// What a line asks, and the names that it is asked of.
+/// What a line asks, and of what: the names that it is asked of, or the text that has the choices.
 #[derive(Drop)]
 pub struct Ask<A: Allocator> {
     kind: AskKind,
     names: Vec<Name<A>, A>,
+    text: Vec<u8, A>,
 }
 
 impl<A: Allocator> Model for Ask<A> {
@@ -46,15 +49,32 @@ impl<A: Allocator> Model for Ask<A> {
 
     ghost Value = { AskRecord };
 
-    ghost view = { λ a. record { kind = a.kind; names = a.names.items } };
+    ghost view = { λ a. record { kind = a.kind; names = a.names.items; text = a.text.items } };
+}
+
+impl<A: Allocator + Copy> Ask<A> {
+    /// Whether the choices coordinate that the text has.
+    pub(crate) fn of_choices(alloc: A, text: &[u8]) -> Result<Ask<A>, AllocError>
+        ensures { IfOk result (λ ask. ask ≡ record { kind = AskKind.Choice; names = []; text = text.now }) }
+    {
+        Ok(Ask {
+            kind: AskKind::Choice,
+            names: Vec::new(alloc),
+            text: Vec::from_slice(alloc, text)?,
+        })
+    }
 }
 
 impl<A: Allocator> Ask<A> {
     /// This, asked of these names.
-    pub(crate) fn new(kind: AskKind, names: Vec<Name<A>, A>) -> Ask<A>
-        ensures { result ≡ record { kind = kind; names = names.items } }
+    pub(crate) fn new(alloc: A, kind: AskKind, names: Vec<Name<A>, A>) -> Ask<A>
+        ensures { result ≡ record { kind = kind; names = names.items; text = [] } }
     {
-        Ask { kind, names }
+        Ask {
+            kind,
+            names,
+            text: Vec::new(alloc),
+        }
     }
 
     /// What is asked.
@@ -76,5 +96,12 @@ impl<A: Allocator> Ask<A> {
         ensures { result.now ≡ self.now.names }
     {
         &self.names
+    }
+
+    /// The text that has the choices.
+    pub(crate) fn text(&self) -> &[u8]
+        ensures { result.now ≡ self.now.text }
+    {
+        &self.text
     }
 }

@@ -1,6 +1,6 @@
 //! Lines that ask: what is asked of a board, and the answers.
 //!
-//! Who answers lines uses `read_ask` and `answer`. `specs/Ask` says which lines ask, and what; `specs/Answer` what is answered, of
+//! Who answers lines uses `read_ask` and `answer`; who has words for choices `read_choices`. `specs/Ask` says which lines ask, and what; `specs/Answer` what is answered, of
 //! the board that is published. An answer changes nothing.
 //!
 //! Not here: lines that change a board, and where an answer goes.
@@ -9,8 +9,10 @@
 mod answering;
 mod ask;
 mod changing;
+mod choices;
 mod reading;
 
 pub use answering::{answer, help};
 pub use ask::{Ask, AskKind};
+pub use choices::{ChoiceFault, one_choice, read_choices};
 pub use reading::read_ask;

@@ -1,6 +1,6 @@
 //! Reads lines that ask.
 
-ghost use Rattle.std.specs.Prelude.{◌≡◌, ◌≤◌, map, length, filter, IfOk, Some, None, option_map, not, ◌==◌, if◌then◌else◌};
+ghost use Rattle.std.specs.Prelude.{◌≡◌, ◌≢◌, ◌≤◌, map, length, filter, IfOk, Some, None, option_map, not, ◌==◌, if◌then◌else◌};
 ghost use Rattle.std.specs.List.{prefix_len, slice_split, list_all};
 ghost use Rattle.std.specs.Str.{bytes_eq};
 ghost use Rattle.cq_atom.specs.Text.{is_name};
@@ -13,7 +13,8 @@ use cq_text::{MAX_BYTES, TextFault, read_field};
 use std::alloc::{AllocError, Allocator};
 use std::str;
 
-fn is_space(byte: u8) -> bool
+/// Whether the byte is a space, a tab or a carriage return.
+pub(crate) fn is_space(byte: u8) -> bool
     ensures { result ≡ is_space byte }
 {
     byte == b' ' || byte == b'\t' || byte == b'\r'
@@ -72,6 +73,8 @@ fn kind_of(word: &[u8]) -> Option<AskKind>
         Some(AskKind::Explain)
     } else if is_word(word, "near") {
         Some(AskKind::Near { post: 0 })
+    } else if is_word(word, "choice") {
+        Some(AskKind::Choice)
     } else if is_word(word, "changes") {
         Some(AskKind::Changes)
     } else if is_word(word, "graph") {
@@ -94,13 +97,13 @@ fn takes(kind: AskKind, count: usize) -> bool
     match kind {
         AskKind::Status => count >= 1,
         AskKind::Query | AskKind::Near { .. } => count == 1,
-        AskKind::Explain | AskKind::Unfit => true,
+        AskKind::Explain | AskKind::Choice | AskKind::Unfit => true,
         _ => count == 0,
     }
 }
 
 /// The name that a word is, if it is one.
-fn name_of<A: Allocator>(alloc: A, word: &[u8]) -> Result<Option<Name<A>>, AllocError>
+pub(crate) fn name_of<A: Allocator>(alloc: A, word: &[u8]) -> Result<Option<Name<A>>, AllocError>
     ensures { IfOk result (λ name. name ≡ (if is_name word.now then Some word.now else None)) }
 {
     let Ok(text) = str::from_utf8(word) else {
@@ -140,10 +143,10 @@ fn asked_of_names<A: Allocator + Copy>(
 {
     if takes(kind, words.len()) {
         if let Some(names) = names_of(alloc, words)? {
-            return Ok(Ask::new(kind, names));
+            return Ok(Ask::new(alloc, kind, names));
         }
     }
-    Ok(Ask::new(AskKind::Unfit, Vec::new(alloc)))
+    Ok(Ask::new(alloc, AskKind::Unfit, Vec::new(alloc)))
 }
 
 /// The postcondition that a word names: a number of the script language below 256.
@@ -165,25 +168,36 @@ fn asked_of_post<A: Allocator + Copy>(alloc: A, words: &[&[u8]]) -> Result<Ask<A
     ensures { IfOk result (λ ask. ask ≡ asked_of_post (map (λ word. word.now) words.now)) }
 {
     if words.len() != 2 {
-        return Ok(Ask::new(AskKind::Unfit, Vec::new(alloc)));
+        return Ok(Ask::new(alloc, AskKind::Unfit, Vec::new(alloc)));
     }
     match post_of(alloc, words[1])? {
         Some(post) => asked_of_names(alloc, AskKind::Near { post }, &words[..1]),
-        None => Ok(Ask::new(AskKind::Unfit, Vec::new(alloc))),
+        None => Ok(Ask::new(alloc, AskKind::Unfit, Vec::new(alloc))),
     }
 }
 
-/// What is asked by a word of that kind before others.
-fn asked_of<A: Allocator + Copy>(
+/// What is asked by a word of that kind before the words of a text.
+fn asked_of_words<A: Allocator + Copy>(
     alloc: A,
     kind: AskKind,
-    words: &[&[u8]],
+    text: &[u8],
 ) -> Result<Ask<A>, AllocError>
-    ensures { IfOk result (λ ask. ask ≡ asked_of kind (map (λ word. word.now) words.now)) }
+    ensures { IfOk result (λ ask. kind ≢ AskKind.Choice → ask ≡ asked_of kind text.now) }
+{
+    let words = words_of(alloc, text)?;
+    match kind {
+        AskKind::Near { .. } => asked_of_post(alloc, &words),
+        _ => asked_of_names(alloc, kind, &words),
+    }
+}
+
+/// What is asked by a word of that kind before a text.
+fn asked_of<A: Allocator + Copy>(alloc: A, kind: AskKind, text: &[u8]) -> Result<Ask<A>, AllocError>
+    ensures { IfOk result (λ ask. ask ≡ asked_of kind text.now) }
 {
     match kind {
-        AskKind::Near { .. } => asked_of_post(alloc, words),
-        _ => asked_of_names(alloc, kind, words),
+        AskKind::Choice => Ask::of_choices(alloc, text),
+        _ => asked_of_words(alloc, kind, text),
     }
 }
 
@@ -199,9 +213,8 @@ pub fn read_ask<A: Allocator + Copy>(alloc: A, line: &[u8]) -> Result<Option<Ask
         return Ok(None);
     }
     let (word, rest) = cut_word(line);
-    let Some(kind) = kind_of(word) else {
-        return Ok(None);
-    };
-    let words = words_of(alloc, rest)?;
-    Ok(Some(asked_of(alloc, kind, &words)?))
+    match kind_of(word) {
+        Some(kind) => Ok(Some(asked_of(alloc, kind, rest)?)),
+        None => Ok(None),
+    }
 }

@@ -10,7 +10,8 @@ use Rattle.cq_board.specs.Pool.{PoolRecord}
 use Rattle.cq_render.specs.Explain.{state_of}
 use Rattle.cq_report.specs.Lines.{lines_of}
 use Rattle.cq_report.specs.Reading.{Reading}
-use Rattle.cq_report.specs.Output.{AreReadings, pool_left}
+use Rattle.cq_report.specs.Machine.{ServingRecord, shown}
+use Rattle.cq_report.specs.Output.{AreReadings, floor_left, pool_left}
 use Rattle.cq_cli.specs.Explained.{absent_line, absent_lines, absent_names}
 
 lines-append : (xs ys : List (List ℕ)) → flat_map absent_line (xs ++ ys) ≡ flat_map absent_line xs ++ flat_map absent_line ys
@@ -42,14 +43,20 @@ told_nothing None = tt
 told_nothing (Some bytes) = sym (append-nil bytes)
 
 -- what was reported about the board that a script leaves, however its lines are read
-pub read_absent : (left : Option (List ℕ)) (board script : PoolRecord) (names : List (List ℕ)) (before after : Option (List ℕ)) → board ≡ script → IfSome left (λ input. (readings : List Reading) → AreReadings (lines_of input) readings → script ≡ pool_left readings)
+pub read_absent : (left : Option (List ℕ)) (board : PoolRecord) (script : ServingRecord) (names : List (List ℕ)) (before after : Option (List ℕ)) → board ≡ shown script → IfSome left (λ input. (readings : List Reading) → AreReadings (lines_of input) readings → script ≡ floor_left readings)
     → Appends before after (absent_lines board names) → IfSome left (λ input. (readings : List Reading) → AreReadings (lines_of input) readings → Appends before after (absent_lines (pool_left readings) names))
 read_absent None board script names before after is reads taken = tt
 read_absent (Some input) board script names before after is reads taken =
-    λ readings are. subst (λ (pool : PoolRecord). Appends before after (absent_lines pool names)) (is ∙ reads readings are) taken
+    λ readings are. subst (λ (pool : PoolRecord). Appends before after (absent_lines pool names)) (is ∙ ap shown (reads readings are)) taken
 
 -- the same of anything that is said of that board
-pub read_over : (left : Option (List ℕ)) (board script : PoolRecord) (Says : PoolRecord → Type 0) → board ≡ script → IfSome left (λ input. (readings : List Reading) → AreReadings (lines_of input) readings → script ≡ pool_left readings)
+pub read_over : (left : Option (List ℕ)) (board : PoolRecord) (script : ServingRecord) (Says : PoolRecord → Type 0) → board ≡ shown script → IfSome left (λ input. (readings : List Reading) → AreReadings (lines_of input) readings → script ≡ floor_left readings)
     → Says board → IfSome left (λ input. (readings : List Reading) → AreReadings (lines_of input) readings → Says (pool_left readings))
 read_over None board script Says is reads said = tt
-read_over (Some input) board script Says is reads said = λ readings are. subst Says (is ∙ reads readings are) said
+read_over (Some input) board script Says is reads said = λ readings are. subst Says (is ∙ ap shown (reads readings are)) said
+
+-- and of anything that is said of the floor that it leaves
+pub floor_over : (left : Option (List ℕ)) (script : ServingRecord) (Says : ServingRecord → Type 0) → IfSome left (λ input. (readings : List Reading) → AreReadings (lines_of input) readings → script ≡ floor_left readings)
+    → Says script → IfSome left (λ input. (readings : List Reading) → AreReadings (lines_of input) readings → Says (floor_left readings))
+floor_over None script Says reads said = tt
+floor_over (Some input) script Says reads said = λ readings are. subst Says (reads readings are) said

@@ -1,4 +1,2 @@
 mod Absent
-pub mod Splitting
-pub mod Chosen
 pub mod Telling

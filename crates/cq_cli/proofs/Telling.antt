@@ -15,7 +15,8 @@ use Rattle.cq_devices.specs.declared.fault.WholeFault.TheVariants as reads
 use Rattle.cq_devices.specs.Device.{FailedAtTurn, IfAtTurn, IsAtTurn}
 use Rattle.cq_report.specs.Lines.{lines_of}
 use Rattle.cq_report.specs.Reading.{Reading}
-use Rattle.cq_report.specs.Output.{AreReadings, pool_left}
+use Rattle.cq_report.specs.Machine.{ServingRecord, shown}
+use Rattle.cq_report.specs.Output.{AreReadings, floor_left, pool_left}
 use Rattle.cq_cli.specs.declared.choices.ChoiceFault.{ChoiceFault}
 use Rattle.cq_cli.specs.declared.choices.ChoiceFault.TheVariants as choices
 use Rattle.cq_cli.specs.declared.fault.AnswerFault.{AnswerFault}
@@ -28,14 +29,14 @@ use Rattle.cq_cli.specs.Status.{IsRefused, ended, status_of_choices, status_of_l
 use Rattle.cq_cli.specs.Devices.{DeviceCounts, EndsRun, LeavesRefused, ReportsFailures, ReportsWriting}
 use Rattle.cq_cli.specs.Rows.{MatchFault, IsOfReader}
 use Rattle.cq_cli.specs.Rows as rows_failures
-use Rattle.cq_cli.specs.Choices.{StandForChoices}
+use Rattle.cq_ask.specs.Choices.{StandForChoices}
 use Rattle.cq_cli.specs.Steps.Answers.{fault_of_answer}
 
 -- what is said of choices on the board is said of them on the pool that the lines leave
-pub said_of_left : (status : Status) (left : Option (List ℕ)) (board : PoolRecord) (choices : List ChoiceRecord) → IfSome left (λ input. (readings : List Reading) → AreReadings (lines_of input) readings → board ≡ pool_left readings)
-    → (status ≡ Done) ↔ IsCoordinating board choices
+pub said_of_left : (status : Status) (left : Option (List ℕ)) (script : ServingRecord) (choices : List ChoiceRecord) → IfSome left (λ input. (readings : List Reading) → AreReadings (lines_of input) readings → script ≡ floor_left readings)
+    → (status ≡ Done) ↔ IsCoordinating (shown script) choices
     → IfSome left (λ input. (readings : List Reading) → AreReadings (lines_of input) readings → (status ≡ Done) ↔ IsCoordinating (pool_left readings) choices)
-said_of_left status left board choices is so = IfSome_then left is (λ input played readings are. subst (λ (pool : PoolRecord). (status ≡ Done) ↔ IsCoordinating pool choices) (played readings are) so)
+said_of_left status left script choices is so = IfSome_then left is (λ input played readings are. subst (λ (floor : ServingRecord). (status ≡ Done) ↔ IsCoordinating (shown floor) choices) (played readings are) so)
 
 -- it ended by a fault of reading the script
 pub read_ends : {X : Type 0} (before after : DeviceCounts) (fault : WholeFault) → IfAtTurn fault (λ turn. FailedAtTurn turn before.reads after.reads before.read_failures after.read_failures) → ((IsAtTurn fault → ⊥) → after.read_failures ≡ before.read_failures)

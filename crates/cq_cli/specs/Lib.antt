@@ -4,5 +4,4 @@ pub mod Rows
 pub mod Sessions
 pub mod Views
 pub mod Explained
-pub mod Choices
 pub mod Steps

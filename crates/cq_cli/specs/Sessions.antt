@@ -3,7 +3,7 @@ use Rattle.std.specs.Prelude.{ℕ, List, Option}
 use Rattle.cq_sessions.specs.declared.fault.SessionsFault.TheVariants as sessions
 use Rattle.cq_sessions.specs.Sessions.{Wrote}
 use Rattle.cq_sessions.specs.Sessions as served
-use Rattle.cq_cli.specs.Choices.{ArePaired}
+use Rattle.cq_ask.specs.Choices.{ArePaired}
 use Rattle.cq_cli.specs.declared.sessions.FilesFault.{FilesFault}
 use Rattle.cq_cli.specs.declared.sessions.FilesFault.TheVariants.{NoFile, TooMany, File, Run}
 

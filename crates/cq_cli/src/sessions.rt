@@ -1,7 +1,7 @@
 //! Files served over one board.
 
 ghost use Rattle.std.specs.Prelude.{◌≡◌, ◌<◌, ◌+◌, ◌^◌, ◌⊎◌, ℕ, List, length, map, Err, IfOk, IfErr, OnOk, MatchResult};
-ghost use Rattle.cq_cli.specs.Choices.{ArePaired};
+ghost use Rattle.cq_ask.specs.Choices.{ArePaired};
 ghost use Rattle.cq_cli.specs.Sessions.{WroteScript, IsOfWriting, IsOfCount, failures_of};
 
 use cq_devices::{Counted, Sink, WholeFault, read_whole};

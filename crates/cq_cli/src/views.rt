@@ -5,14 +5,14 @@ ghost use Rattle.std.specs.Io.KnownBytes.{Appends};
 ghost use Rattle.cq_board.specs.Choice.{IsCoordinating};
 ghost use Rattle.cq_report.specs.Lines.{lines_of};
 ghost use Rattle.cq_report.specs.Reading.{Reading};
-ghost use Rattle.cq_report.specs.Output.{AreReadings, pool_left};
+ghost use Rattle.cq_report.specs.Output.{AreReadings, floor_left, pool_left};
 ghost use Rattle.cq_report.specs.Run.{failures_of};
 ghost use Rattle.cq_cli.specs.declared.status.Status.{Status};
 ghost use Rattle.cq_cli.specs.Status.{ended};
 ghost use Rattle.cq_cli.specs.Devices.{counts, EndsRun, HaveRoom, LeavesRefused, ReportsFailures};
 ghost use Rattle.cq_cli.specs.Views.{viewed};
 ghost use Rattle.cq_cli.specs.Steps.Answers.{fault_of_answer};
-ghost use Rattle.cq_cli.specs.Choices.{AreCoordinating, AreNotCoordinating, StandForNone};
+ghost use Rattle.cq_ask.specs.Choices.{AreCoordinating, AreNotCoordinating, StandForNone};
 
 use crate::choices::read_choices;
 use crate::fault::AnswerFault;
@@ -21,7 +21,7 @@ use crate::writing::{tell_fault, write_text};
 use cq_board::{Board, Choice};
 use cq_devices::{Failed, Sink, Source};
 use cq_render::{graph, json};
-use cq_report::{RunFault, read_script};
+use cq_report::{Played, RunFault, read_script};
 use std::alloc::{AllocError, Allocator, Global};
 
 /// What is reported about a board.
@@ -36,14 +36,14 @@ pub(crate) enum View {
 /// What is reported about a board, as one text.
 fn text_of<A: Allocator + Copy>(
     heap: A,
-    board: &Board<A>,
+    script: &Played<A>,
     view: View,
 ) -> Result<String<A>, AllocError>
-    ensures { IfOk result (λ text. string_bytes text ≡ viewed view board.now) }
+    ensures { IfOk result (λ text. string_bytes text ≡ viewed view script.now) }
 {
     match view {
-        View::Graph => graph(heap, board),
-        View::Json => json(heap, board),
+        View::Graph => graph(heap, script.board()),
+        View::Json => json(heap, script.entries(), script.board()),
     }
 }
 
@@ -61,19 +61,19 @@ fn put<W: Sink, A: Allocator>(
     Ok(())
 }
 
-/// Tells of the board what is asked of it.
+/// Tells of the board that the script leaves what is asked of it.
 fn write_view<A: Allocator + Copy, W: Sink>(
     heap: A,
-    board: &Board<A>,
+    script: &Played<A>,
     view: View,
     sink: &mut W,
 ) -> Result<Status, AnswerFault>
     requires { W.write_failures sink.old < 2 ^ 62 }
-    ensures ok { OnOk result (Appends (W.taken sink.old) (W.taken sink.new) (viewed view board.now)) }
+    ensures ok { OnOk result (Appends (W.taken sink.old) (W.taken sink.new) (viewed view script.now)) }
     ensures done { IfOk result (λ status. status ≡ Status.Done) }
     ensures failures { MatchResult result (λ _. W.write_failures sink.new ≡ W.write_failures sink.old) (λ fault. W.write_failures sink.new ≡ W.write_failures sink.old + failures_of (fault_of_answer fault)) }
 {
-    put(sink, text_of(heap, board, view))?;
+    put(sink, text_of(heap, script, view))?;
     Ok(Status::Done)
 }
 
@@ -125,12 +125,12 @@ fn show_view<A: Allocator + Copy, R: Source, W: Sink>(
     sink: &mut W,
 ) -> Result<Status, RunFault>
     requires devices { HaveRoom (counts R.reads_made R.failures_met W.write_failures source.old sink.old) }
-    ensures told { OnOk result (IfSome (R.left source.old) (λ input. (readings : List Reading) → AreReadings (lines_of input) readings → Appends (W.taken sink.old) (W.taken sink.new) (viewed view (pool_left readings)))) }
+    ensures told { OnOk result (IfSome (R.left source.old) (λ input. (readings : List Reading) → AreReadings (lines_of input) readings → Appends (W.taken sink.old) (W.taken sink.new) (viewed view (floor_left readings)))) }
     ensures done { IfOk result (λ status. status ≡ Status.Done) }
     ensures failures { EndsRun (counts R.reads_made R.failures_met W.write_failures source.old sink.old) (counts R.reads_made R.failures_met W.write_failures source.new sink.new) result }
 {
     let script = read_script(heap, source)?;
-    Ok(write_view(heap, script.board(), view, sink)?)
+    Ok(write_view(heap, &script, view, sink)?)
 }
 
 /// Reads the script that the source gives, and says whether the choices coordinate on the board that it leaves.
@@ -162,7 +162,7 @@ pub(crate) fn answer_view<A: Allocator + Copy, R: Source, W: Sink, E: Sink>(
 ) -> Status
     requires devices { HaveRoom (counts R.reads_made R.failures_met W.write_failures source.old sink.old) }
     requires errors { E.write_failures errors.old < 2 ^ 62 }
-    ensures told { result ≡ Status.Done → IfSome (R.left source.old) (λ input. (readings : List Reading) → AreReadings (lines_of input) readings → Appends (W.taken sink.old) (W.taken sink.new) (viewed view (pool_left readings))) }
+    ensures told { result ≡ Status.Done → IfSome (R.left source.old) (λ input. (readings : List Reading) → AreReadings (lines_of input) readings → Appends (W.taken sink.old) (W.taken sink.new) (viewed view (floor_left readings))) }
     ensures failures { ReportsFailures (counts R.reads_made R.failures_met W.write_failures source.old sink.old) (counts R.reads_made R.failures_met W.write_failures source.new sink.new) result }
     ensures refused { LeavesRefused source.old source.new sink.old sink.new result }
 {

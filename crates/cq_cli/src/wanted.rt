@@ -12,13 +12,13 @@ const VERSION: &str = "0.7.0";
 const ABOUT: &str = "A live coordination board for entangled queries.";
 
 const BEHIND: &str = "Commands of a script:
-  relation, limits, post, withdraw, insert, delete, publish, show
+  board, relation, limits, post, withdraw, insert, delete, publish, show
   `board replay --help` has a line on each.
 
 Exit status:
   0  done: refused lines of a script included, and help and version
   1  standard input or standard output failed, or a file or a thread of sessions
-  2  words that are no command, a bad relation name, a bad arity, too many files
+  2  words that are no command, a bad relation name, a bad arity, too many files, a bad choice
   3  out of memory
   4  a record of CSV at fault; then nothing is written to standard output
   5  a choice that does not coordinate, or a name under which no query is pending
@@ -60,8 +60,8 @@ const BEHIND_LIVE: &str =
 drive a board over two pipes.
 
 Beside these, a line may ask about the published board: `count`, `status NAME..`, `query NAME`, `explain [NAME..]`,
-`near NAME POST`, `changes`, `graph`, `json`. The line `help` lists them. An answer of several lines ends with `end`. `quit`
-ends the board, as the end of the input does.
+`near NAME POST`, `choice CHOICE..`, `changes`, `graph`, `json`. The line `help` lists them. An answer of several lines
+ends with `end`. `quit` ends the board, as the end of the input does.
 
 A line that needs more memory than there is, or than --memory allows, is answered `refused Memory`. It changes nothing, and the
 board goes on.

@@ -1,10 +1,12 @@
 -- The board of a pool as JSON. (this project's profile)
-use Rattle.std.specs.Prelude.{ℕ, nat_le, unsigned_abs, List, [], ◌∷◌, length, map, codes, decimal, if◌then◌else◌}
+use Rattle.std.specs.Prelude.{ℕ, nat_le, unsigned_abs, List, [], ◌∷◌, ◌++◌, length, map, codes, decimal, if◌then◌else◌}
 use Rattle.std.specs.Fmt.{signed_decimal}
 use Rattle.std.specs.List.{enumerate_from}
 use Rattle.json.specs.Json.{Json, boolean, number, string, array, object, Items, no_items, item, Members, no_members, member}
 use Rattle.cq_atom.specs.declared.value.Content.TheVariants.{Number, Text}
+use Rattle.cq_atom.specs.declared.term.TermKind.TheVariants.{Constant, Variable}
 use Rattle.cq_atom.specs.Value.{ValueContent}
+use Rattle.cq_atom.specs.Atom.{TermContent, AtomRecord}
 use Rattle.cq_atom.specs.Query.{QueryRecord, variables_of}
 use Rattle.cq_text.specs.Print.{printed_query}
 use Rattle.cq_rel.specs.Tables.{Declaration, TablesRecord, rows_in}
@@ -42,6 +44,23 @@ abbrev pub value_json : ValueContent → Json
 value_json (Number n) = if nat_le (unsigned_abs n) most_kept then number (signed_decimal n) else string (signed_decimal n)
 value_json (Text text) = string text
 
+-- What a constant is.
+abbrev pub constant_word : ValueContent → List ℕ
+constant_word (Number n) = codes "number"
+constant_word (Text text) = codes "text"
+
+-- A term: a variable, or a constant by what it is.
+abbrev pub term_json : TermContent → Json
+term_json (Variable name) = object_of ((codes "variable", string name) ∷ [])
+term_json (Constant value) = object_of ((constant_word value, value_json value) ∷ [])
+
+-- An atom: its relation, and its terms.
+abbrev pub atom_members : AtomRecord → List (List ℕ × Json)
+atom_members atom = (codes "relation", string atom.relation) ∷ (codes "terms", array_of (map term_json atom.terms)) ∷ []
+
+abbrev pub atom_json : AtomRecord → Json
+atom_json atom = object_of (atom_members atom)
+
 -- A declared relation: its arity, and how many rows it has.
 abbrev pub relation_json : TablesRecord → Declaration → Json
 relation_json tables declared =
@@ -51,32 +70,36 @@ relation_json tables declared =
 abbrev pub provider_json : List PendingQuery → Edge → Json
 provider_json pending edge = object_of ((codes "query", string (name_or_none (name_at pending edge.provider))) ∷ (codes "head", count edge.head) ∷ [])
 
--- A postcondition, by the edges to it: its providers, and whether they are a crowd.
-abbrev pub post_json : List PendingQuery → List Edge → Json
-post_json pending edges = object_of ((codes "providers", array_of (map (provider_json pending) edges)) ∷ (codes "crowded", boolean (is_crowd (length edges))) ∷ [])
+-- A postcondition, with the edges to it: the atom, its providers, and whether they are a crowd.
+abbrev pub post_json : List PendingQuery → AtomRecord → List Edge → Json
+post_json pending post edges =
+    object_of (atom_members post ++ (codes "providers", array_of (map (provider_json pending) edges)) ∷ (codes "crowded", boolean (is_crowd (length edges))) ∷ [])
 
 -- The postconditions of a query, in order.
 abbrev pub posts_json : List PendingQuery → ℕ → QueryRecord → Json
-posts_json pending waiter query = array_of (map (λ post. post_json pending (edges_to waiter post.0 (edges_of pending))) (enumerate_from 0 query.posts))
+posts_json pending waiter query = array_of (map (λ post. post_json pending post.1 (edges_to waiter post.0 (edges_of pending))) (enumerate_from 0 query.posts))
 
 -- A grounding: the values of the variables.
 abbrev pub grounding_json : List ValueContent → Json
 grounding_json values = array_of (map value_json values)
 
--- A pending query at its place: its name, whether it is matched, its printed form, its postconditions, the variables of its body by their first occurrence, and its groundings.
+-- A pending query at its place: its name, whether it is matched, its printed form, its heads, its postconditions, its body, the variables of its body by their first occurrence, and its groundings.
 abbrev pub query_json : PoolRecord → ℕ × PendingQuery → Json
 query_json pool (place, posted) = object_of (
     (codes "name", string posted.name)
     ∷ (codes "state", string (state_word (is_matched_at pool place)))
     ∷ (codes "text", string (printed_query posted.query))
+    ∷ (codes "heads", array_of (map atom_json posted.query.heads))
     ∷ (codes "postconditions", posts_json pool.pending place posted.query)
+    ∷ (codes "body", array_of (map atom_json posted.query.body))
     ∷ (codes "variables", array_of (map string (variables_of posted.query.body)))
     ∷ (codes "groundings", array_of (map grounding_json (groundings_of posted.query.body pool.tables.rows)))
     ∷ [])
 
--- The relations in order of declaration, and the pending queries in posting order.
-abbrev pub json_of : PoolRecord → Json
-json_of pool = object_of (
-    (codes "relations", array_of (map (relation_json pool.tables) pool.tables.catalog))
+-- How many entries of the journal it is of, the relations in order of declaration, and the pending queries in posting order.
+abbrev pub json_of : ℕ → PoolRecord → Json
+json_of entries pool = object_of (
+    (codes "entries", count entries)
+    ∷ (codes "relations", array_of (map (relation_json pool.tables) pool.tables.catalog))
     ∷ (codes "queries", array_of (map (query_json pool) (enumerate_from 0 pool.pending)))
     ∷ [])

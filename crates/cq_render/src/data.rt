@@ -7,24 +7,137 @@ ghost use Rattle.json.specs.Json as values;
 ghost use Rattle.json.specs.Token.{begin_object, end_object, key, string};
 ghost use Rattle.json.specs.Tree.{json_tokens};
 ghost use Rattle.cq_atom.specs.declared.value.Content.TheVariants.{Number};
+ghost use Rattle.cq_atom.specs.declared.term.TermKind.TheVariants.{Constant, Variable};
 ghost use Rattle.cq_atom.specs.Query.{variables_of};
 ghost use Rattle.cq_text.specs.Print.{printed_query};
 ghost use Rattle.cq_rel.specs.Tables.{declaration};
 ghost use Rattle.cq_render.specs.Report.{state_word};
-ghost use Rattle.cq_render.specs.Json.{array_of, value_json, relation_json, provider_json, post_json, posts_json, grounding_json, query_json, json_of};
+ghost use Rattle.cq_render.specs.Json.{array_of, value_json, constant_word, term_json, atom_json, relation_json, provider_json, post_json, posts_json, grounding_json, query_json, json_of};
 ghost use Rattle.cq_render.specs.Steps.Walking.{shown_json, shown_read};
 
 use crate::json_text::JsonText;
 use crate::limits::MOST_KEPT;
 use crate::walking::{Listing, Shown, name_or_none, providers, walk};
 use crate::words::{row_count, state_word};
-use cq_atom::{Edge, Query, Value};
+use cq_atom::{Atom, Edge, Query, Term, Value};
 use cq_board::Board;
 use cq_ground::Groundings;
 use cq_match::is_crowd;
 use cq_rel::Tables;
 use cq_text::print_query;
 use std::alloc::{AllocError, Allocator};
+
+fn put_number<A: Allocator>(sheet: &mut JsonText<A>, number: i64) -> Result<(), AllocError>
+    ensures { OnOk result (sheet.new ≡ sheet.old ++ json_tokens (value_json (Number number))) }
+{
+    if number.unsigned_abs() <= MOST_KEPT {
+        sheet.number(number)
+    } else {
+        sheet.quoted_number(number)
+    }
+}
+
+fn put_value<A: Allocator>(sheet: &mut JsonText<A>, value: &Value<A>) -> Result<(), AllocError>
+    ensures { OnOk result (sheet.new ≡ sheet.old ++ json_tokens (value_json value.now)) }
+{
+    if let Some(number) = value.as_num() {
+        return put_number(sheet, number);
+    }
+    match value.as_text() {
+        Some(text) => sheet.string(text),
+        None => unreachable!(),
+    }
+}
+
+fn put_variable<A: Allocator>(sheet: &mut JsonText<A>, name: &str) -> Result<(), AllocError>
+    ensures { OnOk result (sheet.new ≡ sheet.old ++ json_tokens (term_json (Variable name.now))) }
+{
+    sheet.begin_object()?;
+    sheet.text_member("variable", name)?;
+    sheet.end_object()
+}
+
+fn constant_word<A: Allocator>(value: &Value<A>) -> &'static str
+    ensures { result.now ≡ constant_word value.now }
+{
+    if value.as_num().is_some() {
+        "number"
+    } else {
+        "text"
+    }
+}
+
+fn put_constant<A: Allocator>(sheet: &mut JsonText<A>, value: &Value<A>) -> Result<(), AllocError>
+    ensures { OnOk result (sheet.new ≡ sheet.old ++ json_tokens (term_json (Constant value.now))) }
+{
+    sheet.begin_object()?;
+    sheet.key(constant_word(value))?;
+    put_value(sheet, value)?;
+    sheet.end_object()
+}
+
+fn put_term<A: Allocator>(sheet: &mut JsonText<A>, term: &Term<A>) -> Result<(), AllocError>
+    ensures { OnOk result (sheet.new ≡ sheet.old ++ json_tokens (term_json term.now)) }
+{
+    if let Some(name) = term.as_variable() {
+        return put_variable(sheet, name);
+    }
+    match term.as_constant() {
+        Some(value) => put_constant(sheet, value),
+        None => unreachable!(),
+    }
+}
+
+/// Puts the terms of an atom.
+fn put_terms<A: Allocator>(sheet: &mut JsonText<A>, terms: &[Term<A>]) -> Result<(), AllocError>
+    ensures { OnOk result (sheet.new ≡ sheet.old ++ json_tokens (array_of (map term_json terms.now))) }
+{
+    sheet.begin_array()?;
+    for term in terms {
+        put_term(sheet, term)?;
+    }
+    sheet.end_array()
+}
+
+/// Puts the beginning of an object: the members that an atom has.
+fn begin_atom<A: Allocator>(sheet: &mut JsonText<A>, atom: &Atom<A>) -> Result<(), AllocError>
+    ensures { OnOk result (sheet.new ≡ sheet.old ++ begin_object ∷ key (codes "relation") ∷ string atom.now.relation ∷ key (codes "terms") ∷ json_tokens (array_of (map term_json atom.now.terms))) }
+{
+    sheet.begin_object()?;
+    sheet.text_member("relation", atom.relation())?;
+    sheet.key("terms")?;
+    put_terms(sheet, atom.terms())
+}
+
+fn put_atom<A: Allocator>(sheet: &mut JsonText<A>, atom: &Atom<A>) -> Result<(), AllocError>
+    ensures { OnOk result (sheet.new ≡ sheet.old ++ json_tokens (atom_json atom.now)) }
+{
+    begin_atom(sheet, atom)?;
+    sheet.end_object()
+}
+
+/// Puts each of the atoms.
+fn put_each_atom<A: Allocator>(sheet: &mut JsonText<A>, atoms: &[Atom<A>]) -> Result<(), AllocError>
+    ensures { OnOk result (sheet.new ≡ sheet.old ++ json_tokens (array_of (map atom_json atoms.now))) }
+{
+    sheet.begin_array()?;
+    for atom in atoms {
+        put_atom(sheet, atom)?;
+    }
+    sheet.end_array()
+}
+
+/// Puts a member that is a list of atoms.
+fn put_atoms<A: Allocator>(
+    sheet: &mut JsonText<A>,
+    name: &str,
+    atoms: &[Atom<A>],
+) -> Result<(), AllocError>
+    ensures { OnOk result (sheet.new ≡ sheet.old ++ key name.now ∷ json_tokens (array_of (map atom_json atoms.now))) }
+{
+    sheet.key(name)?;
+    put_each_atom(sheet, atoms)
+}
 
 fn put_relation<A: Allocator>(
     sheet: &mut JsonText<A>,
@@ -93,11 +206,12 @@ fn put_providers<A: Allocator>(
 fn put_post<A: Allocator>(
     sheet: &mut JsonText<A>,
     listing: &Listing<'_, A>,
+    post: &Atom<A>,
     providers: &[Edge],
 ) -> Result<(), AllocError>
-    ensures { OnOk result (sheet.new ≡ sheet.old ++ json_tokens (post_json listing.now.board.now.pending providers.now)) }
+    ensures { OnOk result (sheet.new ≡ sheet.old ++ json_tokens (post_json listing.now.board.now.pending post.now providers.now)) }
 {
-    sheet.begin_object()?;
+    begin_atom(sheet, post)?;
     sheet.key("providers")?;
     put_providers(sheet, listing, providers)?;
     sheet.key("crowded")?;
@@ -114,8 +228,9 @@ fn put_posts<A: Allocator>(
     ensures { OnOk result (sheet.new ≡ sheet.old ++ json_tokens (posts_json listing.now.board.now.pending shown.now.number shown.now.query.now)) }
 {
     sheet.begin_array()?;
-    for post in 0..shown.query.posts().len() {
-        put_post(sheet, listing, providers(listing, shown.number, post))?;
+    for (place, post) in shown.query.posts().iter().enumerate() {
+        let providers = providers(listing, shown.number, place);
+        put_post(sheet, listing, post, providers)?;
     }
     sheet.end_array()
 }
@@ -132,28 +247,6 @@ fn put_variables<A: Allocator>(
         sheet.string(variable.as_str())?;
     }
     sheet.end_array()
-}
-
-fn put_number<A: Allocator>(sheet: &mut JsonText<A>, number: i64) -> Result<(), AllocError>
-    ensures { OnOk result (sheet.new ≡ sheet.old ++ json_tokens (value_json (Number number))) }
-{
-    if number.unsigned_abs() <= MOST_KEPT {
-        sheet.number(number)
-    } else {
-        sheet.quoted_number(number)
-    }
-}
-
-fn put_value<A: Allocator>(sheet: &mut JsonText<A>, value: &Value<A>) -> Result<(), AllocError>
-    ensures { OnOk result (sheet.new ≡ sheet.old ++ json_tokens (value_json value.now)) }
-{
-    if let Some(number) = value.as_num() {
-        return put_number(sheet, number);
-    }
-    match value.as_text() {
-        Some(text) => sheet.string(text),
-        None => unreachable!(),
-    }
 }
 
 /// Puts the values of a grounding.
@@ -224,8 +317,10 @@ fn put_query<A: Allocator + Copy>(
 {
     let name = shown.name.as_str();
     put_heading(alloc, sheet, name, shown.matched, shown.query)?;
+    put_atoms(sheet, "heads", shown.query.heads())?;
     sheet.key("postconditions")?;
     put_posts(sheet, listing, shown)?;
+    put_atoms(sheet, "body", shown.query.body())?;
     put_grounded(sheet, shown.query, shown.groundings)
 }
 
@@ -256,15 +351,17 @@ fn put_queries<A: Allocator + Copy>(
     put_each(alloc, sheet, &listing)
 }
 
-/// Puts a board.
+/// Puts a board of so many entries.
 fn put_board<A: Allocator + Copy>(
     alloc: A,
     sheet: &mut JsonText<A>,
+    entries: u64,
     board: &Board<A>,
 ) -> Result<(), AllocError>
-    ensures { OnOk result (sheet.new ≡ sheet.old ++ json_tokens (json_of board.now)) }
+    ensures { OnOk result (sheet.new ≡ sheet.old ++ json_tokens (json_of entries board.now)) }
 {
     sheet.begin_object()?;
+    sheet.entries_member(entries)?;
     sheet.key("relations")?;
     put_relations(sheet, board.tables())?;
     sheet.key("queries")?;
@@ -272,14 +369,19 @@ fn put_board<A: Allocator + Copy>(
     sheet.end_object()
 }
 
-/// The board as JSON, without spaces and ends of lines: what its report tells, as data. It has the report's time.
+/// The board as JSON, without spaces and ends of lines: what its report tells, as data, the atoms of its queries in their parts,
+/// and how many entries of a journal it is of, which the caller says. It has the report's time.
 ///
 /// # Errors
 /// `AllocError` where an allocation failed.
-pub fn json<A: Allocator + Copy>(alloc: A, board: &Board<A>) -> Result<String<A>, AllocError>
-    ensures { IfOk result (λ text. string_bytes text ≡ print (json_tokens (json_of board.now))) }
+pub fn json<A: Allocator + Copy>(
+    alloc: A,
+    entries: u64,
+    board: &Board<A>,
+) -> Result<String<A>, AllocError>
+    ensures { IfOk result (λ text. string_bytes text ≡ print (json_tokens (json_of entries board.now))) }
 {
     let mut sheet = JsonText::begin(alloc);
-    put_board(alloc, &mut sheet, board)?;
+    put_board(alloc, &mut sheet, entries, board)?;
     Ok(sheet.into_text())
 }

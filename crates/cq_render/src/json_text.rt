@@ -1,6 +1,6 @@
 //! JSON that is written token by token.
 
-ghost use Rattle.std.specs.Prelude.{◌≡◌, ◌++◌, ◌∷◌, [], decimal, string_bytes, IfOk, OnOk};
+ghost use Rattle.std.specs.Prelude.{◌≡◌, ◌++◌, ◌∷◌, [], codes, decimal, string_bytes, IfOk, OnOk};
 ghost use Rattle.std.specs.Fmt.{signed_decimal};
 ghost use Rattle.json.specs.Print.{print};
 ghost use Rattle.json.specs.Token.{begin_object, end_object, begin_array, end_array, key, string, number, boolean};
@@ -90,6 +90,14 @@ impl<A: Allocator> JsonText<A> {
         ensures { OnOk result (self.new ≡ self.old ++ number (decimal count) ∷ []) }
     {
         self.writer.u64(count as u64)
+    }
+
+    /// Puts a member that says how many entries.
+    pub(crate) fn entries_member(&mut self, entries: u64) -> Result<(), AllocError>
+        ensures { OnOk result (self.new ≡ self.old ++ key (codes "entries") ∷ number (decimal entries) ∷ []) }
+    {
+        self.key("entries")?;
+        self.writer.u64(entries)
     }
 
     pub(crate) fn number(&mut self, n: i64) -> Result<(), AllocError>

@@ -12,8 +12,8 @@ use Rattle.cq_report.specs.declared.numbering.Numbering.{Numbering}
 use Rattle.cq_report.specs.declared.numbering.Numbering.TheVariants.{Plain}
 use Rattle.cq_report.specs.Lines.{lines_of, whole_lines}
 use Rattle.cq_report.specs.Reading.{Reading}
-use Rattle.cq_report.specs.Machine.{State, begin_state, pool_shown}
-use Rattle.cq_report.specs.Output.{AreReadings, output, pool_left}
+use Rattle.cq_report.specs.Machine.{State, begin_state, serving_of}
+use Rattle.cq_report.specs.Output.{AreReadings, output, floor_left}
 use Rattle.cq_report.specs.Steps.Replies.{fault_of_reply}
 use Rattle.cq_report.specs.Steps.Written.{Passes}
 use Rattle.cq_report.specs.Run.{IfRead, WroteWholeLines, WroteFront}
@@ -55,12 +55,12 @@ module _ {W A : Type 0} (taken : W → Option (List ℕ)) (failures : W → ℕ)
       let r = subst (λ (s : State). Replayed taken failures s state left left' first now) begins r0 in
       Consumes-whole left left' r.bytes (λ input. (rs : List Reading) × AreReadings (lines_of input) rs) r.read r.at_end (r.finished.readings, r.finished.are)
 
-  -- all was read, and the pool that is shown is the one after it
-  pub Replayed-left : (state : State) → opening ≡ begin_state Plain → Replayed taken failures opening state left left' first now → IfSome left (λ input. (rs : List Reading) → AreReadings (lines_of input) rs → pool_shown state ≡ pool_left rs)
+  -- all was read, and the floor is the one after it
+  pub Replayed-left : (state : State) → opening ≡ begin_state Plain → Replayed taken failures opening state left left' first now → IfSome left (λ input. (rs : List Reading) → AreReadings (lines_of input) rs → serving_of state.stage ≡ floor_left rs)
   Replayed-left state begins r0 =
       let r = subst (λ (s : State). Replayed taken failures s state left left' first now) begins r0 in
-      Consumes-whole left left' r.bytes (λ input. (rs : List Reading) → AreReadings (lines_of input) rs → pool_shown state ≡ pool_left rs) r.read r.at_end
-      (λ rs h. ap pool_shown (r.finished.all rs h).0)
+      Consumes-whole left left' r.bytes (λ input. (rs : List Reading) → AreReadings (lines_of input) rs → serving_of state.stage ≡ floor_left rs) r.read r.at_end
+      (λ rs h. ap (λ (s : State). serving_of s.stage) (r.finished.all rs h).0)
 
   -- the whole lines were answered
   pub BrokeOff-wrote : (t t' : Option (List ℕ)) → opening ≡ begin_state numbering → first.held.now.items ≡ [] → taken first.sink.now ≡ t → taken now.sink.now ≡ t' → BrokeOff taken failures opening left left' first now → WroteWholeLines numbering left left' t t'

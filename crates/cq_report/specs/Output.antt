@@ -5,7 +5,7 @@ use Rattle.cq_board.specs.Pool.{PoolRecord}
 use Rattle.cq_report.specs.declared.numbering.Numbering.{Numbering}
 use Rattle.cq_report.specs.declared.numbering.Numbering.TheVariants.{Plain}
 use Rattle.cq_report.specs.Reading.{Reading, IsReading}
-use Rattle.cq_report.specs.Machine.{State, begin_state, form_of, headed, next, reply, pool_shown}
+use Rattle.cq_report.specs.Machine.{State, ServingRecord, begin_state, form_of, headed, next, reply, serving_of, shown}
 
 -- Each line has its reading, in the form that is settled before it.
 abbrev pub AreReadFrom : Option Form → List (List ℕ) → List Reading → Type 0
@@ -32,6 +32,10 @@ output_from state (reading ∷ readings) = reply state reading ++ output_from (n
 abbrev pub output : Numbering → List Reading → List ℕ
 output numbering readings = output_from (begin_state numbering) readings
 
--- The pool that a look would show after lines that are read so.
+-- The floor that lines leave which are read so: where they end no setup, the one that it opens.
+abbrev pub floor_left : List Reading → ServingRecord
+floor_left readings = serving_of (state_after (begin_state Plain) readings).stage
+
+-- The pool that a look would show after them.
 abbrev pub pool_left : List Reading → PoolRecord
-pool_left readings = pool_shown (state_after (begin_state Plain) readings)
+pool_left readings = shown (floor_left readings)

@@ -3,8 +3,9 @@
 ghost use Rattle.std.specs.Prelude.{◌≡◌, ◌<◌, ◌≤◌, ◌+◌, ◌^◌, List, OnOk, IfOk, IfErr, IfSome, MatchResult};
 ghost use Rattle.cq_devices.specs.Device.{FailedAtTurn, IfAtTurn, IsAtTurn};
 ghost use Rattle.cq_report.specs.Lines.{lines_of};
+ghost use Rattle.cq_report.specs.Machine.{shown};
 ghost use Rattle.cq_report.specs.Reading.{Reading};
-ghost use Rattle.cq_report.specs.Output.{AreReadings, pool_left};
+ghost use Rattle.cq_report.specs.Output.{AreReadings, floor_left};
 ghost use Rattle.cq_report.specs.Run.{fault_of_reading, failures_of};
 ghost use Rattle.cq_report.specs.Steps.Playing.{IsPlayed};
 
@@ -21,27 +22,33 @@ use std::alloc::Allocator;
 use std::marker::Model;
 use std::mem;
 
-/// A script that was served to its end. Contracts see the pool that a `show` after its last line would print.
+/// A script that was served to its end. Contracts see the floor that its lines leave.
 #[derive(Drop)]
 pub struct Played<A: Allocator + Copy> {
     floor: BoardFloor<A>,
 }
 
 impl<A: Allocator + Copy> Model for Played<A> {
-    ghost use Rattle.cq_board.specs.Pool.{PoolRecord};
-    ghost use Rattle.cq_report.specs.Machine.{shown};
+    ghost use Rattle.cq_report.specs.Machine.{ServingRecord};
 
-    ghost Value = { PoolRecord };
+    ghost Value = { ServingRecord };
 
-    ghost view = { λ p. shown p.floor };
+    ghost view = { λ p. p.floor };
 }
 
 impl<A: Allocator + Copy> Played<A> {
     /// The board that is published after the script: what was entered after the last publish is not on it.
     pub fn board(&self) -> &Board<A>
-        ensures { result.now ≡ self.now }
+        ensures { result.now ≡ shown self.now }
     {
         self.floor.board()
+    }
+
+    /// How many entries of the journal that board is of.
+    pub fn entries(&self) -> u64
+        ensures { result ≡ self.now.machine.published }
+    {
+        self.floor.published_count()
     }
 }
 
@@ -92,8 +99,8 @@ pub fn read_script<A: Allocator + Copy, R: Source>(
     requires reads { R.reads_made reader.old < 2 ^ 62 }
     requires failures { R.failures_met reader.old < 2 ^ 62 }
 
-    // Where all went well, the board is the one that the lines leave, however they are read.
-    ensures board { IfOk result (λ played. IfSome (R.left reader.old) (λ input. (readings : List Reading) → AreReadings (lines_of input) readings → played ≡ pool_left readings)) }
+    // Where all went well, the floor is the one that the lines leave, however they are read.
+    ensures board { IfOk result (λ played. IfSome (R.left reader.old) (λ input. (readings : List Reading) → AreReadings (lines_of input) readings → played ≡ floor_left readings)) }
 
     // And they can be read.
     ensures readings { OnOk result (IfSome (R.left reader.old) (λ input. (readings : List Reading) × AreReadings (lines_of input) readings)) }

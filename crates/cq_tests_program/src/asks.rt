@@ -53,8 +53,10 @@ end
     ),
     (
         b"json",
-        "{\"relations\":[],\"queries\":[{\"name\":\"a\",\"state\":\"waiting\",\"text\":\"{R(1)} S(2) <-\",\"postconditions\":[{\"providers\":[],\"crowded\":false}],\"variables\":[],\"groundings\":[[]]}]}\n",
+        "{\"entries\":1,\"relations\":[],\"queries\":[{\"name\":\"a\",\"state\":\"waiting\",\"text\":\"{R(1)} S(2) <-\",\"heads\":[{\"relation\":\"S\",\"terms\":[{\"number\":2}]}],\"postconditions\":[{\"relation\":\"R\",\"terms\":[{\"number\":1}],\"providers\":[],\"crowded\":false}],\"body\":[],\"variables\":[],\"groundings\":[[]]}]}\n",
     ),
+    (b"choice a()", "not coordinating\n"),
+    (b"choice a(", "refused Words\n"),
     (b"query a b", "refused Words\n"),
 ];
 

@@ -48,7 +48,7 @@ const GRAPH: &str = "digraph board {
 ";
 
 const JSON: &str =
-    "{\"relations\":[{\"name\":\"T\",\"arity\":1,\"rows\":1}],\"queries\":[{\"name\":\"a\",\"state\":\"waiting\",\"text\":\"{S(2), R(x)} S(x) <- T(x)\",\"postconditions\":[{\"providers\":[{\"query\":\"a\",\"head\":0}],\"crowded\":false},{\"providers\":[],\"crowded\":false}],\"variables\":[\"x\"],\"groundings\":[[1]]}]}";
+    "{\"entries\":2,\"relations\":[{\"name\":\"T\",\"arity\":1,\"rows\":1}],\"queries\":[{\"name\":\"a\",\"state\":\"waiting\",\"text\":\"{S(2), R(x)} S(x) <- T(x)\",\"heads\":[{\"relation\":\"S\",\"terms\":[{\"variable\":\"x\"}]}],\"postconditions\":[{\"relation\":\"S\",\"terms\":[{\"number\":2}],\"providers\":[{\"query\":\"a\",\"head\":0}],\"crowded\":false},{\"relation\":\"R\",\"terms\":[{\"variable\":\"x\"}],\"providers\":[],\"crowded\":false}],\"body\":[{\"relation\":\"T\",\"terms\":[{\"variable\":\"x\"}]}],\"variables\":[\"x\"],\"groundings\":[[1]]}]}";
 
 const EXPLAINED: &str = "a waits
   a: no row for its body
@@ -81,7 +81,7 @@ fn text_of<A: Allocator + Copy>(
     match view {
         View::Report => report(alloc, board),
         View::Graph => graph(alloc, board),
-        View::Json => json(alloc, board),
+        View::Json => json(alloc, 2, board),
         View::Explained => explain(alloc, board),
         View::Named => explain_named(alloc, board, ["c", "no name", "a"].as_slice()),
     }

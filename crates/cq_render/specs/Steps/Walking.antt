@@ -14,7 +14,7 @@ use Rattle.cq_board.specs.Board.{is_matched_at}
 use Rattle.cq_render.specs.declared.walking.Shown.{Shown}
 use Rattle.cq_render.specs.Report.{state_word, name_line, text_line, post_lines, groundings_line, values_line}
 use Rattle.cq_render.specs.Graph.{box, supply}
-use Rattle.cq_render.specs.Json.{object_of, array_of, posts_json, grounding_json}
+use Rattle.cq_render.specs.Json.{object_of, array_of, atom_json, posts_json, grounding_json}
 
 -- A pending query: its number in posting order, its name, whether it is matched, what was posted, and its groundings.
 pub record ShownRecord : Type 0 where
@@ -56,7 +56,9 @@ shown_json pending shown = object_of (
     (codes "name", string shown.name)
     ∷ (codes "state", string (state_word shown.matched))
     ∷ (codes "text", string (printed_query shown.query))
+    ∷ (codes "heads", array_of (map atom_json shown.query.heads))
     ∷ (codes "postconditions", posts_json pending shown.number shown.query)
+    ∷ (codes "body", array_of (map atom_json shown.query.body))
     ∷ (codes "variables", array_of (map string (variables_of shown.query.body)))
     ∷ (codes "groundings", array_of (map grounding_json shown.groundings))
     ∷ [])

@@ -1,7 +1,7 @@
 use Rattle.std.proofs.Common.{Bor, List, ℕ, subst, map}
 use Rattle.std.proofs.lemmas.List.{take_all}
-use Rattle.cq_cli.specs.Choices.{ArePaired}
-use Rattle.cq_cli.proofs.Chosen.{paired-next, paired-length}
+use Rattle.cq_ask.specs.Choices.{ArePaired}
+use Rattle.cq_ask.proofs.CallerLemmas.{paired-length, paired-next}
 use Rattle.cq_cli.proofs.sessions.read_files.Goals as goal
 
 pub loop-path-preserved : goal.loop-path-preserved

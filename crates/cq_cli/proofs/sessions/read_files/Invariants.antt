@@ -1,5 +1,5 @@
 use Rattle.std.proofs.Common.{map, take}
-use Rattle.cq_cli.specs.Choices.{ArePaired}
+use Rattle.cq_ask.specs.Choices.{ArePaired}
 use Rattle.cq_cli.proofs.sessions.read_files.Given as goal
 
 -- the bytes of the files so far
