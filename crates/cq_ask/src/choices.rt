@@ -197,7 +197,10 @@ fn choice_of<A: Allocator + Copy>(alloc: A, word: &[u8]) -> Result<Option<Choice
         return Ok(None);
     };
     match values_of(alloc, inner)? {
-        Some(values) => Ok(Some(Choice { name: named, values })),
+        Some(values) => Ok(Some(Choice {
+            name: named,
+            values,
+        })),
         None => Ok(None),
     }
 }

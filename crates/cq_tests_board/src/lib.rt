@@ -25,4 +25,6 @@ mod scratch;
 #[cfg(test)]
 mod shown;
 #[cfg(test)]
+mod sought;
+#[cfg(test)]
 mod views;

@@ -1,0 +1,121 @@
+-- The offers of a pool: the groundings of its queries.
+use Rattle.std.proofs.Common.{◌≡◌, ℕ, zero, suc, ◌+◌, Bool, true, List, [], ◌∷◌, length, map, refl, sym, ap, subst, ◌∙◌, arith, Option, Some, None}
+use Rattle.std.specs.Prelude.{option_map, nat_lt}
+use Rattle.std.specs.List.{Contains, enumerate_from, position_or_len, slice_get}
+use Rattle.std.proofs.lemmas.Option.{same_Some}
+use Rattle.std.proofs.lemmas.Slice.Eq.{bytes_eq-Decides}
+use Rattle.cq_atom.specs.Value.{ValueContent}
+use Rattle.cq_atom.specs.Query.{QueryRecord}
+use Rattle.cq_ground.specs.Grounding.{IsGrounding, groundings_of}
+use Rattle.cq_ground.proofs.CallerLemmas.{listed-groundings}
+use Rattle.cq_board.specs.Pool.{PendingQuery, PoolRecord, name_of, IsPool}
+use Rattle.cq_board.specs.Edits.{is_named}
+use Rattle.cq_board.specs.Board.{place_of}
+use Rattle.cq_board.specs.Named.{query_named, groundings_named}
+use Rattle.cq_board.specs.Choice.{ChoiceRecord, IsGrounded}
+use Rattle.cq_board.proofs.CallerLemmas.{place_at, query_at, groundings_at}
+use Rattle.cq_choose.specs.Steps.Offers.{OfferRecord, offers_by, offers_at, offers_of, choice_of}
+use Rattle.cq_choose.proofs.Lists.{by_bool, by_option, In, In-Contains, Contains-In, In-map, In-map_gives, In-flat_map, In-flat_map_gives, enumerate-has, enumerate-gives}
+
+mapped-at : {X Y : Type 0} (f : X → Y) (xs : List X) (k : ℕ) (y : Y) → slice_get (map f xs) k ≡ Some y → (x : X) × (slice_get xs k ≡ Some x) × (f x ≡ y)
+mapped-at f [] k y e = cc
+mapped-at f (x ∷ xs) zero y e = (x, refl, same_Some (f x) y e)
+mapped-at f (x ∷ xs) (suc k) y e = mapped-at f xs k y e
+
+pub at-mapped : {X Y : Type 0} (f : X → Y) (xs : List X) (k : ℕ) (x : X) → slice_get xs k ≡ Some x → slice_get (map f xs) k ≡ Some (f x)
+at-mapped f [] k x e = cc
+at-mapped f (y ∷ xs) zero x e = let same : y ≡ x = cc in ap (λ z. Some (f z)) same
+at-mapped f (y ∷ xs) (suc k) x e = at-mapped f xs k x e
+
+-- the element at the first place that passes does
+passes-at : {X : Type 0} (p : X → Bool) (xs : List X) (k : ℕ) (x : X) → position_or_len p xs ≡ k → slice_get xs k ≡ Some x → p x ≡ true
+passes-at p [] k x at got = cc
+passes-at p (y ∷ xs) k x at got =
+    by_bool (p y) (p x ≡ true)
+    (λ t. let first : 0 ≡ k = rw t at at in let same : y ≡ x = same_Some y x (ap (slice_get (y ∷ xs)) first ∙ got) in subst (λ z. p z ≡ true) same t)
+    (λ f. let later : 1 + position_or_len p xs ≡ k = rw f at at in let one : 1 + position_or_len p xs ≡ suc (position_or_len p xs) = omega arith in passes-at p xs (position_or_len p xs) x refl (ap (slice_get (y ∷ xs)) (sym one ∙ later) ∙ got))
+
+-- what is pending under a name
+named-at : (name : List ℕ) (pending : List PendingQuery) (query : QueryRecord) → query_named name pending ≡ Some query
+    → (place : ℕ) × (posted : PendingQuery) × (slice_get pending place ≡ Some posted) × (posted.name ≡ name) × (posted.query ≡ query)
+named-at name pending query e =
+    let k = position_or_len (is_named name) pending in
+    by_bool (nat_lt k (length pending)) ((place : ℕ) × (posted : PendingQuery) × (slice_get pending place ≡ Some posted) × (posted.name ≡ name) × (posted.query ≡ query))
+    (λ t. let found : option_map (λ p. p.query) (slice_get pending k) ≡ Some query = rw t at e in
+    by_option (slice_get pending k) ((place : ℕ) × (posted : PendingQuery) × (slice_get pending place ≡ Some posted) × (posted.name ≡ name) × (posted.query ≡ query))
+    (λ n. absurd (let never : None ≡ Some query = sym (ap (option_map (λ (p : PendingQuery). p.query)) n) ∙ found in cc))
+    (λ posted s. (k, posted, s, sym ((bytes_eq-Decides name posted.name).0 (passes-at (is_named name) pending k posted refl s)), same_Some posted.query query (sym (ap (option_map (λ (p : PendingQuery). p.query)) s) ∙ found))))
+    (λ f. absurd (let never : None ≡ Some query = rw f at e in cc))
+
+-- the offer is of a pending query and of a grounding of it
+pub record IsOfferOf (pool : PoolRecord) (o : OfferRecord) : Type 0 where
+  pub posted : PendingQuery
+  pub here : slice_get pool.pending o.place ≡ Some posted
+  pub name : posted.name ≡ o.name
+  pub query : posted.query ≡ o.query
+  pub grounding : In o.values (groundings_of o.query.body pool.tables.rows)
+
+module _ (pool : PoolRecord) (good : IsPool pool) where
+  abbrev lists_of : QueryRecord → List (List ValueContent)
+  lists_of query = groundings_of query.body pool.tables.rows
+
+  abbrev made : ℕ → List ℕ → QueryRecord → List ValueContent → OfferRecord
+  made place name query values = record { name = name; place = place; query = query; values = values }
+
+  offers-at : (place : ℕ) (posted : PendingQuery) → slice_get pool.pending place ≡ Some posted → offers_at pool place posted.name ≡ map (made place posted.name posted.query) (lists_of posted.query)
+  offers-at place posted here =
+      ap (λ (q : Option QueryRecord). offers_by place posted.name q (groundings_named posted.name pool)) (query_at pool good place posted here)
+      ∙ ap (offers_by place posted.name (Some posted.query)) (groundings_at pool good place posted here)
+
+  pub offers-give : (o : OfferRecord) → In o (offers_of pool) → IsOfferOf pool o
+  offers-give o h =
+      let numbered = In-flat_map_gives (λ (p : ℕ × List ℕ). offers_at pool p.0 p.1) (enumerate_from 0 (map name_of pool.pending)) o h in
+      let p = numbered.0 in
+      let from = enumerate-gives 0 (map name_of pool.pending) p numbered.1 in
+      let found = mapped-at name_of pool.pending from.0 p.1 from.2 in
+      let posted = found.0 in
+      let at : from.0 ≡ p.0 = omega (arith, from.1) in
+      let here : slice_get pool.pending p.0 ≡ Some posted = ap (slice_get pool.pending) (sym at) ∙ found.1 in
+      let listed = subst (λ (l : List OfferRecord). In o l) (ap (offers_at pool p.0) (sym found.2) ∙ offers-at p.0 posted here) numbered.2 in
+      let values = In-map_gives (made p.0 posted.name posted.query) (lists_of posted.query) o listed in
+      subst (IsOfferOf pool) (sym values.2) (record { posted = posted; here = here; name = refl; query = refl; grounding = values.1 })
+
+  pub offers-has : (place : ℕ) (posted : PendingQuery) (values : List ValueContent) → slice_get pool.pending place ≡ Some posted → In values (lists_of posted.query)
+      → In (made place posted.name posted.query values) (offers_of pool)
+  offers-has place posted values here listed =
+      let at : 0 + place ≡ place = omega arith in
+      In-flat_map (λ (p : ℕ × List ℕ). offers_at pool p.0 p.1) (enumerate_from 0 (map name_of pool.pending)) (place, posted.name) (made place posted.name posted.query values)
+      (subst (λ (n : ℕ). In (n, posted.name) (enumerate_from 0 (map name_of pool.pending))) at (enumerate-has 0 (map name_of pool.pending) place posted.name (at-mapped name_of pool.pending place posted here)))
+      (subst (λ (l : List OfferRecord). In (made place posted.name posted.query values) l) (sym (offers-at place posted here)) (In-map (made place posted.name posted.query) (lists_of posted.query) values listed))
+
+  module _ (o : OfferRecord) (is : IsOfferOf pool o) where
+    pub offer-pending : query_named o.name pool.pending ≡ Some o.query
+    offer-pending = ap (λ (n : List ℕ). query_named n pool.pending) (sym is.name) ∙ query_at pool good o.place is.posted is.here ∙ ap Some is.query
+
+    pub offer-place : place_of o.name pool.pending ≡ Some o.place
+    offer-place = ap (λ (n : List ℕ). place_of n pool.pending) (sym is.name) ∙ place_at pool good o.place is.posted is.here
+
+    pub offer-grounded : IsGrounded pool (choice_of o)
+    offer-grounded = record {
+      query = o.query;
+      pending = offer-pending;
+      grounding = ((listed-groundings o.query.body pool.tables.rows).exactly o.values).0 (Contains-In (groundings_of o.query.body pool.tables.rows) o.values is.grounding);
+    }
+
+  -- one name, one place
+  pub one-place : (o p : OfferRecord) → IsOfferOf pool o → IsOfferOf pool p → o.name ≡ p.name → o.place ≡ p.place
+  one-place o p io ip e = same_Some o.place p.place (sym (offer-place o io) ∙ ap (λ (n : List ℕ). place_of n pool.pending) e ∙ offer-place p ip)
+
+  pub one-name : (o p : OfferRecord) → IsOfferOf pool o → IsOfferOf pool p → o.place ≡ p.place → o.name ≡ p.name
+  one-name o p io ip e =
+      let same : io.posted ≡ ip.posted = same_Some io.posted ip.posted (sym io.here ∙ ap (slice_get pool.pending) e ∙ ip.here) in
+      sym io.name ∙ ap name_of same ∙ ip.name
+
+  -- what is grounded is offered
+  pub grounded-offered : (c : ChoiceRecord) → IsGrounded pool c → (o : OfferRecord) × In o (offers_of pool) × (choice_of o ≡ c)
+  grounded-offered c is =
+      let found = named-at c.name pool.pending is.query is.pending in
+      let posted = found.1 in
+      let listed : Contains (lists_of posted.query) c.values =
+      ((listed-groundings posted.query.body pool.tables.rows).exactly c.values).1 (subst (λ (q : QueryRecord). IsGrounding q.body pool.tables.rows c.values) (sym found.4) is.grounding) in
+      (made found.0 posted.name posted.query c.values, offers-has found.0 posted c.values found.2 (In-Contains (lists_of posted.query) c.values listed), ap (λ (n : List ℕ). record { name = n; values = c.values }) found.3)

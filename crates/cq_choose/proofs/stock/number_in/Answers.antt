@@ -1,0 +1,7 @@
+use Rattle.std.proofs.Common.{◌∙◌, sym}
+use Rattle.cq_choose.specs.Steps.Goods.{same_good}
+use Rattle.cq_choose.proofs.Terms.{position-none}
+use Rattle.cq_choose.proofs.stock.number_in.Goals as goal
+
+pub returns-in-None : goal.returns-in-None
+returns-in-None g c = c.len.ensures.len ∙ sym (position-none (same_good c.args.key.now) c.args.stock.now.goods.keys c.in-None.ensures.index)

@@ -1,0 +1,6 @@
+-- What the private steps of the code are stated with; no part of what a reader must believe.
+pub mod Goods
+pub mod Same
+pub mod Offers
+pub mod Stocks
+pub mod Answers

@@ -1,0 +1,15 @@
+//! Coordinating choices that are sought: for given queries, groundings of pending queries that serve one another.
+//!
+//! Who wants to know whether queries can coordinate, and how, calls [`choose`]. `cq_board` says what a coordinating choice is and whether a
+//! given one is one; `specs/Choosing` adds that given queries are chosen for. The search itself is `cq_select`'s, over members with
+//! owners and atoms with numbers: here groundings are made members, their queries owners, and what they offer and await is numbered.
+//!
+//! Not here: how a selection is searched for, and how an answer is written.
+#![tactic(auto)]
+
+mod choosing;
+mod keys;
+mod offers;
+mod stock;
+
+pub use choosing::{Answer, Sought, choose};
