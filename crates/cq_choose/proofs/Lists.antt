@@ -1,5 +1,6 @@
 -- Members of lists.
 use Rattle.std.proofs.Common.{◌≡◌, ◌⊎◌, ℕ, zero, suc, ◌+◌, ◌<◌, inl, inr, Bool, true, false, List, [], ◌∷◌, ◌++◌, length, map, get_or, refl, sym, ap, subst, ◌∙◌, arith, Some, None, Option}
+use Rattle.std.specs.Prelude.{filter}
 use Rattle.std.specs.List.{All, Any, AllByRecursion, Contains, enumerate_from, filter_map, flat_map, slice_get}
 
 pub by_bool : (b : Bool) (P : Type 0) → (b ≡ true → P) → (b ≡ false → P) → P
@@ -63,6 +64,18 @@ module _ {X : Type 0} where
   In-each P [] all x h = absurd h
   In-each P (y ∷ xs) all x (inl e) = subst P (sym e) all.0
   In-each P (y ∷ xs) all x (inr h) = In-each P xs all.1 x h
+
+  pub In-filter : (p : X → Bool) (xs : List X) (x : X) → In x xs → p x ≡ true → In x (filter p xs)
+  In-filter p [] x h t = absurd h
+  In-filter p (y ∷ xs) x (inl e) t = let k : p y ≡ true = ap p (sym e) ∙ t in rw k (inl e)
+  In-filter p (y ∷ xs) x (inr h) t = by_bool (p y) (In x (filter p (y ∷ xs))) (λ k. rw k (inr (In-filter p xs x h t))) (λ k. rw k (In-filter p xs x h t))
+
+  pub In-filter_gives : (p : X → Bool) (xs : List X) (x : X) → In x (filter p xs) → In x xs × (p x ≡ true)
+  In-filter_gives p [] x h = absurd h
+  In-filter_gives p (y ∷ xs) x h =
+      by_bool (p y) (In x (y ∷ xs) × (p x ≡ true))
+      (λ k. elim (rw k at h) as (λ _. In x (y ∷ xs) × (p x ≡ true)) [ inl e ↦ (inl e, ap p e ∙ k) | inr m ↦ let more = In-filter_gives p xs x m in (inr more.0, more.1) ])
+      (λ k. let more = In-filter_gives p xs x (rw k at h) in (inr more.0, more.1))
 
   pub In-at : (xs : List X) (k : ℕ) (x : X) → slice_get xs k ≡ Some x → In x xs
   In-at [] k x e = cc

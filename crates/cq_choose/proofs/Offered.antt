@@ -1,6 +1,6 @@
 -- The offers of a pool: the groundings of its queries.
 use Rattle.std.proofs.Common.{◌≡◌, ℕ, zero, suc, ◌+◌, Bool, true, List, [], ◌∷◌, length, map, refl, sym, ap, subst, ◌∙◌, arith, Option, Some, None}
-use Rattle.std.specs.Prelude.{option_map, nat_lt}
+use Rattle.std.specs.Prelude.{if◌then◌else◌, option_map, nat_lt}
 use Rattle.std.specs.List.{Contains, enumerate_from, position_or_len, slice_get}
 use Rattle.std.proofs.lemmas.Option.{same_Some}
 use Rattle.std.proofs.lemmas.Slice.Eq.{bytes_eq-Decides}
@@ -14,6 +14,7 @@ use Rattle.cq_board.specs.Board.{place_of}
 use Rattle.cq_board.specs.Named.{query_named, groundings_named}
 use Rattle.cq_board.specs.Choice.{ChoiceRecord, IsGrounded}
 use Rattle.cq_board.proofs.CallerLemmas.{place_at, query_at, groundings_at}
+use Rattle.cq_choose.specs.Steps.Reach.{is_taken, IsTaken}
 use Rattle.cq_choose.specs.Steps.Offers.{OfferRecord, offers_by, offers_at, offers_of, choice_of}
 use Rattle.cq_choose.proofs.Lists.{by_bool, by_option, In, In-Contains, Contains-In, In-map, In-map_gives, In-flat_map, In-flat_map_gives, enumerate-has, enumerate-gives}
 
@@ -36,7 +37,7 @@ passes-at p (y ∷ xs) k x at got =
     (λ f. let later : 1 + position_or_len p xs ≡ k = rw f at at in let one : 1 + position_or_len p xs ≡ suc (position_or_len p xs) = omega arith in passes-at p xs (position_or_len p xs) x refl (ap (slice_get (y ∷ xs)) (sym one ∙ later) ∙ got))
 
 -- what is pending under a name
-named-at : (name : List ℕ) (pending : List PendingQuery) (query : QueryRecord) → query_named name pending ≡ Some query
+pub named-at : (name : List ℕ) (pending : List PendingQuery) (query : QueryRecord) → query_named name pending ≡ Some query
     → (place : ℕ) × (posted : PendingQuery) × (slice_get pending place ≡ Some posted) × (posted.name ≡ name) × (posted.query ≡ query)
 named-at name pending query e =
     let k = position_or_len (is_named name) pending in
@@ -55,38 +56,42 @@ pub record IsOfferOf (pool : PoolRecord) (o : OfferRecord) : Type 0 where
   pub query : posted.query ≡ o.query
   pub grounding : In o.values (groundings_of o.query.body pool.tables.rows)
 
-module _ (pool : PoolRecord) (good : IsPool pool) where
+module _ (pool : PoolRecord) (good : IsPool pool) (spare : List Bool) where
   abbrev lists_of : QueryRecord → List (List ValueContent)
   lists_of query = groundings_of query.body pool.tables.rows
 
   abbrev made : ℕ → List ℕ → QueryRecord → List ValueContent → OfferRecord
   made place name query values = record { name = name; place = place; query = query; values = values }
 
-  offers-at : (place : ℕ) (posted : PendingQuery) → slice_get pool.pending place ≡ Some posted → offers_at pool place posted.name ≡ map (made place posted.name posted.query) (lists_of posted.query)
-  offers-at place posted here =
-      ap (λ (q : Option QueryRecord). offers_by place posted.name q (groundings_named posted.name pool)) (query_at pool good place posted here)
+  offers-at : (place : ℕ) (posted : PendingQuery) → slice_get pool.pending place ≡ Some posted → is_taken pool spare place posted.name ≡ true
+      → offers_at pool spare place posted.name ≡ map (made place posted.name posted.query) (lists_of posted.query)
+  offers-at place posted here taken =
+      ap (λ (t : Bool). if t then offers_by place posted.name (query_named posted.name pool.pending) (groundings_named posted.name pool) else []) taken
+      ∙ ap (λ (q : Option QueryRecord). offers_by place posted.name q (groundings_named posted.name pool)) (query_at pool good place posted here)
       ∙ ap (offers_by place posted.name (Some posted.query)) (groundings_at pool good place posted here)
 
-  pub offers-give : (o : OfferRecord) → In o (offers_of pool) → IsOfferOf pool o
+  pub offers-give : (o : OfferRecord) → In o (offers_of pool spare) → IsOfferOf pool o
   offers-give o h =
-      let numbered = In-flat_map_gives (λ (p : ℕ × List ℕ). offers_at pool p.0 p.1) (enumerate_from 0 (map name_of pool.pending)) o h in
+      let numbered = In-flat_map_gives (λ (p : ℕ × List ℕ). offers_at pool spare p.0 p.1) (enumerate_from 0 (map name_of pool.pending)) o h in
       let p = numbered.0 in
       let from = enumerate-gives 0 (map name_of pool.pending) p numbered.1 in
       let found = mapped-at name_of pool.pending from.0 p.1 from.2 in
       let posted = found.0 in
       let at : from.0 ≡ p.0 = omega (arith, from.1) in
       let here : slice_get pool.pending p.0 ≡ Some posted = ap (slice_get pool.pending) (sym at) ∙ found.1 in
-      let listed = subst (λ (l : List OfferRecord). In o l) (ap (offers_at pool p.0) (sym found.2) ∙ offers-at p.0 posted here) numbered.2 in
-      let values = In-map_gives (made p.0 posted.name posted.query) (lists_of posted.query) o listed in
-      subst (IsOfferOf pool) (sym values.2) (record { posted = posted; here = here; name = refl; query = refl; grounding = values.1 })
+      let own = subst (λ (n : List ℕ). In o (offers_at pool spare p.0 n)) (sym found.2) numbered.2 in
+      by_bool (is_taken pool spare p.0 posted.name) (IsOfferOf pool o)
+      (λ t. let values = In-map_gives (made p.0 posted.name posted.query) (lists_of posted.query) o (subst (In o) (offers-at p.0 posted here t) own) in
+      subst (IsOfferOf pool) (sym values.2) (record { posted = posted; here = here; name = refl; query = refl; grounding = values.1 }))
+      (λ f. absurd (subst (λ (t : Bool). In o (if t then offers_by p.0 posted.name (query_named posted.name pool.pending) (groundings_named posted.name pool) else [])) f own))
 
-  pub offers-has : (place : ℕ) (posted : PendingQuery) (values : List ValueContent) → slice_get pool.pending place ≡ Some posted → In values (lists_of posted.query)
-      → In (made place posted.name posted.query values) (offers_of pool)
-  offers-has place posted values here listed =
+  pub offers-has : (place : ℕ) (posted : PendingQuery) (values : List ValueContent) → slice_get pool.pending place ≡ Some posted → is_taken pool spare place posted.name ≡ true
+      → In values (lists_of posted.query) → In (made place posted.name posted.query values) (offers_of pool spare)
+  offers-has place posted values here taken listed =
       let at : 0 + place ≡ place = omega arith in
-      In-flat_map (λ (p : ℕ × List ℕ). offers_at pool p.0 p.1) (enumerate_from 0 (map name_of pool.pending)) (place, posted.name) (made place posted.name posted.query values)
+      In-flat_map (λ (p : ℕ × List ℕ). offers_at pool spare p.0 p.1) (enumerate_from 0 (map name_of pool.pending)) (place, posted.name) (made place posted.name posted.query values)
       (subst (λ (n : ℕ). In (n, posted.name) (enumerate_from 0 (map name_of pool.pending))) at (enumerate-has 0 (map name_of pool.pending) place posted.name (at-mapped name_of pool.pending place posted here)))
-      (subst (λ (l : List OfferRecord). In (made place posted.name posted.query values) l) (sym (offers-at place posted here)) (In-map (made place posted.name posted.query) (lists_of posted.query) values listed))
+      (subst (In (made place posted.name posted.query values)) (sym (offers-at place posted here taken)) (In-map (made place posted.name posted.query) (lists_of posted.query) values listed))
 
   module _ (o : OfferRecord) (is : IsOfferOf pool o) where
     pub offer-pending : query_named o.name pool.pending ≡ Some o.query
@@ -111,11 +116,13 @@ module _ (pool : PoolRecord) (good : IsPool pool) where
       let same : io.posted ≡ ip.posted = same_Some io.posted ip.posted (sym io.here ∙ ap (slice_get pool.pending) e ∙ ip.here) in
       sym io.name ∙ ap name_of same ∙ ip.name
 
-  -- what is grounded is offered
-  pub grounded-offered : (c : ChoiceRecord) → IsGrounded pool c → (o : OfferRecord) × In o (offers_of pool) × (choice_of o ≡ c)
-  grounded-offered c is =
+  -- what is grounded and taken is offered
+  pub grounded-offered : (c : ChoiceRecord) → IsGrounded pool c → IsTaken pool spare c → (o : OfferRecord) × In o (offers_of pool spare) × (choice_of o ≡ c)
+  grounded-offered c is taken =
       let found = named-at c.name pool.pending is.query is.pending in
       let posted = found.1 in
+      let at = ap (λ (n : List ℕ). place_of n pool.pending) (sym found.3) ∙ place_at pool good found.0 posted found.2 in
+      let flag = subst (λ (n : List ℕ). is_taken pool spare found.0 n ≡ true) (sym found.3) (taken.taken found.0 at) in
       let listed : Contains (lists_of posted.query) c.values =
       ((listed-groundings posted.query.body pool.tables.rows).exactly c.values).1 (subst (λ (q : QueryRecord). IsGrounding q.body pool.tables.rows c.values) (sym found.4) is.grounding) in
-      (made found.0 posted.name posted.query c.values, offers-has found.0 posted c.values found.2 (In-Contains (lists_of posted.query) c.values listed), ap (λ (n : List ℕ). record { name = n; values = c.values }) found.3)
+      (made found.0 posted.name posted.query c.values, offers-has found.0 posted c.values found.2 flag (In-Contains (lists_of posted.query) c.values listed), ap (λ (n : List ℕ). record { name = n; values = c.values }) found.3)

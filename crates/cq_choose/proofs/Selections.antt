@@ -24,11 +24,17 @@ use Rattle.cq_choose.specs.Choosing.{IfFound, IsChoiceFor}
 use Rattle.cq_choose.specs.Steps.Answers.{Answers}
 use Rattle.cq_choose.specs.declared.keys.Good.TheVariants.{Query, Atom}
 use Rattle.cq_choose.specs.Steps.Goods.{GoodContent}
+use Rattle.cq_choose.specs.Steps.Reach.{IsTaken, IsEnough}
 use Rattle.cq_choose.specs.Steps.Offers.{OfferRecord, offers_of, choice_of, choices_of, head_goods, goods_of, awaited_goods}
 use Rattle.cq_choose.specs.Steps.Stocks.{StockRecord, number_in, stocked, needs_in}
 use Rattle.cq_choose.proofs.Lists.{by_option, not_true, In, In-Contains, Contains-In, All-In, In-All, Any-In, In-Any, each-In, In-each, In-at, at-In, In-map, In-map_gives, In-flat_map, In-flat_map_gives, In-filter_map, In-filter_map_gives, filter_map-some}
 use Rattle.cq_choose.proofs.Stocks.{holders, holders-stocked, holders-stocked_gives}
 use Rattle.cq_choose.proofs.Offered.{at-mapped, IsOfferOf, offers-give, offer-pending, offer-grounded, one-place, one-name, grounded-offered}
+
+-- a choice that some offer makes
+pub record IsReady (pool : PoolRecord) (spare : List Bool) (choice : ChoiceRecord) : Type 0 where
+  pub grounded : IsGrounded pool choice
+  pub taken : IsTaken pool spare choice
 
 distinct-nil : {X : Type 0} (e : X → X → Bool) → IsDistinct e []
 unfolding IsDistinct
@@ -61,14 +67,14 @@ query-good : (o : OfferRecord) (name : List ℕ) → In (Query name) (goods_of o
 query-good o name (inl e) = cc
 query-good o name (inr h) = let found = In-map_gives (λ head. Atom (under (bound o.query o.values) head)) o.query.heads (Query name) h in let e = found.2 in absurd cc
 
-module _ {A : Type 0} (pool : PoolRecord) (good : IsPool pool) (names : List (List ℕ)) (offers : List OfferRecord) (stock : StockRecord) (supply : Supply A) (wanted : List ℕ)
-    (are : offers ≡ offers_of pool) (kept : stock ≡ stocked offers)
+module _ {A : Type 0} (pool : PoolRecord) (good : IsPool pool) (spare : List Bool) (names : List (List ℕ)) (offers : List OfferRecord) (stock : StockRecord) (supply : Supply A) (wanted : List ℕ)
+    (are : offers ≡ offers_of pool spare) (kept : stock ≡ stocked offers)
     (owners : map (λ m. m.owner) supply.members.items ≡ map (λ o. o.place) offers)
     (needs : map (λ m. m.needs.items) supply.members.items ≡ map (needs_in stock) offers)
     (suppliers : map (λ s. s.items) supply.suppliers.items ≡ stock.suppliers)
     (wants : wanted ≡ map (λ name. number_in stock (Query name)) names) where
   offer-is : (m : ℕ) (o : OfferRecord) → slice_get offers m ≡ Some o → IsOfferOf pool o
-  offer-is m o here = offers-give pool good o (subst (In o) are (In-at offers m o here))
+  offer-is m o here = offers-give pool good spare o (subst (In o) are (In-at offers m o here))
 
   counted : member_count supply ≡ length offers
   counted = sym (length-map supply.members.items (λ m. m.owner)) ∙ ap length owners ∙ length-map offers (λ (o : OfferRecord). o.place)
@@ -138,7 +144,7 @@ module _ {A : Type 0} (pool : PoolRecord) (good : IsPool pool) (names : List (Li
       let p = other.1 in
       not_true (bytes_eq o.name y)
       (λ t. let same : o.name ≡ p.name = (bytes_eq-Decides o.name y).0 t ∙ c.2 ∙ ap chosen_name other.4 in
-      let places = one-place pool good o p (offer-is m o found.1) (offer-is other.0 p other.3) same in
+      let places = one-place pool good spare o p (offer-is m o found.1) (offer-is other.0 p other.3) same in
       let equal : owner_of supply m ≡ owner_of supply other.0 = owner-at m o found.1 ∙ places ∙ sym (owner-at other.0 p other.3) in
       let no = In-each (λ (n : ℕ). nat_eq (owner_of supply m) n ≡ false) (map (owner_of supply) chosen) apart (owner_of supply other.0) (In-map (owner_of supply) chosen other.0 other.2) in
       let yes = (Decides-eqb (owner_of supply m) (owner_of supply other.0)).1 equal in
@@ -150,7 +156,7 @@ module _ {A : Type 0} (pool : PoolRecord) (good : IsPool pool) (names : List (Li
     choices = choices_of offers chosen
 
     choices-grounded : (c : ChoiceRecord) → In c choices → IsGrounded pool c
-    choices-grounded c h = let of = of-choice chosen c h in subst (IsGrounded pool) (sym of.4) (offer-grounded pool good of.1 (offer-is of.0 of.1 of.3))
+    choices-grounded c h = let of = of-choice chosen c h in subst (IsGrounded pool) (sym of.4) (offer-grounded pool good spare of.1 (offer-is of.0 of.1 of.3))
 
     choices-served : (atom : AtomRecord) → In atom (awaited pool.pending choices) → In atom (offered pool.pending choices)
     choices-served atom h =
@@ -158,14 +164,14 @@ module _ {A : Type 0} (pool : PoolRecord) (good : IsPool pool) (names : List (Li
         let of = of-choice chosen from.0 from.1 in
         let m = of.0 in let o = of.1 in
         let asked : In atom (awaited_by (Some o.query) o.values) =
-        subst (λ (q : Option QueryRecord). In atom (awaited_by q o.values)) (offer-pending pool good o (offer-is m o of.3))
+        subst (λ (q : Option QueryRecord). In atom (awaited_by q o.values)) (offer-pending pool good spare o (offer-is m o of.3))
         (subst (λ (c : ChoiceRecord). In atom (awaited_by (query_named c.name pool.pending) c.values)) of.4 from.2) in
         let need : In (number_in stock (Atom atom)) (needs_of supply m) = subst (In (number_in stock (Atom atom))) (sym (needs-at m o of.3)) (In-map (number_in stock) (awaited_goods o) (Atom atom) (awaited-goods o atom asked)) in
         let met = In-All (IsSupplied supply chosen) (needs_of supply m) (In-All (λ (n : ℕ). All (IsSupplied supply chosen) (needs_of supply n)) chosen is.needs m of.2) (number_in stock (Atom atom)) need in
         let by = supplied-gives chosen (Atom atom) met in
         let p = by.1 in
         In-flat_map (λ (c : ChoiceRecord). offered_by (query_named c.name pool.pending) c.values) choices (choice_of p) atom (has-choice chosen by.0 p by.2 by.3)
-        (subst (λ (q : Option QueryRecord). In atom (offered_by q p.values)) (sym (offer-pending pool good p (offer-is by.0 p by.3))) (goods-offered p atom by.4))
+        (subst (λ (q : Option QueryRecord). In atom (offered_by q p.values)) (sym (offer-pending pool good spare p (offer-is by.0 p by.3))) (goods-offered p atom by.4))
 
     choices-named : (name : List ℕ) → In name names → In name (map chosen_name choices)
     choices-named name h =
@@ -185,29 +191,29 @@ module _ {A : Type 0} (pool : PoolRecord) (good : IsPool pool) (names : List (Li
 
   -- ---- a choice is a selection
 
-  pub number-for : (c : ChoiceRecord) → IsGrounded pool c → (m : ℕ) × (o : OfferRecord) × (slice_get offers m ≡ Some o) × (choice_of o ≡ c)
+  pub number-for : (c : ChoiceRecord) → IsReady pool spare c → (m : ℕ) × (o : OfferRecord) × (slice_get offers m ≡ Some o) × (choice_of o ≡ c)
   number-for c is =
-      let found = grounded-offered pool good c is in
+      let found = grounded-offered pool good spare c is.grounded is.taken in
       let at = at-In offers found.0 (subst (In found.0) (sym are) found.1) in
       (at.0, found.0, at.1, found.2)
 
-  abbrev pub numbers : (choices : List ChoiceRecord) → ((c : ChoiceRecord) → In c choices → IsGrounded pool c) → List ℕ
+  abbrev pub numbers : (choices : List ChoiceRecord) → ((c : ChoiceRecord) → In c choices → IsReady pool spare c) → List ℕ
   numbers [] g = []
   numbers (c ∷ rest) g = (number-for c (g c (inl refl))).0 ∷ numbers rest (λ d h. g d (inr h))
 
-  has-number : (choices : List ChoiceRecord) (g : (c : ChoiceRecord) → In c choices → IsGrounded pool c) (c : ChoiceRecord) → In c choices
+  has-number : (choices : List ChoiceRecord) (g : (c : ChoiceRecord) → In c choices → IsReady pool spare c) (c : ChoiceRecord) → In c choices
       → (m : ℕ) × (o : OfferRecord) × In m (numbers choices g) × (slice_get offers m ≡ Some o) × (choice_of o ≡ c)
   has-number [] g c h = absurd h
   has-number (d ∷ rest) g c (inl e) = let own = number-for d (g d (inl refl)) in (own.0, own.1, inl refl, own.2, own.3 ∙ sym e)
   has-number (d ∷ rest) g c (inr h) = let more = has-number rest (λ d h. g d (inr h)) c h in (more.0, more.1, inr more.2, more.3, more.4)
 
-  of-number : (choices : List ChoiceRecord) (g : (c : ChoiceRecord) → In c choices → IsGrounded pool c) (m : ℕ) → In m (numbers choices g)
+  of-number : (choices : List ChoiceRecord) (g : (c : ChoiceRecord) → In c choices → IsReady pool spare c) (m : ℕ) → In m (numbers choices g)
       → (c : ChoiceRecord) × (o : OfferRecord) × In c choices × (slice_get offers m ≡ Some o) × (choice_of o ≡ c)
   of-number [] g m h = absurd h
   of-number (d ∷ rest) g m (inl e) = let own = number-for d (g d (inl refl)) in (d, own.1, inl refl, ap (slice_get offers) e ∙ own.2, own.3)
   of-number (d ∷ rest) g m (inr h) = let more = of-number rest (λ d h. g d (inr h)) m h in (more.0, more.1, inr more.2, more.3, more.4)
 
-  distinct-numbers : (choices : List ChoiceRecord) (g : (c : ChoiceRecord) → In c choices → IsGrounded pool c) → IsDistinct bytes_eq (map chosen_name choices) → IsDistinct nat_eq (map (owner_of supply) (numbers choices g))
+  distinct-numbers : (choices : List ChoiceRecord) (g : (c : ChoiceRecord) → In c choices → IsReady pool spare c) → IsDistinct bytes_eq (map chosen_name choices) → IsDistinct nat_eq (map (owner_of supply) (numbers choices g))
   distinct-numbers [] g d = distinct-nil nat_eq
   distinct-numbers (c ∷ others) g d =
       let own = number-for c (g c (inl refl)) in
@@ -221,36 +227,36 @@ module _ {A : Type 0} (pool : PoolRecord) (good : IsPool pool) (names : List (Li
       let p = other.1 in
       not_true (nat_eq (owner_of supply m) y)
       (λ t. let places : o.place ≡ p.place = sym (owner-at m o own.2) ∙ (Decides-eqb (owner_of supply m) y).0 t ∙ n.2 ∙ owner-at n.0 p other.3 in
-      let same : c.name ≡ other.0.name = sym (ap chosen_name own.3) ∙ one-name pool good o p (offer-is m o own.2) (offer-is n.0 p other.3) places ∙ ap chosen_name other.4 in
+      let same : c.name ≡ other.0.name = sym (ap chosen_name own.3) ∙ one-name pool good spare o p (offer-is m o own.2) (offer-is n.0 p other.3) places ∙ ap chosen_name other.4 in
       let no = In-each (λ (z : List ℕ). bytes_eq c.name z ≡ false) (map chosen_name others) apart other.0.name (In-map chosen_name others other.0 other.2) in
       let yes = (bytes_eq-Decides c.name other.0.name).1 same in
       cc)))
       (distinct-numbers others (λ d h. g d (inr h)) (IsDistinct-tail bytes_eq c.name (map chosen_name others) d))
 
-  module _ (choices : List ChoiceRecord) (is : IsChoiceFor pool names choices) where
-    pub grounded : (c : ChoiceRecord) → In c choices → IsGrounded pool c
-    grounded = In-All (IsGrounded pool) choices is.coordinating.grounded
+  module _ (choices : List ChoiceRecord) (is : IsChoiceFor pool names choices) (all : All (IsTaken pool spare) choices) where
+    pub ready : (c : ChoiceRecord) → In c choices → IsReady pool spare c
+    ready c h = record { grounded = In-All (IsGrounded pool) choices is.coordinating.grounded c h; taken = In-All (IsTaken pool spare) choices all c h }
 
     abbrev pub chosen : List ℕ
-    chosen = numbers choices grounded
+    chosen = numbers choices ready
 
     numbers-served : (m : ℕ) → In m chosen → (a : ℕ) → In a (needs_of supply m) → IsSupplied supply chosen a
     numbers-served m h a k =
-        let of = of-number choices grounded m h in
+        let of = of-number choices ready m h in
         let c = of.0 in let o = of.1 in
         let need = In-map_gives (number_in stock) (awaited_goods o) a (subst (In a) (needs-at m o of.3) k) in
         let asked = goods-awaited o need.0 need.1 in
         let atom = asked.0 in
         let asked_of : In atom (awaited_by (query_named c.name pool.pending) c.values) =
         subst (λ (d : ChoiceRecord). In atom (awaited_by (query_named d.name pool.pending) d.values)) of.4
-        (subst (λ (q : Option QueryRecord). In atom (awaited_by q o.values)) (sym (offer-pending pool good o (offer-is m o of.3))) asked.1) in
-        let all = In-flat_map (λ (d : ChoiceRecord). awaited_by (query_named d.name pool.pending) d.values) choices c atom of.2 asked_of in
-        let met = In-Contains (offered pool.pending choices) atom (In-All (Contains (offered pool.pending choices)) (awaited pool.pending choices) is.coordinating.served atom all) in
+        (subst (λ (q : Option QueryRecord). In atom (awaited_by q o.values)) (sym (offer-pending pool good spare o (offer-is m o of.3))) asked.1) in
+        let every = In-flat_map (λ (d : ChoiceRecord). awaited_by (query_named d.name pool.pending) d.values) choices c atom of.2 asked_of in
+        let met = In-Contains (offered pool.pending choices) atom (In-All (Contains (offered pool.pending choices)) (awaited pool.pending choices) is.coordinating.served atom every) in
         let from = In-flat_map_gives (λ (d : ChoiceRecord). offered_by (query_named d.name pool.pending) d.values) choices atom met in
-        let by = has-number choices grounded from.0 from.1 in
+        let by = has-number choices ready from.0 from.1 in
         let p = by.1 in
         let offers_it : In atom (offered_by (Some p.query) p.values) =
-        subst (λ (q : Option QueryRecord). In atom (offered_by q p.values)) (offer-pending pool good p (offer-is by.0 p by.3))
+        subst (λ (q : Option QueryRecord). In atom (offered_by q p.values)) (offer-pending pool good spare p (offer-is by.0 p by.3))
         (subst (λ (d : ChoiceRecord). In atom (offered_by (query_named d.name pool.pending) d.values)) (sym by.4) from.2) in
         subst (IsSupplied supply chosen) (sym (need.2 ∙ ap (number_in stock) asked.2)) (supplied-has chosen (Atom atom) by.0 p by.2 by.3 (offered-goods p atom offers_it))
 
@@ -259,14 +265,14 @@ module _ {A : Type 0} (pool : PoolRecord) (good : IsPool pool) (names : List (Li
         let name = In-map_gives (λ name. number_in stock (Query name)) names a (subst (In a) wants h) in
         let named = In-Contains (map chosen_name choices) name.0 (In-All (Contains (map chosen_name choices)) names is.named name.0 name.1) in
         let c = In-map_gives chosen_name choices name.0 named in
-        let by = has-number choices grounded c.0 c.1 in
+        let by = has-number choices ready c.0 c.1 in
         subst (IsSupplied supply chosen) (sym name.2)
         (supplied-has chosen (Query name.0) by.0 by.1 by.2 by.3 (inl (ap Query (c.2 ∙ ap chosen_name (sym by.4)))))
 
     pub choice-selection : IsSelection supply wanted chosen
     choice-selection = record {
-      known = All-In (λ (m : ℕ). m < member_count supply) chosen (λ m h. let of = of-number choices grounded m h in let low = slice_get_within offers m of.1 of.3 in let e = counted in omega (arith, low, e));
-      apart = distinct-numbers choices grounded is.coordinating.distinct;
+      known = All-In (λ (m : ℕ). m < member_count supply) chosen (λ m h. let of = of-number choices ready m h in let low = slice_get_within offers m of.1 of.3 in let e = counted in omega (arith, low, e));
+      apart = distinct-numbers choices ready is.coordinating.distinct;
       needs = All-In (λ (m : ℕ). All (IsSupplied supply chosen) (needs_of supply m)) chosen (λ m h. All-In (IsSupplied supply chosen) (needs_of supply m) (numbers-served m h));
       wants = All-In (IsSupplied supply chosen) wanted numbers-wanted;
     }
@@ -284,17 +290,17 @@ module _ {A : Type 0} (pool : PoolRecord) (good : IsPool pool) (names : List (Li
   answers-found selected.Undecided Impossible told is = absurd told
   answers-found selected.Undecided Undecided told is = tt
 
-  pub answers-none : (found : Selected A) (answer : Answer A) → Answers offers found answer → (found ≡ selected.Impossible → (chosen : List ℕ) → IsSelection supply wanted chosen → ⊥)
+  pub answers-none : (found : Selected A) (answer : Answer A) → Answers offers found answer → IsEnough pool names spare → (found ≡ selected.Impossible → (chosen : List ℕ) → IsSelection supply wanted chosen → ⊥)
       → answer ≡ Impossible → (choices : List ChoiceRecord) → IsChoiceFor pool names choices → ⊥
-  answers-none (selected.Found s) (Found cs) told none e = cc
-  answers-none (selected.Found s) Impossible told none e = absurd told
-  answers-none (selected.Found s) Undecided told none e = absurd told
-  answers-none selected.Impossible (Found cs) told none e = absurd told
-  answers-none selected.Impossible Impossible told none e = λ cs is. none refl (chosen cs is) (choice-selection cs is)
-  answers-none selected.Impossible Undecided told none e = absurd told
-  answers-none selected.Undecided (Found cs) told none e = absurd told
-  answers-none selected.Undecided Impossible told none e = absurd told
-  answers-none selected.Undecided Undecided told none e = cc
+  answers-none (selected.Found s) (Found cs) told enough none e = cc
+  answers-none (selected.Found s) Impossible told enough none e = absurd told
+  answers-none (selected.Found s) Undecided told enough none e = absurd told
+  answers-none selected.Impossible (Found cs) told enough none e = absurd told
+  answers-none selected.Impossible Impossible told enough none e = λ cs is. let k = enough cs is in none refl (chosen k.0 k.1 k.2) (choice-selection k.0 k.1 k.2)
+  answers-none selected.Impossible Undecided told enough none e = absurd told
+  answers-none selected.Undecided (Found cs) told enough none e = absurd told
+  answers-none selected.Undecided Impossible told enough none e = absurd told
+  answers-none selected.Undecided Undecided told enough none e = cc
 
 pub answers-undecided : {A : Type 0} (offers : List OfferRecord) (found : Selected A) (answer : Answer A) → Answers offers found answer → answer ≡ Undecided → found ≡ selected.Undecided
 answers-undecided offers (selected.Found s) (Found cs) told e = cc

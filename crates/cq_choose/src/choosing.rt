@@ -7,6 +7,7 @@ ghost use Rattle.cq_choose.specs.Steps.Answers.{Answers};
 ghost use Rattle.cq_choose.specs.Steps.Offers.{offer_of};
 
 use crate::offers::{Offer, choices_of, offers_of};
+use crate::reach::left_out;
 use crate::stock::{members_of, stocked, wanted_of};
 use cq_atom::Name;
 use cq_board::{Board, Choice};
@@ -49,13 +50,14 @@ fn answer_of<A: Allocator + Copy>(
 }
 
 /// Looks for a coordinating choice in which something is chosen for the query of each of the names. A name may stand there twice. There is
-/// none where no query is pending under one of the names.
+/// none where no query is pending under one of the names, or where one of the queries waits.
 ///
-/// A step is one grounding that is tried for a postcondition. To tell whether there is a coordinating choice is NP-complete (Gupta et al., SIGMOD 2011),
-/// so a budget of steps may be used up.
+/// A step is one grounding that is tried for a postcondition or for a name. To tell whether there is such a choice is NP-complete (Gupta et al.,
+/// SIGMOD 2011), so the budget may be used up.
 ///
-/// Before the first step it makes a list of the groundings of the pending queries, of what they offer, and of what they await: time and memory in
-/// proportion to the groundings, times the atoms of their queries.
+/// It looks only at the queries that are concerned: the matched ones among those of the names, among the providers of these, and so on. Before the
+/// first step it lists their groundings, and numbers what each offers and awaits, which takes time and memory in proportion to these groundings times
+/// the atoms of their queries. To find them it lists all edges, looks once at each pending query, and compares its name with each of the names.
 ///
 /// # Errors
 /// `AllocError` where an allocation failed.
@@ -71,7 +73,8 @@ pub fn choose<A: Allocator + Copy>(
     ensures within { IfOk result (λ sought. sought.steps ≤ budget) }
 {
     let _good = board.len();
-    let offers = offers_of(alloc, board)?;
+    let spare = left_out(alloc, board, names)?;
+    let offers = offers_of(alloc, board, &spare)?;
     let stock = stocked(alloc, &offers)?;
     let members = members_of(alloc, &stock, &offers)?;
     let wanted = wanted_of(alloc, &stock, names)?;

@@ -2,7 +2,8 @@
 //!
 //! Who wants to know whether queries can coordinate, and how, calls [`choose`]. `cq_board` says what a coordinating choice is and whether a
 //! given one is one; `specs/Choosing` adds that given queries are chosen for. The search itself is `cq_select`'s, over members with
-//! owners and atoms with numbers: here groundings are made members, their queries owners, and what they offer and await is numbered.
+//! owners and atoms with numbers: here the groundings of the queries that are concerned become members, their queries owners, and what
+//! they offer and await is numbered. That a query is chosen for is one more thing that its groundings offer.
 //!
 //! Not here: how a selection is searched for, and how an answer is written.
 #![tactic(auto)]
@@ -10,6 +11,7 @@
 mod choosing;
 mod keys;
 mod offers;
+mod reach;
 mod stock;
 
 pub use choosing::{Answer, Sought, choose};

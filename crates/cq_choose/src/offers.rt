@@ -3,6 +3,7 @@
 ghost use Rattle.std.specs.Prelude.{◌≡◌, ◌++◌, ◌∷◌, [], map, IfOk, OnOk};
 ghost use Rattle.cq_choose.specs.Steps.Offers.{offer_of, offers_by, offers_at, offers_from, offers_of, choice_of, choices_of};
 
+use crate::reach::is_spare;
 use cq_atom::{Name, Query, Value};
 use cq_board::{Board, Choice};
 use cq_ground::Groundings;
@@ -38,17 +39,24 @@ fn add_groundings<'b, A: Allocator>(
     Ok(())
 }
 
-/// Adds the offers of the query of that name, which has that place.
+/// Adds the offers of the query of that name, which has that place, if it is taken.
 fn add_offers<'b, A: Allocator + Copy>(
     offers: &mut Vec<Offer<'b, A>, A>,
     board: &'b Board<A>,
+    spare: &[bool],
     name: &'b Name<A>,
     place: usize,
 ) -> Result<(), AllocError>
-    ensures { OnOk result (map offer_of offers.new.items ≡ map offer_of offers.old.items ++ offers_at board.now place name.now) }
+    ensures { OnOk result (map offer_of offers.new.items ≡ map offer_of offers.old.items ++ offers_at board.now spare.now place name.now) }
 {
     match board.view(name) {
-        Some(view) => add_groundings(offers, name, place, view.query, view.groundings),
+        Some(view) => {
+            if view.matched && !is_spare(spare, place) {
+                add_groundings(offers, name, place, view.query, view.groundings)
+            } else {
+                Ok(())
+            }
+        }
         None => Ok(()),
     }
 }
@@ -57,26 +65,28 @@ fn add_offers<'b, A: Allocator + Copy>(
 fn offers_named<'b, A: Allocator + Copy>(
     alloc: A,
     board: &'b Board<A>,
+    spare: &[bool],
     names: &[&'b Name<A>],
 ) -> Result<Vec<Offer<'b, A>, A>, AllocError>
-    ensures { IfOk result (λ offers. map offer_of offers.items ≡ offers_from board.now 0 (map (λ name. name.now) names.now)) }
+    ensures { IfOk result (λ offers. map offer_of offers.items ≡ offers_from board.now spare.now 0 (map (λ name. name.now) names.now)) }
 {
     let mut offers = Vec::new(alloc);
     for (place, name) in names.iter().enumerate() {
-        add_offers(&mut offers, board, name, place)?;
+        add_offers(&mut offers, board, spare, name, place)?;
     }
     Ok(offers)
 }
 
-/// The offers of all pending queries, in posting order.
-pub fn offers_of<A: Allocator + Copy>(
+/// The offers of the matched queries whose flags are not set, in posting order.
+pub fn offers_of<'b, A: Allocator + Copy>(
     alloc: A,
-    board: &Board<A>,
-) -> Result<Vec<Offer<'_, A>, A>, AllocError>
-    ensures { IfOk result (λ offers. map offer_of offers.items ≡ offers_of board.now) }
+    board: &'b Board<A>,
+    spare: &[bool],
+) -> Result<Vec<Offer<'b, A>, A>, AllocError>
+    ensures { IfOk result (λ offers. map offer_of offers.items ≡ offers_of board.now spare.now) }
 {
     let names = board.names()?;
-    offers_named(alloc, board, &names)
+    offers_named(alloc, board, spare, &names)
 }
 
 /// Equal values.

@@ -1,5 +1,5 @@
 -- Offers: the groundings of the pending queries, each with its query.
-use Rattle.std.specs.Prelude.{ℕ, List, [], ◌∷◌, map, Option, Some, None, option_map}
+use Rattle.std.specs.Prelude.{ℕ, Bool, if◌then◌else◌, List, [], ◌∷◌, map, Option, Some, None, option_map}
 use Rattle.std.specs.List.{flat_map, filter_map, enumerate_from, slice_get}
 use Rattle.cq_atom.specs.Value.{ValueContent}
 use Rattle.cq_atom.specs.Query.{QueryRecord}
@@ -10,6 +10,7 @@ use Rattle.cq_board.specs.Choice.{ChoiceRecord, bound}
 use Rattle.cq_choose.specs.declared.keys.Good.TheVariants.{Query, Atom}
 use Rattle.cq_choose.specs.declared.offers.Offer.{Offer}
 use Rattle.cq_choose.specs.Steps.Goods.{GoodContent}
+use Rattle.cq_choose.specs.Steps.Reach.{is_taken}
 
 -- A query's name, its place in posting order, the query, and a grounding of it.
 pub record OfferRecord : Type 0 where
@@ -28,17 +29,17 @@ offers_by place name None lists = []
 offers_by place name (Some query) None = []
 offers_by place name (Some query) (Some lists) = map (λ values. record { name = name; place = place; query = query; values = values }) lists
 
--- The offers of the pending query of that name.
-abbrev pub offers_at : PoolRecord → ℕ → List ℕ → List OfferRecord
-offers_at pool place name = offers_by place name (query_named name pool.pending) (groundings_named name pool)
+-- The offers of the pending query of that name, if it is taken.
+abbrev pub offers_at : PoolRecord → List Bool → ℕ → List ℕ → List OfferRecord
+offers_at pool spare place name = if is_taken pool spare place name then offers_by place name (query_named name pool.pending) (groundings_named name pool) else []
 
 -- The offers of these names, of which the first has that place.
-abbrev pub offers_from : PoolRecord → ℕ → List (List ℕ) → List OfferRecord
-offers_from pool place names = flat_map (λ p. offers_at pool p.0 p.1) (enumerate_from place names)
+abbrev pub offers_from : PoolRecord → List Bool → ℕ → List (List ℕ) → List OfferRecord
+offers_from pool spare place names = flat_map (λ p. offers_at pool spare p.0 p.1) (enumerate_from place names)
 
--- The offers of all pending queries.
-abbrev pub offers_of : PoolRecord → List OfferRecord
-offers_of pool = offers_from pool 0 (map name_of pool.pending)
+-- The offers of all pending queries that are taken.
+abbrev pub offers_of : PoolRecord → List Bool → List OfferRecord
+offers_of pool spare = offers_from pool spare 0 (map name_of pool.pending)
 
 -- The heads under the values.
 abbrev pub head_goods : OfferRecord → List GoodContent

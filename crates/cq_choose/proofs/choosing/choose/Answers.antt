@@ -1,8 +1,9 @@
-use Rattle.std.proofs.Common.{◌∙◌, List, map, refl, ap, subst}
+use Rattle.std.proofs.Common.{◌∙◌, List, map, refl, sym, ap, subst}
 use Rattle.cq_select.specs.declared.supply.Supply.{Supply}
 use Rattle.cq_choose.specs.declared.offers.Offer.{Offer}
 use Rattle.cq_choose.specs.Steps.Answers.{Answers}
 use Rattle.cq_choose.specs.Steps.Offers.{OfferRecord, offer_of}
+use Rattle.cq_choose.specs.Steps.Reach.{IsEnough}
 use Rattle.cq_choose.specs.Steps.Stocks.{stock_of, stocked, needs_in}
 use Rattle.cq_choose.proofs.Selections.{answers-found, answers-none, answers-undecided}
 use Rattle.cq_choose.proofs.choosing.choose.Goals as goal
@@ -13,15 +14,15 @@ returns-clause-found g c =
     let offers = map offer_of made in
     let stock = c.in_ok-stock.stock in
     let supply : Supply g.row.A.Denot = record { members = c.in_ok-members.members; suppliers = stock.suppliers } in
-    answers-found c.args.board.now c.len-good.ensures.valid c.args.names.now offers (stock_of stock) supply c.deref-3.result.now
+    answers-found c.args.board.now c.len-good.ensures.valid c.deref.result.now c.args.names.now offers (stock_of stock) supply c.deref-4.result.now
     c.in_ok-offers.ensures
-    (c.in_ok-stock.ensures ∙ ap (λ (l : List (Offer g.row.A.Denot)). stocked (map offer_of l)) c.deref.ensures.value)
-    (c.in_ok-members.ensures.owners ∙ ap (λ (l : List (Offer g.row.A.Denot)). map (λ (o : OfferRecord). o.place) (map offer_of l)) c.deref-2.ensures.value)
-    (c.in_ok-members.ensures.needs ∙ ap (λ (l : List (Offer g.row.A.Denot)). map (needs_in (stock_of stock)) (map offer_of l)) c.deref-2.ensures.value)
+    (c.in_ok-stock.ensures ∙ ap (λ (l : List (Offer g.row.A.Denot)). stocked (map offer_of l)) c.deref-2.ensures.value)
+    (c.in_ok-members.ensures.owners ∙ ap (λ (l : List (Offer g.row.A.Denot)). map (λ (o : OfferRecord). o.place) (map offer_of l)) c.deref-3.ensures.value)
+    (c.in_ok-members.ensures.needs ∙ ap (λ (l : List (Offer g.row.A.Denot)). map (needs_in (stock_of stock)) (map offer_of l)) c.deref-3.ensures.value)
     refl
-    (c.deref-3.ensures.value ∙ c.in_ok-wanted.ensures)
+    (c.deref-4.ensures.value ∙ c.in_ok-wanted.ensures)
     c.in_ok-selected.field-0.selected c.in_ok-answer.answer
-    (subst (λ (l : List (Offer g.row.A.Denot)). Answers (map offer_of l) c.in_ok-selected.field-0.selected c.in_ok-answer.answer) c.deref-4.ensures.value c.in_ok-answer.ensures)
+    (subst (λ (l : List (Offer g.row.A.Denot)). Answers (map offer_of l) c.in_ok-selected.field-0.selected c.in_ok-answer.answer) c.deref-5.ensures.value c.in_ok-answer.ensures)
     c.in_ok-selected.ensures.found
 
 pub returns-clause-none : goal.returns-clause-none
@@ -30,17 +31,18 @@ returns-clause-none g c =
     let offers = map offer_of made in
     let stock = c.in_ok-stock.stock in
     let supply : Supply g.row.A.Denot = record { members = c.in_ok-members.members; suppliers = stock.suppliers } in
-    answers-none c.args.board.now c.len-good.ensures.valid c.args.names.now offers (stock_of stock) supply c.deref-3.result.now
+    answers-none c.args.board.now c.len-good.ensures.valid c.deref.result.now c.args.names.now offers (stock_of stock) supply c.deref-4.result.now
     c.in_ok-offers.ensures
-    (c.in_ok-stock.ensures ∙ ap (λ (l : List (Offer g.row.A.Denot)). stocked (map offer_of l)) c.deref.ensures.value)
-    (c.in_ok-members.ensures.owners ∙ ap (λ (l : List (Offer g.row.A.Denot)). map (λ (o : OfferRecord). o.place) (map offer_of l)) c.deref-2.ensures.value)
-    (c.in_ok-members.ensures.needs ∙ ap (λ (l : List (Offer g.row.A.Denot)). map (needs_in (stock_of stock)) (map offer_of l)) c.deref-2.ensures.value)
+    (c.in_ok-stock.ensures ∙ ap (λ (l : List (Offer g.row.A.Denot)). stocked (map offer_of l)) c.deref-2.ensures.value)
+    (c.in_ok-members.ensures.owners ∙ ap (λ (l : List (Offer g.row.A.Denot)). map (λ (o : OfferRecord). o.place) (map offer_of l)) c.deref-3.ensures.value)
+    (c.in_ok-members.ensures.needs ∙ ap (λ (l : List (Offer g.row.A.Denot)). map (needs_in (stock_of stock)) (map offer_of l)) c.deref-3.ensures.value)
     refl
-    (c.deref-3.ensures.value ∙ c.in_ok-wanted.ensures)
+    (c.deref-4.ensures.value ∙ c.in_ok-wanted.ensures)
     c.in_ok-selected.field-0.selected c.in_ok-answer.answer
-    (subst (λ (l : List (Offer g.row.A.Denot)). Answers (map offer_of l) c.in_ok-selected.field-0.selected c.in_ok-answer.answer) c.deref-4.ensures.value c.in_ok-answer.ensures)
+    (subst (λ (l : List (Offer g.row.A.Denot)). Answers (map offer_of l) c.in_ok-selected.field-0.selected c.in_ok-answer.answer) c.deref-5.ensures.value c.in_ok-answer.ensures)
+    (subst (IsEnough c.args.board.now c.args.names.now) (sym c.deref.ensures.value) c.in_ok-spare.ensures)
     c.in_ok-selected.ensures.none
 
 pub returns-clause-undecided : goal.returns-clause-undecided
 returns-clause-undecided g c e =
-    c.in_ok-selected.ensures.undecided (answers-undecided (map offer_of c.deref-4.result.now) c.in_ok-selected.field-0.selected c.in_ok-answer.answer c.in_ok-answer.ensures e)
+    c.in_ok-selected.ensures.undecided (answers-undecided (map offer_of c.deref-5.result.now) c.in_ok-selected.field-0.selected c.in_ok-answer.answer c.in_ok-answer.ensures e)

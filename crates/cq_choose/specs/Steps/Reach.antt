@@ -1,0 +1,58 @@
+-- Which queries are concerned, by flags at their places.
+use Rattle.std.specs.Prelude.{◌≡◌, ◌⊎◌, ℕ, ◌+◌, ◌*◌, ◌≤◌, ⊤, Bool, true, false, not, ◌&&◌, List, [], ◌∷◌, length, slice_index_or, Option, Some, None}
+use Rattle.std.specs.List.{All, Contains}
+use Rattle.cq_atom.specs.declared.edge.Edge.{Edge}
+use Rattle.cq_atom.specs.Query.{QueryRecord}
+use Rattle.cq_board.specs.Pool.{PoolRecord}
+use Rattle.cq_board.specs.Board.{place_of}
+use Rattle.cq_board.specs.Named.{matched_named}
+use Rattle.cq_board.specs.Choice.{ChoiceRecord}
+use Rattle.cq_board.specs.Steps.Choices.{IsValid}
+use Rattle.cq_choose.specs.Choosing.{IsChoiceFor}
+
+-- The flag at the place is set: the matched query that stands there is not taken.
+abbrev pub is_spare : List Bool → ℕ → Bool
+is_spare spare place = slice_index_or spare place false
+
+-- How many flags are set.
+abbrev pub spare_count : List Bool → ℕ
+spare_count [] = 0
+spare_count (true ∷ flags) = spare_count flags + 1
+spare_count (false ∷ flags) = spare_count flags
+
+-- Queries were taken: their flags are no longer set, and their places are left to be looked at.
+pub record Takes (before : List Bool) (left : List ℕ) (after : List Bool) (more : List ℕ) : Type 0 where
+  pub kept : (p : ℕ) → is_spare before p ≡ false → is_spare after p ≡ false
+  pub noted : (p : ℕ) → is_spare before p ≡ true → is_spare after p ≡ false → Contains more p
+  pub stays : (p : ℕ) → Contains left p → Contains more p
+  pub fewer : length more + 2 * spare_count after ≤ length left + 2 * spare_count before
+
+-- Where a matched query is taken, its matched providers are, or its place is left.
+pub record IsClosing (edges : List Edge) (matched spare : List Bool) (left : List ℕ) : Type 0 where
+  pub closing : (e : Edge) → Contains edges e → is_spare matched e.waiter ≡ true → is_spare spare e.waiter ≡ false → (is_spare spare e.provider ≡ false) ⊎ Contains left e.waiter
+
+-- Whether the query is matched; none is not.
+abbrev pub told : Option Bool → Bool
+told None = false
+told (Some matched) = matched
+
+-- The constants of its heads and postconditions are values.
+pub record IsKnown (query : QueryRecord) : Type 0 where
+  pub heads : All (λ a. All IsValid a.terms) query.heads
+  pub posts : All (λ a. All IsValid a.terms) query.posts
+
+abbrev pub IfKnown : Option QueryRecord → Type 0
+IfKnown None = ⊤
+IfKnown (Some query) = IsKnown query
+
+-- The query of that name is matched, and its flag is not set.
+abbrev pub is_taken : PoolRecord → List Bool → ℕ → List ℕ → Bool
+is_taken pool spare place name = told (matched_named name pool) && not (is_spare spare place)
+
+-- What is chosen is for a query that is taken.
+pub record IsTaken (pool : PoolRecord) (spare : List Bool) (choice : ChoiceRecord) : Type 0 where
+  pub taken : (place : ℕ) → place_of choice.name pool.pending ≡ Some place → is_taken pool spare place choice.name ≡ true
+
+-- Where anything is chosen for the names, some is that leaves these queries out.
+abbrev pub IsEnough : PoolRecord → List (List ℕ) → List Bool → Type 0
+IsEnough pool names spare = (choices : List ChoiceRecord) → IsChoiceFor pool names choices → (kept : List ChoiceRecord) × IsChoiceFor pool names kept × All (IsTaken pool spare) kept
