@@ -44,7 +44,7 @@ module _ {A : Type 0} (supply : Supply A) (wanted : List ℕ) where
         refuted = λ k h. absurd (let none : before.tried ≡ 0 = s.fresh in omega arith);
       } in
       record {
-        trail_is = record { frames = s.trail_is.frames; seats = s.trail_is.seats; dead = s.trail_is.dead };
+        trail_is = record { frames = s.trail_is.frames; seats = s.trail_is.seats; dead = s.trail_is.dead; lost = s.trail_is.lost };
         choice = subst (λ (c : Choice A). IsOpen supply wanted below c c.tried) (sym next) there;
       }
 
@@ -65,7 +65,7 @@ module _ {A : Type 0} (supply : Supply A) (wanted : List ℕ) where
       let now : choice.list ≡ list + 1 = ap (λ (c : Choice A). c.list) next in
       let start : choice.place ≡ 0 = ap (λ (c : Choice A). c.place) next in
       record {
-        trail_is = record { frames = s.trail_is.frames; seats = s.trail_is.seats; dead = s.trail_is.dead };
+        trail_is = record { frames = s.trail_is.frames; seats = s.trail_is.seats; dead = s.trail_is.dead; lost = s.trail_is.lost };
         low = omega (arith, low, now);
         met = rw (now, start) met;
         fresh = ap (λ (c : Choice A). c.tried) next ∙ s.fresh;

@@ -6,7 +6,7 @@ use Rattle.std.proofs.lemmas.List.Elements.{All-nil}
 use Rattle.std.proofs.lemmas.Option.{none-some}
 use Rattle.cq_select.specs.declared.supply.Supply.{Supply}
 use Rattle.cq_select.specs.Selection.{member_count, IsSupplied}
-use Rattle.cq_select.specs.Steps.Facts.{IsMet, AreSeats, AreDead}
+use Rattle.cq_select.specs.Steps.Facts.{IsMet, AreSeats, AreDead, AreLost}
 
 no-mark : (n m : ℕ) → get_or (replicate n false) m false ≡ false
 no-mark n m =
@@ -26,6 +26,9 @@ module _ {A : Type 0} (supply : Supply A) where
     len = ap length all ∙ length-replicate n false ∙ is;
     never = λ m e. absurd (let never : false ≡ true = sym (no-mark n m) ∙ sym (ap (λ (l : List Bool). get_or l m false) all) ∙ e in cc);
   }
+
+  pub lost-none : (wanted : List ℕ) (lost : List Bool) (n : ℕ) → lost ≡ replicate n false → AreLost supply wanted lost
+  lost-none wanted lost n all = record { never = λ a m e at. absurd (let never : false ≡ true = sym (no-mark n a) ∙ sym (ap (λ (l : List Bool). get_or l a false) all) ∙ e in cc) }
 
   pub met-none : (wanted : List ℕ) → IsMet supply wanted [] 0 0
   met-none wanted = record {

@@ -1,10 +1,10 @@
 -- What stays true when a member is looked at, chosen, passed over, or taken back.
-use Rattle.std.proofs.Common.{◌≡◌, ◌↔◌, ℕ, suc, ◌+◌, ◌<◌, ◌≤◌, ◌⊎◌, ⊎_elim, inl, inr, true, false, cond, Option, Some, None, List, [], ◌∷◌, ◌++◌, length, get_or, eqb, nat_eq, sym, ap, ◌∙◌, subst, arith}
+use Rattle.std.proofs.Common.{◌≡◌, ◌↔◌, ℕ, Bool, suc, ◌+◌, ◌<◌, ◌≤◌, ◌⊎◌, ⊎_elim, inl, inr, true, false, cond, Option, Some, None, List, [], ◌∷◌, ◌++◌, length, get_or, eqb, nat_eq, sym, ap, ◌∙◌, subst, arith}
 use Rattle.std.specs.HashMap.{get}
 use Rattle.std.specs.List.{Contains}
 use Rattle.std.specs.declared.vec.Vec.{Vec}
 use Rattle.std.proofs.lemmas.Bool.{cases_eq, cases_lt}
-use Rattle.std.proofs.lemmas.List.{length_push}
+use Rattle.std.proofs.lemmas.List.{get_or_default, length_push}
 use Rattle.std.proofs.lemmas.List.Elements.{Contains-append_left, Contains-get_or, Contains-push, Contains-push_cases}
 use Rattle.cq_select.specs.declared.supply.Supply.{Supply}
 use Rattle.cq_select.specs.declared.trail.Choice.{Choice}
@@ -66,7 +66,7 @@ module _ {A : Type 0} (supply : Supply A) (wanted : List ℕ) where
         served = served;
       } in
       record {
-        trail_is = record { frames = s.trail_is.frames; seats = s.trail_is.seats; dead = s.trail_is.dead };
+        trail_is = record { frames = s.trail_is.frames; seats = s.trail_is.seats; dead = s.trail_is.dead; lost = s.trail_is.lost };
         trying = subst (λ (c : Choice A). IsTrying supply wanted below c m) (sym next) trying;
       }
 
@@ -74,8 +74,8 @@ module _ {A : Type 0} (supply : Supply A) (wanted : List ℕ) where
   pub closed : (trail after : Trail A) (owner m : ℕ) → IsLooking supply wanted trail m → m < member_count supply → owner ≡ owner_of supply m → get nat_eq trail.seats owner ≡ None
       → after.frames.items ≡ trail.frames.items ++ record { choice = trail.choice; member = m } ∷ [] → after.choice.list ≡ trail.choice.list → after.choice.place ≡ trail.choice.place
       → after.choice.tried ≡ 0 → after.choice.reason.items ≡ []
-      → ((q : ℕ) → get nat_eq after.seats q ≡ cond (eqb owner q) (Some m) (get nat_eq trail.seats q)) → after.dead ≡ trail.dead → IsScanning supply wanted after
-  closed trail after owner m s known is free frames list place fresh clear seats dead =
+      → ((q : ℕ) → get nat_eq after.seats q ≡ cond (eqb owner q) (Some m) (get nat_eq trail.seats q)) → after.dead ≡ trail.dead → after.lost ≡ trail.lost → IsScanning supply wanted after
+  closed trail after owner m s known is free frames list place fresh clear seats dead lost =
       let below = chosen_of trail.frames.items in
       let frame : Frame A = record { choice = trail.choice; member = m } in
       let o = s.trying.state in
@@ -88,6 +88,7 @@ module _ {A : Type 0} (supply : Supply A) (wanted : List ℕ) where
           frames = rw frames (frames-push supply wanted [] trail.frames.items frame s.trail_is.frames made);
           seats = subst (λ (l : List ℕ). AreSeats supply l (get nat_eq after.seats)) (sym all) (seats-push supply below (get nat_eq trail.seats) (get nat_eq after.seats) owner m s.trail_is.seats known is free seats);
           dead = rw dead s.trail_is.dead;
+          lost = rw lost s.trail_is.lost;
         };
         low = rw (all, list) (omega (arith, len, low));
         met = rw (all, list, place) (met-push supply wanted below m trail.choice.list trail.choice.place o.low o.met);
@@ -118,7 +119,7 @@ module _ {A : Type 0} (supply : Supply A) (wanted : List ℕ) where
       let there : Contains reason.items other = subst (λ (l : List ℕ). Contains l other) (sym more) (Contains-push trail.choice.reason.items other) in
       let wide = widened below trail.choice t.count reason t.state kept inside in
       record {
-        trail_is = record { frames = s.trail_is.frames; seats = s.trail_is.seats; dead = s.trail_is.dead };
+        trail_is = record { frames = s.trail_is.frames; seats = s.trail_is.seats; dead = s.trail_is.dead; lost = s.trail_is.lost };
         choice = subst (IsOpen supply wanted below (record trail.choice { reason = reason })) (sym t.counted)
             (one-more below (record trail.choice { reason = reason }) m t.count wide t.served (refuted-taken supply wanted reason.items m other there sits.1 differs));
       }
@@ -128,6 +129,55 @@ module _ {A : Type 0} (supply : Supply A) (wanted : List ℕ) where
   all-tried : (below : List ℕ) (choice : Choice A) → IsOpen supply wanted below choice choice.tried → length (suppliers_of supply choice.atom) ≤ choice.tried
       → (k : ℕ) → k < length (suppliers_of supply choice.atom) → Refuted supply wanted choice.reason.items (get_or (suppliers_of supply choice.atom) k 0)
   all-tried below choice o all k low = o.refuted k (omega arith)
+
+  -- the suppliers of the atom are in no selection, where the reason is empty
+  pub marked-lost : (trail : Trail A) (lost : Vec Bool A) → IsExhausted supply wanted trail
+      → ((m : ℕ) → get_or lost.items m false ≡ true → (get_or trail.lost.items m false ≡ true) ⊎ ((m ≡ trail.choice.atom) × (trail.choice.reason.items ≡ [])))
+      → IsExhausted supply wanted (record trail { lost = lost })
+  marked-lost trail lost e marks =
+      let o = e.choosing.choice in
+      let t = e.choosing.trail_is in
+      let atom = trail.choice.atom in
+      let each = all-tried (chosen_of trail.frames.items) trail.choice o e.all in
+      let now : (m : ℕ) → trail.choice.reason.items ≡ [] → Contains (suppliers_of supply atom) m → Refuted supply wanted [] m = λ m none at.
+      subst (Refuted supply wanted []) (get_or_default (suppliers_of supply atom) at.0 0 m at.1 ∙ at.2) (subst (λ (reason : List ℕ). Refuted supply wanted reason (get_or (suppliers_of supply atom) at.0 0)) none (each at.0 at.1)) in
+      record {
+        choosing = record {
+          trail_is = record {
+            frames = t.frames;
+            seats = t.seats;
+            dead = t.dead;
+            lost = record {
+              never = λ a m mark at.
+                  ⊎_elim (λ old. t.lost.never a m old at)
+                  (λ h. now m h.1 (subst (λ (n : ℕ). Contains (suppliers_of supply n) m) h.0 at)) (marks a mark);
+            };
+          };
+          choice = o;
+        };
+        all = e.all;
+      }
+
+  -- an atom that is marked has its suppliers passed over
+  pub passed-over : (trail : Trail A) (count : ℕ) → IsChoosing supply wanted trail → get_or trail.lost.items trail.choice.atom false ≡ true → count ≡ length (suppliers_of supply trail.choice.atom)
+      → IsChoosing supply wanted (record trail { choice = record trail.choice { tried = count } })
+  passed-over trail count s mark is =
+      let o = s.choice in
+      let t = s.trail_is in
+      record {
+        trail_is = record { frames = t.frames; seats = t.seats; dead = t.dead; lost = t.lost };
+        choice = record {
+          met = o.met;
+          low = o.low;
+          needed = o.needed;
+          unmet = o.unmet;
+          caused = o.caused;
+          refuted = λ k low.
+              let within : k < length (suppliers_of supply trail.choice.atom) = subst (λ (n : ℕ). k < n) is low in
+              refuted-always supply wanted trail.choice.reason.items (get_or (suppliers_of supply trail.choice.atom) k 0)
+              (t.lost.never trail.choice.atom (get_or (suppliers_of supply trail.choice.atom) k 0) mark (Contains-get_or (suppliers_of supply trail.choice.atom) k 0 within));
+        };
+      }
 
   pub blocked-wanted : (trail : Trail A) → IsExhausted supply wanted trail → trail.choice.cause ≡ None → IsBlocked supply wanted trail
   blocked-wanted trail e is =
@@ -148,15 +198,15 @@ module _ {A : Type 0} (supply : Supply A) (wanted : List ℕ) where
       let below = chosen_of trail.frames.items in
       let asked : IsAsked supply wanted below (Some cause) trail.choice.atom = subst (λ (c : Option ℕ). IsAsked supply wanted below c trail.choice.atom) is o.needed in
       record {
-        trail_is = record { frames = t.frames; seats = t.seats; dead = t.dead };
+        trail_is = record { frames = t.frames; seats = t.seats; dead = t.dead; lost = t.lost };
         conflict = subst (Nogood supply wanted) (sym more) (nogood-needed supply wanted trail.choice.reason.items cause trail.choice.atom asked.1 (all-tried below trail.choice o e.all));
         caused = λ q i. ⊎_elim (λ old. o.caused q old) (λ same. subst (Contains below) same asked.0) (Contains-push_cases trail.choice.reason.items cause q (subst (λ (l : List ℕ). Contains l q) more i));
       }
 
-  pub taken-back : (trail after : Trail A) (frame : Frame A) → IsTrail supply wanted trail → trail.frames.items ≡ after.frames.items ++ frame ∷ [] → after.dead ≡ trail.dead
+  pub taken-back : (trail after : Trail A) (frame : Frame A) → IsTrail supply wanted trail → trail.frames.items ≡ after.frames.items ++ frame ∷ [] → after.dead ≡ trail.dead → after.lost ≡ trail.lost
       → (frame.member < member_count supply → (q : ℕ) → get nat_eq after.seats q ≡ cond (eqb (owner_of supply frame.member) q) None (get nat_eq trail.seats q))
       → IsTrail supply wanted after × IsFrame supply wanted (chosen_of after.frames.items) frame
-  taken-back trail after frame t is dead less =
+  taken-back trail after frame t is dead lost less =
       let rest = after.frames.items in
       let parts = frames-split supply wanted [] rest frame (subst (AreFrames supply wanted []) is t.frames) in
       let sit : AreSeats supply (chosen_of rest ++ frame.member ∷ []) (get nat_eq trail.seats) = subst (λ (l : List ℕ). AreSeats supply l (get nat_eq trail.seats)) (ap chosen_of is ∙ chosen-push rest frame) t.seats in (
@@ -164,6 +214,7 @@ module _ {A : Type 0} (supply : Supply A) (wanted : List ℕ) where
           frames = parts.0;
           seats = seats-pop supply (chosen_of rest) (get nat_eq trail.seats) (get nat_eq after.seats) frame.member sit parts.1.alone (less parts.1.known);
           dead = rw dead t.dead;
+          lost = rw lost t.lost;
         },
         parts.1,
       )
@@ -191,12 +242,12 @@ module _ {A : Type 0} (supply : Supply A) (wanted : List ℕ) where
   -- the choice is opened again whose member the conflict has
   pub reopened : (trail after : Trail A) (frame : Frame A) → IsTrail supply wanted trail → IsFrame supply wanted (chosen_of trail.frames.items) frame
       → Nogood supply wanted trail.choice.reason.items → IsWithin trail.choice.reason.items (chosen_of trail.frames.items ++ frame.member ∷ [])
-      → after.frames ≡ trail.frames → after.seats ≡ trail.seats → after.choice ≡ record frame.choice { reason = after.choice.reason }
+      → after.frames ≡ trail.frames → after.seats ≡ trail.seats → after.lost ≡ trail.lost → after.choice ≡ record frame.choice { reason = after.choice.reason }
       → ((m : ℕ) → Contains after.choice.reason.items m ↔ (Contains frame.choice.reason.items m ⊎ (Contains trail.choice.reason.items m × (m ≡ frame.member → ⊥))))
       → length after.dead.items ≡ length trail.dead.items
       → ((m : ℕ) → get_or after.dead.items m false ≡ true → (get_or trail.dead.items m false ≡ true) ⊎ ((m ≡ frame.member) × ((other : ℕ) → Contains trail.choice.reason.items other → (other ≡ frame.member → ⊥) → ⊥)))
       → IsChoosing supply wanted after
-  reopened trail after frame t made nogood inside frames seats choice reason len dead =
+  reopened trail after frame t made nogood inside frames seats lost choice reason len dead =
       let below = chosen_of trail.frames.items in
       let conflict = trail.choice.reason.items in
       let more = after.choice.reason in
@@ -216,6 +267,7 @@ module _ {A : Type 0} (supply : Supply A) (wanted : List ℕ) where
         trail_is = record {
           frames = rw frames t.frames;
           seats = rw (frames, seats) t.seats;
+          lost = rw lost t.lost;
           dead = record {
             len = len ∙ t.dead.len;
             never = λ q mark.

@@ -49,13 +49,24 @@ fn next_candidate<A: Allocator>(
     candidate
 }
 
-/// Whether the member is marked as one that no selection has.
-fn is_dead(dead: &[bool], member: usize) -> bool
-    ensures { result ≡ slice_index_or dead.now member false }
+/// Whether the member, or the atom, is marked.
+fn is_marked(marks: &[bool], number: usize) -> bool
+    ensures { result ≡ slice_index_or marks.now number false }
 {
-    match dead.get(member) {
+    match marks.get(number) {
         Some(mark) => *mark,
         None => false,
+    }
+}
+
+/// Passes over all suppliers of the atom, where it is marked as one that no selection supplies.
+fn pass_over<A: Allocator>(trail: &mut Trail<A>, supply: &Supply<A>)
+    ensures frames { trail.new.frames ≡ trail.old.frames }
+    ensures atom { trail.new.choice.atom ≡ trail.old.choice.atom }
+    ensures choosing { (wanted : List ℕ) → IsChoosing supply.now wanted trail.old → IsChoosing supply.now wanted trail.new }
+{
+    if is_marked(&trail.lost, trail.choice.atom) {
+        trail.choice.tried = suppliers_of(supply, trail.choice.atom).len();
     }
 }
 
@@ -67,7 +78,7 @@ fn judge<A: Allocator>(trail: &Trail<A>, supply: &Supply<A>, candidate: usize) -
         Some(owner) => owner,
         None => return Verdict::Never,
     };
-    if is_dead(&trail.dead, candidate) {
+    if is_marked(&trail.dead, candidate) {
         return Verdict::Never;
     }
     match seat_of(&trail.seats, owner) {
@@ -89,6 +100,7 @@ fn close<A: Allocator + Copy>(
     ensures clear { trail.new.choice.reason.items ≡ [] }
     ensures seats { OnOk result ((q : ℕ) → get nat_eq trail.new.seats q ≡ (if owner == q then Some member else get nat_eq trail.old.seats q)) }
     ensures dead { trail.new.dead ≡ trail.old.dead }
+    ensures lost { trail.new.lost ≡ trail.old.lost }
 {
     let next = Choice {
         list: trail.choice.list,
@@ -173,6 +185,7 @@ pub fn choose<A: Allocator + Copy>(
     ensures none { result ≡ Ok Trial.Exhausted → (wanted : List ℕ) → IsChoosing supply.now wanted trail.old → (chosen : List ℕ) → IsSelection supply.now wanted chosen → ⊥ }
 {
     loop {
+        pass_over(trail, supply);
         match try_suppliers(trail, supply, steps, budget)? {
             Trial::Chosen => return Ok(Trial::Chosen),
             Trial::Stopped => return Ok(Trial::Stopped),

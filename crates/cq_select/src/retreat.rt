@@ -21,6 +21,14 @@ fn add_reasons<A: Allocator>(reason: &mut Vec<usize, A>, more: &[usize]) -> Resu
     Ok(())
 }
 
+/// Marks the atom as one that no selection supplies, where its suppliers were refuted for no reason but themselves.
+fn mark_lost<A: Allocator>(trail: &mut Trail<A>)
+    ensures frames { trail.new.frames ≡ trail.old.frames }
+    ensures exhausted { (supply : Supply A) (wanted : List ℕ) → IsExhausted supply wanted trail.old → IsExhausted supply wanted trail.new }
+{
+    mark(&mut trail.lost, &trail.choice.reason, trail.choice.atom);
+}
+
 /// Adds the member that needs the atom to the reason.
 fn add_cause<A: Allocator>(trail: &mut Trail<A>) -> Result<(), AllocError>
     ensures frames { trail.new.frames ≡ trail.old.frames }
@@ -67,13 +75,13 @@ fn leave_out<A: Allocator>(conflict: &mut Vec<usize, A>, member: usize)
     conflict.retain(|other| *other != member);
 }
 
-/// Marks the member as one that no selection has, where nobody else is in the conflict.
-fn mark<A: Allocator>(dead: &mut Vec<bool, A>, others: &[usize], member: usize)
-    ensures len { length dead.new.items ≡ length dead.old.items }
-    ensures marks { (m : ℕ) → slice_index_or dead.new.items m false ≡ true → (slice_index_or dead.old.items m false ≡ true) ⊎ ((m ≡ member) × (others.now ≡ [])) }
+/// Marks the member, or the atom, where nobody else is in the reason.
+fn mark<A: Allocator>(marks: &mut Vec<bool, A>, others: &[usize], number: usize)
+    ensures len { length marks.new.items ≡ length marks.old.items }
+    ensures marks { (m : ℕ) → slice_index_or marks.new.items m false ≡ true → (slice_index_or marks.old.items m false ≡ true) ⊎ ((m ≡ number) × (others.now ≡ [])) }
 {
-    if others.is_empty() && member < dead.len() {
-        dead[member] = true;
+    if others.is_empty() && number < marks.len() {
+        marks[number] = true;
     }
 }
 
@@ -83,6 +91,7 @@ fn reopen<A: Allocator>(trail: &mut Trail<A>, frame: Frame<A>) -> Result<(), All
     ensures seats { trail.new.seats ≡ trail.old.seats }
     ensures choice { OnOk result (trail.new.choice ≡ record frame.choice { reason = trail.new.choice.reason }) }
     ensures reason { OnOk result ((m : ℕ) → Contains trail.new.choice.reason.items m ↔ (Contains frame.choice.reason.items m ⊎ (Contains trail.old.choice.reason.items m × (m ≡ frame.member → ⊥)))) }
+    ensures lost { trail.new.lost ≡ trail.old.lost }
     ensures dead_len { length trail.new.dead.items ≡ length trail.old.dead.items }
     ensures dead { (m : ℕ) → slice_index_or trail.new.dead.items m false ≡ true → (slice_index_or trail.old.dead.items m false ≡ true) ⊎ ((m ≡ frame.member) × ((other : ℕ) → Contains trail.old.choice.reason.items other → (other ≡ frame.member → ⊥) → ⊥)) }
 {
@@ -105,6 +114,7 @@ pub fn retreat<A: Allocator>(trail: &mut Trail<A>, supply: &Supply<A>) -> Result
     ensures fewer { result ≡ Ok true → length trail.new.frames.items < length trail.old.frames.items }
     ensures none { result ≡ Ok false → (wanted : List ℕ) → IsExhausted supply.now wanted trail.old → (chosen : List ℕ) → IsSelection supply.now wanted chosen → ⊥ }
 {
+    mark_lost(trail);
     add_cause(trail)?;
     while let Some(frame) = take_back(trail, supply) {
         if trail.choice.reason.contains(&frame.member) {

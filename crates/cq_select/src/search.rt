@@ -46,6 +46,7 @@ fn begin<A: Allocator + Copy>(alloc: A, supply: &Supply<A>) -> Result<Trail<A>, 
     ensures { IfOk result (λ trail. (wanted : List ℕ) → IsScanning supply.now wanted trail) }
 {
     let dead = vec![in alloc; false; supply.members.len()]?;
+    let lost = vec![in alloc; false; supply.suppliers.len()]?;
     let choice = Choice {
         list: 0,
         place: 0,
@@ -59,6 +60,7 @@ fn begin<A: Allocator + Copy>(alloc: A, supply: &Supply<A>) -> Result<Trail<A>, 
         frames: Vec::new(alloc),
         seats: HashMap::new(alloc),
         dead,
+        lost,
         alloc,
     })
 }

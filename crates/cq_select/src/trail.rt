@@ -50,6 +50,8 @@ pub struct Trail<A: Allocator = Global> {
     pub seats: Seats<A>,
     /// Which members no selection has.
     pub dead: Vec<bool, A>,
+    /// Which atoms no selection supplies.
+    pub lost: Vec<bool, A>,
     /// Where memory comes from.
     pub alloc: A,
 }

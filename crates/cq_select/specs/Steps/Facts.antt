@@ -95,11 +95,16 @@ pub record AreDead {A : Type 0} (supply : Supply A) (wanted : List ℕ) (dead : 
   pub len : length dead ≡ member_count supply
   pub never : (m : ℕ) → slice_index_or dead m false ≡ true → Refuted supply wanted [] m
 
+-- The suppliers of each atom that is marked are in no selection.
+pub record AreLost {A : Type 0} (supply : Supply A) (wanted : List ℕ) (lost : List Bool) : Type 0 where
+  pub never : (atom m : ℕ) → slice_index_or lost atom false ≡ true → Contains (suppliers_of supply atom) m → Refuted supply wanted [] m
+
 -- What is true of a trail all the time.
 pub record IsTrail {A : Type 0} (supply : Supply A) (wanted : List ℕ) (trail : Trail A) : Type 0 where
   pub frames : AreFrames supply wanted [] trail.frames.items
   pub seats : AreSeats supply (chosen_of trail.frames.items) (get nat_eq trail.seats)
   pub dead : AreDead supply wanted trail.dead.items
+  pub lost : AreLost supply wanted trail.lost.items
 
 -- The next need is looked for: all before the place is met.
 pub record IsScanning {A : Type 0} (supply : Supply A) (wanted : List ℕ) (trail : Trail A) : Type 0 where

@@ -18,7 +18,7 @@ returns-then-contains-clause-back g c e wanted ex =
     let good = c.in-Some.ensures.good wanted b.trail_is in
     let back = conflict-back supply wanted before trail frame b c.in-Some.ensures.choice c.in-Some.ensures.frames in
     let r = c.in_ok-reopen.ensures in
-    reopened supply wanted trail after frame good.0 good.1 back.0 back.1 r.frames r.seats r.choice r.reason r.dead_len r.dead
+    reopened supply wanted trail after frame good.0 good.1 back.0 back.1 r.frames r.seats r.lost r.choice r.reason r.dead_len r.dead
 
 pub returns-then-contains-clause-none : goal.returns-then-contains-clause-none
 returns-then-contains-clause-none g c e wanted ex chosen s = cc

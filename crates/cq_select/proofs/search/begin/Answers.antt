@@ -2,7 +2,7 @@ use Rattle.std.proofs.Common.{◌≡◌, ℕ, false, None, [], replicate, nat_eq
 use Rattle.std.specs.HashMap.{get}
 use Rattle.cq_select.specs.Selection.{member_count}
 use Rattle.cq_select.specs.Steps.Facts.{chosen_of}
-use Rattle.cq_select.proofs.Beginning.{seats-none, dead-none, met-none}
+use Rattle.cq_select.proofs.Beginning.{seats-none, dead-none, lost-none, met-none}
 use Rattle.cq_select.proofs.search.begin.Goals as goal
 
 pub returns : goal.returns
@@ -17,6 +17,7 @@ returns g c wanted =
         frames = rw c.new-2.ensures.items tt;
         seats = rw chosen (seats-none supply (get nat_eq c.new-3.result) none);
         dead = dead-none supply wanted c.in_ok-dead.dead.items c.len.result all count;
+        lost = lost-none supply wanted c.in_ok-lost.lost.items c.len-2.result (c.in_ok-lost.ensures.items_if_clones_equal (λ y h. h));
       };
       low = omega arith;
       met = rw chosen (met-none supply wanted);
