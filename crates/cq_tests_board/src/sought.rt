@@ -4,6 +4,7 @@ use crate::samples::{Setup, WORKED, made};
 use cq_atom::Name;
 use cq_board::Board;
 use cq_choose::{Answer, Sought, choose};
+use cq_groups::group_labels;
 use cq_select::{Member, Search, Selected, Supply, select};
 use cq_tests_allocations::{Outcome, Tried, refusals};
 use std::alloc::{AllocError, Allocator};
@@ -198,4 +199,26 @@ impl Tried for Pair {
 #[test]
 fn failed_allocation_in_select(rt: HostRuntime) {
     assert!(rt; matches!(refusals::<Pair>(rt.alloc()), Ok(3..)));
+}
+
+fn are_grouped<A: Allocator>(alloc: A) -> Result<bool, AllocError> {
+    let labels = group_labels(alloc, 6, &[(0, 1), (3, 2), (4, 3)])?;
+    Ok(labels.as_slice() == &[0, 0, 2, 2, 2, 5])
+}
+
+/// Six nodes, of which the first two hang together, and the next three.
+struct Groups;
+
+impl Tried for Groups {
+    fn tried<A: Allocator + Copy>(alloc: A) -> Outcome {
+        match are_grouped(alloc) {
+            Ok(right) => Outcome::done_if(right),
+            Err(_) => Outcome::refused_if(are_grouped(alloc) == Ok(true)),
+        }
+    }
+}
+
+#[test]
+fn failed_allocation_in_group_labels(rt: HostRuntime) {
+    assert!(rt; matches!(refusals::<Groups>(rt.alloc()), Ok(1..)));
 }
