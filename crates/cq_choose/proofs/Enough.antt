@@ -177,18 +177,28 @@ module _ (pool : PoolRecord) (good : IsPool pool) (names : List (List ℕ)) (mat
           | inr never ↦ absurd (let low : never.0 < 0 = never.1 in omega arith)
         ]
 
+    kept-offers : (atom : AtomRecord) (d : ChoiceRecord) → In d kept → (by : Found d) (head : AtomRecord) → In head by.posted.query.heads → under (bound by.posted.query d.values) head ≡ atom
+        → In atom (offered pool.pending kept)
+    kept-offers atom d among by head has same =
+        In-flat_map (λ (c : ChoiceRecord). offered_by (query_named c.name pool.pending) c.values) kept d atom among
+        (subst (λ (q : Option QueryRecord). In atom (offered_by q d.values)) (sym by.query)
+        (subst (λ (a : AtomRecord). In a (offered_by (Some by.posted.query) d.values)) same (In-map (under (bound by.posted.query d.values)) by.posted.query.heads head has)))
+
+    kept-serves : (atom : AtomRecord) (c : ChoiceRecord) (m : In c choices) → keeps c ≡ true → (f : Found c) (post : AtomRecord) (h : In post f.posted.query.posts) → atom ≡ under (bound f.posted.query c.values) post
+        → Server c f post → In atom (offered pool.pending kept)
+    kept-serves atom c m k f post h is s = kept-offers atom s.choice (server-kept c m f post h s k) s.by s.head s.has (s.same ∙ sym is)
+
+    kept-asked : (atom : AtomRecord) (c : ChoiceRecord) (m : In c choices) → keeps c ≡ true → (f : Found c) → In atom (awaited_by (Some f.posted.query) c.values) → In atom (offered pool.pending kept)
+    kept-asked atom c m k f asked =
+        let post = In-map_gives (under (bound f.posted.query c.values)) f.posted.query.posts atom asked in
+        kept-serves atom c m k f post.0 post.1 post.2 (server c m f post.0 post.1)
+
     kept-served : (atom : AtomRecord) → In atom (awaited pool.pending kept) → In atom (offered pool.pending kept)
     kept-served atom h =
         let from = In-flat_map_gives (λ (c : ChoiceRecord). awaited_by (query_named c.name pool.pending) c.values) kept atom h in
-        let c = from.0 in
-        let among = In-filter_gives keeps choices c from.1 in
-        let f = found c (grounded c among.0) in
-        let asked = subst (λ (q : Option QueryRecord). In atom (awaited_by q c.values)) f.query from.2 in
-        let post = In-map_gives (under (bound f.posted.query c.values)) f.posted.query.posts atom asked in
-        let s = server c among.0 f post.0 post.1 in
-        In-flat_map (λ (c : ChoiceRecord). offered_by (query_named c.name pool.pending) c.values) kept s.choice atom (server-kept c among.0 f post.0 post.1 s among.1)
-        (subst (λ (q : Option QueryRecord). In atom (offered_by q s.choice.values)) (sym s.by.query)
-        (subst (λ (a : AtomRecord). In a (offered_by (Some s.by.posted.query) s.choice.values)) (s.same ∙ sym post.2) (In-map (under (bound s.by.posted.query s.choice.values)) s.by.posted.query.heads s.head s.has)))
+        let among = In-filter_gives keeps choices from.0 from.1 in
+        let f = found from.0 (grounded from.0 among.0) in
+        kept-asked atom from.0 among.0 among.1 f (subst (λ (q : Option QueryRecord). In atom (awaited_by q from.0.values)) f.query from.2)
 
     is-wanted : (name : List ℕ) → In name names → list_any (bytes_eq name) names ≡ true
     is-wanted name h = any-has names h

@@ -16,7 +16,7 @@ use Rattle.cq_board.specs.Choice.{ChoiceRecord, IsGrounded}
 use Rattle.cq_board.proofs.CallerLemmas.{place_at, query_at, groundings_at}
 use Rattle.cq_choose.specs.Steps.Reach.{is_taken, IsTaken}
 use Rattle.cq_choose.specs.Steps.Offers.{OfferRecord, offers_by, offers_at, offers_of, choice_of}
-use Rattle.cq_choose.proofs.Lists.{by_bool, by_option, In, In-Contains, Contains-In, In-map, In-map_gives, In-flat_map, In-flat_map_gives, enumerate-has, enumerate-gives}
+use Rattle.cq_choose.proofs.Lists.{by_bool, In, In-Contains, Contains-In, In-map, In-map_gives, In-flat_map, In-flat_map_gives, enumerate-has, enumerate-gives}
 
 mapped-at : {X Y : Type 0} (f : X → Y) (xs : List X) (k : ℕ) (y : Y) → slice_get (map f xs) k ≡ Some y → (x : X) × (slice_get xs k ≡ Some x) × (f x ≡ y)
 mapped-at f [] k y e = cc
@@ -37,15 +37,18 @@ passes-at p (y ∷ xs) k x at got =
     (λ f. let later : 1 + position_or_len p xs ≡ k = rw f at at in let one : 1 + position_or_len p xs ≡ suc (position_or_len p xs) = omega arith in passes-at p xs (position_or_len p xs) x refl (ap (slice_get (y ∷ xs)) (sym one ∙ later) ∙ got))
 
 -- what is pending under a name
+named-from : (name : List ℕ) (pending : List PendingQuery) (query : QueryRecord) (k : ℕ) → position_or_len (is_named name) pending ≡ k → (o : Option PendingQuery) → slice_get pending k ≡ o
+    → option_map (λ (p : PendingQuery). p.query) o ≡ Some query → (place : ℕ) × (posted : PendingQuery) × (slice_get pending place ≡ Some posted) × (posted.name ≡ name) × (posted.query ≡ query)
+named-from name pending query k at None s found = cc
+named-from name pending query k at (Some posted) s found =
+    (k, posted, s, sym ((bytes_eq-Decides name posted.name).0 (passes-at (is_named name) pending k posted at s)), same_Some posted.query query found)
+
 pub named-at : (name : List ℕ) (pending : List PendingQuery) (query : QueryRecord) → query_named name pending ≡ Some query
     → (place : ℕ) × (posted : PendingQuery) × (slice_get pending place ≡ Some posted) × (posted.name ≡ name) × (posted.query ≡ query)
 named-at name pending query e =
     let k = position_or_len (is_named name) pending in
     by_bool (nat_lt k (length pending)) ((place : ℕ) × (posted : PendingQuery) × (slice_get pending place ≡ Some posted) × (posted.name ≡ name) × (posted.query ≡ query))
-    (λ t. let found : option_map (λ p. p.query) (slice_get pending k) ≡ Some query = rw t at e in
-    by_option (slice_get pending k) ((place : ℕ) × (posted : PendingQuery) × (slice_get pending place ≡ Some posted) × (posted.name ≡ name) × (posted.query ≡ query))
-    (λ n. absurd (let never : None ≡ Some query = sym (ap (option_map (λ (p : PendingQuery). p.query)) n) ∙ found in cc))
-    (λ posted s. (k, posted, s, sym ((bytes_eq-Decides name posted.name).0 (passes-at (is_named name) pending k posted refl s)), same_Some posted.query query (sym (ap (option_map (λ (p : PendingQuery). p.query)) s) ∙ found))))
+    (λ t. named-from name pending query k refl (slice_get pending k) refl (rw t at e))
     (λ f. absurd (let never : None ≡ Some query = rw f at e in cc))
 
 -- the offer is of a pending query and of a grounding of it
@@ -70,20 +73,28 @@ module _ (pool : PoolRecord) (good : IsPool pool) (spare : List Bool) where
       ∙ ap (λ (q : Option QueryRecord). offers_by place posted.name q (groundings_named posted.name pool)) (query_at pool good place posted here)
       ∙ ap (offers_by place posted.name (Some posted.query)) (groundings_at pool good place posted here)
 
+  offers-made : (o : OfferRecord) (place : ℕ) (posted : PendingQuery) → slice_get pool.pending place ≡ Some posted → In o (map (made place posted.name posted.query) (lists_of posted.query)) → IsOfferOf pool o
+  offers-made o place posted here h =
+      let values = In-map_gives (made place posted.name posted.query) (lists_of posted.query) o h in
+      subst (IsOfferOf pool) (sym values.2) (record { posted = posted; here = here; name = refl; query = refl; grounding = values.1 })
+
+  offers-give-at : (o : OfferRecord) (place : ℕ) (posted : PendingQuery) → slice_get pool.pending place ≡ Some posted → In o (offers_at pool spare place posted.name) → IsOfferOf pool o
+  offers-give-at o place posted here h =
+      by_bool (is_taken pool spare place posted.name) (IsOfferOf pool o)
+      (λ t. offers-made o place posted here (subst (In o) (offers-at place posted here t) h))
+      (λ f. absurd (subst (λ (t : Bool). In o (if t then offers_by place posted.name (query_named posted.name pool.pending) (groundings_named posted.name pool) else [])) f h))
+
+  offers-give-name : (o : OfferRecord) (place k : ℕ) (name : List ℕ) → place ≡ 0 + k → slice_get (map name_of pool.pending) k ≡ Some name → In o (offers_at pool spare place name) → IsOfferOf pool o
+  offers-give-name o place k name from named h =
+      let found = mapped-at name_of pool.pending k name named in
+      let at : k ≡ place = omega (arith, from) in
+      offers-give-at o place found.0 (ap (slice_get pool.pending) (sym at) ∙ found.1) (subst (λ (n : List ℕ). In o (offers_at pool spare place n)) (sym found.2) h)
+
   pub offers-give : (o : OfferRecord) → In o (offers_of pool spare) → IsOfferOf pool o
   offers-give o h =
       let numbered = In-flat_map_gives (λ (p : ℕ × List ℕ). offers_at pool spare p.0 p.1) (enumerate_from 0 (map name_of pool.pending)) o h in
-      let p = numbered.0 in
-      let from = enumerate-gives 0 (map name_of pool.pending) p numbered.1 in
-      let found = mapped-at name_of pool.pending from.0 p.1 from.2 in
-      let posted = found.0 in
-      let at : from.0 ≡ p.0 = omega (arith, from.1) in
-      let here : slice_get pool.pending p.0 ≡ Some posted = ap (slice_get pool.pending) (sym at) ∙ found.1 in
-      let own = subst (λ (n : List ℕ). In o (offers_at pool spare p.0 n)) (sym found.2) numbered.2 in
-      by_bool (is_taken pool spare p.0 posted.name) (IsOfferOf pool o)
-      (λ t. let values = In-map_gives (made p.0 posted.name posted.query) (lists_of posted.query) o (subst (In o) (offers-at p.0 posted here t) own) in
-      subst (IsOfferOf pool) (sym values.2) (record { posted = posted; here = here; name = refl; query = refl; grounding = values.1 }))
-      (λ f. absurd (subst (λ (t : Bool). In o (if t then offers_by p.0 posted.name (query_named posted.name pool.pending) (groundings_named posted.name pool) else [])) f own))
+      let from = enumerate-gives 0 (map name_of pool.pending) numbered.0 numbered.1 in
+      offers-give-name o numbered.0.0 from.0 numbered.0.1 from.1 from.2 numbered.2
 
   pub offers-has : (place : ℕ) (posted : PendingQuery) (values : List ValueContent) → slice_get pool.pending place ≡ Some posted → is_taken pool spare place posted.name ≡ true
       → In values (lists_of posted.query) → In (made place posted.name posted.query values) (offers_of pool spare)
@@ -116,13 +127,17 @@ module _ (pool : PoolRecord) (good : IsPool pool) (spare : List Bool) where
       let same : io.posted ≡ ip.posted = same_Some io.posted ip.posted (sym io.here ∙ ap (slice_get pool.pending) e ∙ ip.here) in
       sym io.name ∙ ap name_of same ∙ ip.name
 
+  offered-at : (c : ChoiceRecord) (query : QueryRecord) → IsGrounding query.body pool.tables.rows c.values → IsTaken pool spare c → (place : ℕ) (posted : PendingQuery) → slice_get pool.pending place ≡ Some posted
+      → posted.name ≡ c.name → posted.query ≡ query → (o : OfferRecord) × In o (offers_of pool spare) × (choice_of o ≡ c)
+  offered-at c query grounding taken place posted here name is =
+      let at = ap (λ (n : List ℕ). place_of n pool.pending) (sym name) ∙ place_at pool good place posted here in
+      let flag = subst (λ (n : List ℕ). is_taken pool spare place n ≡ true) (sym name) (taken.taken place at) in
+      let listed : Contains (lists_of posted.query) c.values =
+      ((listed-groundings posted.query.body pool.tables.rows).exactly c.values).1 (subst (λ (q : QueryRecord). IsGrounding q.body pool.tables.rows c.values) (sym is) grounding) in
+      (made place posted.name posted.query c.values, offers-has place posted c.values here flag (In-Contains (lists_of posted.query) c.values listed), ap (λ (n : List ℕ). record { name = n; values = c.values }) name)
+
   -- what is grounded and taken is offered
   pub grounded-offered : (c : ChoiceRecord) → IsGrounded pool c → IsTaken pool spare c → (o : OfferRecord) × In o (offers_of pool spare) × (choice_of o ≡ c)
   grounded-offered c is taken =
       let found = named-at c.name pool.pending is.query is.pending in
-      let posted = found.1 in
-      let at = ap (λ (n : List ℕ). place_of n pool.pending) (sym found.3) ∙ place_at pool good found.0 posted found.2 in
-      let flag = subst (λ (n : List ℕ). is_taken pool spare found.0 n ≡ true) (sym found.3) (taken.taken found.0 at) in
-      let listed : Contains (lists_of posted.query) c.values =
-      ((listed-groundings posted.query.body pool.tables.rows).exactly c.values).1 (subst (λ (q : QueryRecord). IsGrounding q.body pool.tables.rows c.values) (sym found.4) is.grounding) in
-      (made found.0 posted.name posted.query c.values, offers-has found.0 posted c.values found.2 flag (In-Contains (lists_of posted.query) c.values listed), ap (λ (n : List ℕ). record { name = n; values = c.values }) found.3)
+      offered-at c is.query is.grounding taken found.0 found.1 found.2 found.3 found.4

@@ -88,7 +88,7 @@ module _ {A : Type 0} (pool : PoolRecord) (good : IsPool pool) (spare : List Boo
   needs-at m o here = ap (λ (l : List (List ℕ)). get_or l m []) needs ∙ get_or_from_slice_get (map (needs_in stock) offers) m (needs_in stock o) [] (at-mapped (needs_in stock) offers m o here)
 
   suppliers-at : (g : GoodContent) → suppliers_of supply (number_in stock g) ≡ holders (stocked offers) g
-  unfolding suppliers_of
+  unfolding suppliers_of holders
   suppliers-at g = ap (λ (l : List (List ℕ)). get_or l (number_in stock g) []) suppliers ∙ ap (λ (s : StockRecord). holders s g) kept
 
   supplied-gives : (chosen : List ℕ) (g : GoodContent) → IsSupplied supply chosen (number_in stock g) → (m : ℕ) × (o : OfferRecord) × In m chosen × (slice_get offers m ≡ Some o) × In g (goods_of o)
@@ -158,20 +158,31 @@ module _ {A : Type 0} (pool : PoolRecord) (good : IsPool pool) (spare : List Boo
     choices-grounded : (c : ChoiceRecord) → In c choices → IsGrounded pool c
     choices-grounded c h = let of = of-choice chosen c h in subst (IsGrounded pool) (sym of.4) (offer-grounded pool good spare of.1 (offer-is of.0 of.1 of.3))
 
+    choices-offer : (atom : AtomRecord) (m : ℕ) (o : OfferRecord) → In m chosen → slice_get offers m ≡ Some o → In (Atom atom) (goods_of o) → In atom (offered pool.pending choices)
+    choices-offer atom m o among here has =
+        In-flat_map (λ (c : ChoiceRecord). offered_by (query_named c.name pool.pending) c.values) choices (choice_of o) atom (has-choice chosen m o among here)
+        (subst (λ (q : Option QueryRecord). In atom (offered_by q o.values)) (sym (offer-pending pool good spare o (offer-is m o here))) (goods-offered o atom has))
+
+    choices-meet : (atom : AtomRecord) (m : ℕ) (o : OfferRecord) → In m chosen → slice_get offers m ≡ Some o → In (Atom atom) (awaited_goods o) → In atom (offered pool.pending choices)
+    choices-meet atom m o among here asked =
+        let need = subst (In (number_in stock (Atom atom))) (sym (needs-at m o here)) (In-map (number_in stock) (awaited_goods o) (Atom atom) asked) in
+        let met = In-All (IsSupplied supply chosen) (needs_of supply m) (In-All (λ (n : ℕ). All (IsSupplied supply chosen) (needs_of supply n)) chosen is.needs m among) (number_in stock (Atom atom)) need in
+        let by = supplied-gives chosen (Atom atom) met in
+        choices-offer atom by.0 by.1 by.2 by.3 by.4
+
+    choices-serve : (atom : AtomRecord) (c : ChoiceRecord) (m : ℕ) (o : OfferRecord) → In m chosen → slice_get offers m ≡ Some o → c ≡ choice_of o
+        → In atom (awaited_by (query_named c.name pool.pending) c.values) → In atom (offered pool.pending choices)
+    choices-serve atom c m o among here made asked =
+        choices-meet atom m o among here
+        (awaited-goods o atom
+        (subst (λ (q : Option QueryRecord). In atom (awaited_by q o.values)) (offer-pending pool good spare o (offer-is m o here))
+        (subst (λ (d : ChoiceRecord). In atom (awaited_by (query_named d.name pool.pending) d.values)) made asked)))
+
     choices-served : (atom : AtomRecord) → In atom (awaited pool.pending choices) → In atom (offered pool.pending choices)
     choices-served atom h =
         let from = In-flat_map_gives (λ (c : ChoiceRecord). awaited_by (query_named c.name pool.pending) c.values) choices atom h in
         let of = of-choice chosen from.0 from.1 in
-        let m = of.0 in let o = of.1 in
-        let asked : In atom (awaited_by (Some o.query) o.values) =
-        subst (λ (q : Option QueryRecord). In atom (awaited_by q o.values)) (offer-pending pool good spare o (offer-is m o of.3))
-        (subst (λ (c : ChoiceRecord). In atom (awaited_by (query_named c.name pool.pending) c.values)) of.4 from.2) in
-        let need : In (number_in stock (Atom atom)) (needs_of supply m) = subst (In (number_in stock (Atom atom))) (sym (needs-at m o of.3)) (In-map (number_in stock) (awaited_goods o) (Atom atom) (awaited-goods o atom asked)) in
-        let met = In-All (IsSupplied supply chosen) (needs_of supply m) (In-All (λ (n : ℕ). All (IsSupplied supply chosen) (needs_of supply n)) chosen is.needs m of.2) (number_in stock (Atom atom)) need in
-        let by = supplied-gives chosen (Atom atom) met in
-        let p = by.1 in
-        In-flat_map (λ (c : ChoiceRecord). offered_by (query_named c.name pool.pending) c.values) choices (choice_of p) atom (has-choice chosen by.0 p by.2 by.3)
-        (subst (λ (q : Option QueryRecord). In atom (offered_by q p.values)) (sym (offer-pending pool good spare p (offer-is by.0 p by.3))) (goods-offered p atom by.4))
+        choices-serve atom from.0 of.0 of.1 of.2 of.3 of.4 from.2
 
     choices-named : (name : List ℕ) → In name names → In name (map chosen_name choices)
     choices-named name h =
@@ -240,25 +251,34 @@ module _ {A : Type 0} (pool : PoolRecord) (good : IsPool pool) (spare : List Boo
     abbrev pub chosen : List ℕ
     chosen = numbers choices ready
 
+    numbers-offer : (atom : AtomRecord) (d : ChoiceRecord) (m : ℕ) (o : OfferRecord) → In m chosen → slice_get offers m ≡ Some o → choice_of o ≡ d
+        → In atom (offered_by (query_named d.name pool.pending) d.values) → IsSupplied supply chosen (number_in stock (Atom atom))
+    numbers-offer atom d m o among here made offers_it =
+        supplied-has chosen (Atom atom) m o among here
+        (offered-goods o atom
+        (subst (λ (q : Option QueryRecord). In atom (offered_by q o.values)) (offer-pending pool good spare o (offer-is m o here))
+        (subst (λ (e : ChoiceRecord). In atom (offered_by (query_named e.name pool.pending) e.values)) (sym made) offers_it)))
+
+    numbers-meet : (atom : AtomRecord) → In atom (awaited pool.pending choices) → IsSupplied supply chosen (number_in stock (Atom atom))
+    numbers-meet atom asked =
+        let met = In-Contains (offered pool.pending choices) atom (In-All (Contains (offered pool.pending choices)) (awaited pool.pending choices) is.coordinating.served atom asked) in
+        let from = In-flat_map_gives (λ (d : ChoiceRecord). offered_by (query_named d.name pool.pending) d.values) choices atom met in
+        let by = has-number choices ready from.0 from.1 in
+        numbers-offer atom from.0 by.0 by.1 by.2 by.3 by.4 from.2
+
+    numbers-ask : (atom : AtomRecord) (c : ChoiceRecord) (m : ℕ) (o : OfferRecord) → In c choices → slice_get offers m ≡ Some o → choice_of o ≡ c → In atom (awaited_by (Some o.query) o.values)
+        → In atom (awaited pool.pending choices)
+    numbers-ask atom c m o among here made asked =
+        In-flat_map (λ (d : ChoiceRecord). awaited_by (query_named d.name pool.pending) d.values) choices c atom among
+        (subst (λ (d : ChoiceRecord). In atom (awaited_by (query_named d.name pool.pending) d.values)) made
+        (subst (λ (q : Option QueryRecord). In atom (awaited_by q o.values)) (sym (offer-pending pool good spare o (offer-is m o here))) asked))
+
     numbers-served : (m : ℕ) → In m chosen → (a : ℕ) → In a (needs_of supply m) → IsSupplied supply chosen a
     numbers-served m h a k =
         let of = of-number choices ready m h in
-        let c = of.0 in let o = of.1 in
-        let need = In-map_gives (number_in stock) (awaited_goods o) a (subst (In a) (needs-at m o of.3) k) in
-        let asked = goods-awaited o need.0 need.1 in
-        let atom = asked.0 in
-        let asked_of : In atom (awaited_by (query_named c.name pool.pending) c.values) =
-        subst (λ (d : ChoiceRecord). In atom (awaited_by (query_named d.name pool.pending) d.values)) of.4
-        (subst (λ (q : Option QueryRecord). In atom (awaited_by q o.values)) (sym (offer-pending pool good spare o (offer-is m o of.3))) asked.1) in
-        let every = In-flat_map (λ (d : ChoiceRecord). awaited_by (query_named d.name pool.pending) d.values) choices c atom of.2 asked_of in
-        let met = In-Contains (offered pool.pending choices) atom (In-All (Contains (offered pool.pending choices)) (awaited pool.pending choices) is.coordinating.served atom every) in
-        let from = In-flat_map_gives (λ (d : ChoiceRecord). offered_by (query_named d.name pool.pending) d.values) choices atom met in
-        let by = has-number choices ready from.0 from.1 in
-        let p = by.1 in
-        let offers_it : In atom (offered_by (Some p.query) p.values) =
-        subst (λ (q : Option QueryRecord). In atom (offered_by q p.values)) (offer-pending pool good spare p (offer-is by.0 p by.3))
-        (subst (λ (d : ChoiceRecord). In atom (offered_by (query_named d.name pool.pending) d.values)) (sym by.4) from.2) in
-        subst (IsSupplied supply chosen) (sym (need.2 ∙ ap (number_in stock) asked.2)) (supplied-has chosen (Atom atom) by.0 p by.2 by.3 (offered-goods p atom offers_it))
+        let need = In-map_gives (number_in stock) (awaited_goods of.1) a (subst (In a) (needs-at m of.1 of.3) k) in
+        let asked = goods-awaited of.1 need.0 need.1 in
+        subst (IsSupplied supply chosen) (sym (need.2 ∙ ap (number_in stock) asked.2)) (numbers-meet asked.0 (numbers-ask asked.0 of.0 m of.1 of.2 of.3 of.4 asked.1))
 
     numbers-wanted : (a : ℕ) → In a wanted → IsSupplied supply chosen a
     numbers-wanted a h =

@@ -70,7 +70,7 @@ pub record IsEven (stock : StockRecord) : Type 0 where
   pub even : length stock.suppliers ≡ length stock.goods
 
 -- the members that offer the good
-abbrev pub holders : StockRecord → GoodContent → List ℕ
+unfoldable pub holders : StockRecord → GoodContent → List ℕ
 holders stock g = get_or stock.suppliers (number_in stock g) []
 
 nobody : (n i : ℕ) → In i (get_or [] n []) → ⊥
@@ -106,6 +106,7 @@ module _ (m : ℕ) (stock : StockRecord) (g : GoodContent) (even : IsEven stock)
       }))
 
   pub holders-own : holders (with_supplier m stock g) g ≡ holders stock g ++ m ∷ []
+  unfolding holders
   holders-own =
       by_bool (known g goods) (holders (with_supplier m stock g) g ≡ holders stock g ++ m ∷ [])
       (λ k. let within = place-known g goods k in let e = even.even in
@@ -138,6 +139,7 @@ module _ (m : ℕ) (stock : StockRecord) (g : GoodContent) (even : IsEven stock)
       get_or_past (noted (lists ++ [] ∷ []) (place g goods) m) (place h (goods ++ g ∷ [])) [] (omega (arith, at, b, a, e)) ∙ sym (get_or_past lists (place h goods) [] (omega (arith, own, e))))
 
   pub holders-other : (h : GoodContent) → (h ≡ g → ⊥) → holders (with_supplier m stock g) h ≡ holders stock h
+  unfolding holders
   holders-other h n =
       by_bool (known g goods) (holders (with_supplier m stock g) h ≡ holders stock h)
       (λ k. ap (λ (s : StockRecord). holders s h) (supplied-known k) ∙ other-known h n k)
@@ -216,6 +218,7 @@ offers-add m (x ∷ offers) stock h (suc k) o even here has =
 
 -- who offers a good: the offers that have it
 pub holders-stocked_gives : (offers : List OfferRecord) (h : GoodContent) (i : ℕ) → In i (holders (stocked offers) h) → (o : OfferRecord) × (slice_get offers i ≡ Some o) × In h (goods_of o)
+unfolding holders
 holders-stocked_gives offers h i held =
     elim (offers-give 0 offers empty_stock h i (record { even = refl }) held) [
       | inl never ↦ absurd (nobody (number_in empty_stock h) i never)

@@ -12,7 +12,7 @@ use std::hash::{Hash, Hasher};
 use std::marker::Model;
 
 /// What is offered and awaited.
-#[derive(Clone, Copy)]
+#[derive(Drop)]
 pub enum Good<N, T> {
     /// That the query of that name is chosen for.
     Query(N),
@@ -21,7 +21,7 @@ pub enum Good<N, T> {
 }
 
 /// An atom of a query, under values for the variables of the query's body.
-#[derive_where(Clone, Copy)]
+#[derive(Drop)]
 pub struct Instance<'a, A: Allocator> {
     pub query: &'a Query<A>,
     pub values: &'a [Value<A>],
@@ -29,7 +29,7 @@ pub struct Instance<'a, A: Allocator> {
 }
 
 /// What a term is under the values.
-#[derive(Clone, Copy)]
+#[derive(Drop)]
 pub enum Part<V, N> {
     /// A value.
     Fixed(V),

@@ -10,7 +10,7 @@ use cq_ground::Groundings;
 use std::alloc::{AllocError, Allocator};
 
 /// A pending query, by its name and by its place in posting order, and a grounding of it.
-#[derive_where(Clone, Copy)]
+#[derive(Drop)]
 pub struct Offer<'b, A: Allocator> {
     pub name: &'b Name<A>,
     pub place: usize,

@@ -1,6 +1,6 @@
 //! Goods by numbers, and who offers each.
 
-ghost use Rattle.std.specs.Prelude.{◌≡◌, ◌+◌, map, fold, IfOk, OnOk};
+ghost use Rattle.std.specs.Prelude.{◌≡◌, map, IfOk, OnOk};
 ghost use Rattle.cq_atom.specs.Valuation.{under};
 ghost use Rattle.cq_board.specs.Choice.{bound};
 ghost use Rattle.cq_choose.specs.Steps.Offers.{offer_of, head_goods, goods_of};

@@ -203,7 +203,7 @@ fn failed_allocation_in_select(rt: HostRuntime) {
 
 fn are_grouped<A: Allocator>(alloc: A) -> Result<bool, AllocError> {
     let labels = group_labels(alloc, 6, &[(0, 1), (3, 2), (4, 3)])?;
-    Ok(labels.as_slice() == &[0, 0, 2, 2, 2, 5])
+    Ok(labels.as_slice() == [0, 0, 2, 2, 2, 5].as_slice())
 }
 
 /// Six nodes, of which the first two hang together, and the next three.
