@@ -38,7 +38,7 @@ fn join(labels: &mut [usize], edge: (usize, usize))
     let other = labels[edge.1];
     if one < other {
         relabel(labels, other, one);
-    } else {
+    } else if other < one {
         relabel(labels, one, other);
     }
 }
