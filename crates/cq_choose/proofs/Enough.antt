@@ -1,18 +1,17 @@
 -- Where something is chosen for given names, something is that leaves out whoever serves none of those who are concerned.
-use Rattle.std.proofs.Common.{◌≡◌, ℕ, ◌+◌, ◌<◌, inl, inr, Bool, true, false, not, ◌&&◌, List, [], ◌∷◌, map, get_or, refl, sym, ap, subst, ◌∙◌, arith, Option, Some, bytes_eq}
-use Rattle.std.specs.Prelude.{filter, unwrap_or}
-use Rattle.std.specs.List.{All, Any, Contains, IsDistinct, enumerate_from, flat_map, list_any, slice_get}
+use Rattle.std.proofs.Common.{◌≡◌, ℕ, ◌+◌, inl, Bool, true, false, not, ◌&&◌, List, [], ◌∷◌, map, refl, sym, ap, subst, ◌∙◌, arith, Option, Some, bytes_eq}
+use Rattle.std.specs.Prelude.{filter, option_map, unwrap_or}
+use Rattle.std.specs.List.{All, Any, Contains, IsDistinct, enumerate_from, flat_map, slice_get}
 use Rattle.std.proofs.lemmas.Map.Keys.{IsDistinct-head, IsDistinct-tail, IsDistinct-cons}
-use Rattle.std.proofs.lemmas.Option.{get_or_from_slice_get, same_Some}
-use Rattle.std.proofs.lemmas.Slice.Eq.{bytes_eq-Decides}
+use Rattle.std.proofs.lemmas.Option.{same_Some}
 use Rattle.cq_atom.specs.declared.edge.Edge.{Edge}
 use Rattle.cq_atom.specs.Atom.{AtomRecord}
 use Rattle.cq_atom.specs.Query.{QueryRecord}
 use Rattle.cq_atom.specs.Valuation.{under}
 use Rattle.cq_atom.specs.Unify.{Unify}
-use Rattle.cq_board.specs.Pool.{PendingQuery, PoolRecord, name_of, IsPool}
+use Rattle.cq_board.specs.Pool.{PendingQuery, PoolRecord, IsPool}
 use Rattle.cq_board.specs.Edges.{edge_if, edges_into, edges_of}
-use Rattle.cq_board.specs.Board.{place_of}
+use Rattle.cq_board.specs.Board.{is_matched_at, name_at, place_of}
 use Rattle.cq_board.specs.Named.{query_named, matched_named}
 use Rattle.cq_board.specs.Choice.{ChoiceRecord, chosen_name, bound, awaited_by, offered_by, awaited, offered, IsGrounded}
 use Rattle.cq_board.specs.Steps.Supply.{unifies}
@@ -23,15 +22,16 @@ use Rattle.cq_board.proofs.Coordination.{all_served}
 use Rattle.cq_board.proofs.Law.{suppliers_matched}
 use Rattle.cq_board.proofs.Searches.{unifies_tells}
 use Rattle.cq_choose.specs.Choosing.{IsChoiceFor}
-use Rattle.cq_choose.specs.Steps.Reach.{is_spare, IsClosing, told, IsKnown, IfKnown, IsTaken, IsEnough}
+use Rattle.cq_choose.specs.Disagreement.IsConcerned.{Asked, Serving}
+use Rattle.cq_choose.specs.Steps.Reach.{is_spare, told, IsKnown, IsTaken, IsEnough, IsExact}
 use Rattle.cq_choose.proofs.Lists.{by_bool, In, In-Contains, Contains-In, All-In, In-All, Any-In, In-Any, each-In, In-each, In-at, at-In, In-map, In-map_gives, In-flat_map, In-flat_map_gives, In-filter, In-filter_gives, enumerate-has}
-use Rattle.cq_choose.proofs.Offered.{at-mapped, named-at}
+use Rattle.cq_choose.proofs.Offered.{named-at}
 
 enumerate-at : {X : Type 0} (xs : List X) (k : ℕ) (x : X) → slice_get xs k ≡ Some x → In (k, x) (enumerate_from 0 xs)
 enumerate-at {X} xs k x here = let at : 0 + k ≡ k = omega arith in subst (λ (n : ℕ). In (n, x) (enumerate_from 0 xs)) at (enumerate-has 0 xs k x here)
 
 -- a head that unifies with a postcondition makes an edge
-edge-between : (pending : List PendingQuery) (i j k m : ℕ) (waiting offering : PendingQuery) (post head : AtomRecord)
+pub edge-between : (pending : List PendingQuery) (i j k m : ℕ) (waiting offering : PendingQuery) (post head : AtomRecord)
     → slice_get pending i ≡ Some waiting → slice_get pending j ≡ Some offering → slice_get waiting.query.posts k ≡ Some post → slice_get offering.query.heads m ≡ Some head → Unify head post
     → In (record { provider = j; head = m; waiter = i; post = k }) (edges_of pending)
 edge-between pending i j k m waiting offering post head at_i at_j at_k at_m u =
@@ -61,21 +61,17 @@ distinct-filter p (c ∷ choices) d =
     rest))
     (λ f. rw f rest)
 
-valid-terms : (atoms : List AtomRecord) → All (λ a. All IsValid a.terms) atoms → (atom : AtomRecord) → In atom atoms → AreValid atom.terms
+pub valid-terms : (atoms : List AtomRecord) → All (λ a. All IsValid a.terms) atoms → (atom : AtomRecord) → In atom atoms → AreValid atom.terms
 valid-terms atoms all atom h = each-In IsValid atom.terms (In-All IsValid atom.terms (In-All (λ (a : AtomRecord). All IsValid a.terms) atoms all atom h))
 
-both-true : (a b : Bool) → a ≡ true → b ≡ true → a && b ≡ true
+pub both-true : (a b : Bool) → a ≡ true → b ≡ true → a && b ≡ true
 both-true a b h k = rw (h, k) refl
 
-not-true : (b : Bool) → not b ≡ true → b ≡ false
+pub not-true : (b : Bool) → not b ≡ true → b ≡ false
 not-true true e = cc
 not-true false e = refl
 
-module _ (pool : PoolRecord) (good : IsPool pool) (names : List (List ℕ)) (matched spare : List Bool)
-    (flags : matched ≡ map (λ name. told (matched_named name pool)) (map name_of pool.pending))
-    (known : (name : List ℕ) → In name (map name_of pool.pending) → IfKnown (query_named name pool.pending))
-    (wanted : (i : ℕ) (name : List ℕ) → slice_get (map name_of pool.pending) i ≡ Some name → list_any (bytes_eq name) names ≡ true → is_spare spare i ≡ false)
-    (closed : IsClosing (edges_of pool.pending) matched spare []) where
+module _ (pool : PoolRecord) (good : IsPool pool) (names : List (List ℕ)) (spare : List Bool) (exact : IsExact pool names spare) where
   -- where the query of a choice stands
   pub record Found (c : ChoiceRecord) : Type 0 where
     pub place : ℕ
@@ -99,14 +95,7 @@ module _ (pool : PoolRecord) (good : IsPool pool) (names : List (List ℕ)) (mat
       }
 
   known-at : (c : ChoiceRecord) (f : Found c) → IsKnown f.posted.query
-  known-at c f = subst IfKnown (query_at pool good f.place f.posted f.here) (known f.posted.name (In-map name_of pool.pending f.posted (In-at pool.pending f.place f.posted f.here)))
-
-  flag-at : (c : ChoiceRecord) (f : Found c) → is_spare matched f.place ≡ told (matched_named c.name pool)
-  flag-at c f =
-      ap (λ (l : List Bool). get_or l f.place false) flags
-      ∙ get_or_from_slice_get (map (λ name. told (matched_named name pool)) (map name_of pool.pending)) f.place (told (matched_named f.posted.name pool)) false
-      (at-mapped (λ name. told (matched_named name pool)) (map name_of pool.pending) f.place f.posted.name (at-mapped name_of pool.pending f.place f.posted f.here))
-      ∙ ap (λ (n : List ℕ). told (matched_named n pool)) f.name
+  known-at c f = In-All (λ (p : PendingQuery). IsKnown p.query) pool.pending exact.known f.posted (In-at pool.pending f.place f.posted f.here)
 
   module _ (choices : List ChoiceRecord) (is : IsChoiceFor pool names choices) where
     grounded : (c : ChoiceRecord) → In c choices → IsGrounded pool c
@@ -148,8 +137,11 @@ module _ (pool : PoolRecord) (good : IsPool pool) (names : List (List ℕ)) (mat
         Any-In (λ d. HasHead (query_named d.name pool.pending) post) choices s.choice s.among
         (subst (λ (q : Option QueryRecord). HasHead q post) (sym s.by.query) (Any-In (λ head. Unify head post) s.by.posted.query.heads s.head s.has (server-unifies c f post h s))))))
 
-    matched-all : (c : ChoiceRecord) → In c choices → matched_named c.name pool ≡ Some true
+    pub matched-all : (c : ChoiceRecord) → In c choices → matched_named c.name pool ≡ Some true
     matched-all = In-All (λ c. matched_named c.name pool ≡ Some true) choices (suppliers_matched pool choices suppliers is.coordinating.grounded)
+
+    matched-place : (c : ChoiceRecord) → In c choices → (f : Found c) → is_matched_at pool f.place ≡ true
+    matched-place c m f = same_Some (is_matched_at pool f.place) true (sym (ap (option_map (is_matched_at pool)) f.at) ∙ matched-all c m)
 
     -- ---- those that are taken
 
@@ -171,11 +163,8 @@ module _ (pool : PoolRecord) (good : IsPool pool) (names : List (List ℕ)) (mat
         let from = at-In s.by.posted.query.heads s.head s.has in
         let edge : Edge = record { provider = s.by.place; head = from.0; waiter = f.place; post = spot.0 } in
         let there = Contains-In (edges_of pool.pending) edge (edge-between pool.pending f.place s.by.place spot.0 from.0 f.posted s.by.posted post s.head f.here s.by.here spot.1 from.1 (server-unifies c f post h s)) in
-        let waits : is_spare matched f.place ≡ true = flag-at c f ∙ ap told (matched-all c m) in
-        elim (closed.closing edge there waits (keeps-found c f k)) as (λ _. In s.choice kept) [
-          | inl taken ↦ In-filter keeps choices s.choice s.among (found-keeps s.choice s.by taken)
-          | inr never ↦ absurd (let low : never.0 < 0 = never.1 in omega arith)
-        ]
+        let own = exact.taken f.place (matched-place c m f) (keeps-found c f k) in
+        In-filter keeps choices s.choice s.among (found-keeps s.choice s.by (exact.concerned s.by.place (Serving edge there own (matched-place s.choice s.among s.by))))
 
     kept-offers : (atom : AtomRecord) (d : ChoiceRecord) → In d kept → (by : Found d) (head : AtomRecord) → In head by.posted.query.heads → under (bound by.posted.query d.values) head ≡ atom
         → In atom (offered pool.pending kept)
@@ -200,22 +189,15 @@ module _ (pool : PoolRecord) (good : IsPool pool) (names : List (List ℕ)) (mat
         let f = found from.0 (grounded from.0 among.0) in
         kept-asked atom from.0 among.0 among.1 f (subst (λ (q : Option QueryRecord). In atom (awaited_by q from.0.values)) f.query from.2)
 
-    is-wanted : (name : List ℕ) → In name names → list_any (bytes_eq name) names ≡ true
-    is-wanted name h = any-has names h
-      where
-        any-has : (xs : List (List ℕ)) → In name xs → list_any (bytes_eq name) xs ≡ true
-        any-has [] k = absurd k
-        any-has (x ∷ xs) (inl e) = rw ((bytes_eq-Decides name x).1 e) refl
-        any-has (x ∷ xs) (inr k) = by_bool (bytes_eq name x) (list_any (bytes_eq name) (x ∷ xs) ≡ true) (λ t. rw t refl) (λ f. rw f (any-has xs k))
-
     kept-named : (name : List ℕ) → In name names → In name (map chosen_name kept)
     kept-named name h =
         let named = In-Contains (map chosen_name choices) name (In-All (Contains (map chosen_name choices)) names is.named name h) in
         let c = In-map_gives chosen_name choices name named in
         let f = found c.0 (grounded c.0 c.1) in
-        let at = at-mapped name_of pool.pending f.place f.posted f.here ∙ ap Some (f.name ∙ sym c.2) in
+        let at : name_at pool.pending f.place ≡ Some name = ap (option_map (λ (p : PendingQuery). p.name)) f.here ∙ ap Some (f.name ∙ sym c.2) in
+        let own = Asked f.place name at (Contains-In names name h) (matched-place c.0 c.1 f) in
         subst (λ (n : List ℕ). In n (map chosen_name kept)) (sym c.2)
-        (In-map chosen_name kept c.0 (In-filter keeps choices c.0 c.1 (found-keeps c.0 f (wanted f.place name at (is-wanted name h)))))
+        (In-map chosen_name kept c.0 (In-filter keeps choices c.0 c.1 (found-keeps c.0 f (exact.concerned f.place own))))
 
     kept-taken : (c : ChoiceRecord) → In c kept → IsTaken pool spare c
     kept-taken c h =
@@ -242,20 +224,3 @@ module _ (pool : PoolRecord) (good : IsPool pool) (names : List (List ℕ)) (mat
 
   pub enough : IsEnough pool names spare
   enough = λ choices is. (kept choices is, kept-choice choices is, all-taken choices is)
-
-map-twice : {X Y Z : Type 0} (h : Y → Z) (r : X → Y) (xs : List X) → map (λ x. h (r x)) xs ≡ map h (map r xs)
-map-twice h r [] = refl
-map-twice {X} {Y} {Z} h r (x ∷ xs) = ap (λ (l : List Z). h (r x) ∷ l) (map-twice h r xs)
-
--- the same, as it is known of a list of names that were read
-pub enough-read : (pool : PoolRecord) → IsPool pool → (names : List (List ℕ)) (matched spare : List Bool) {X : Type 0} (read : X → List ℕ) (items : List X) → map read items ≡ map name_of pool.pending
-    → matched ≡ map (λ x. told (matched_named (read x) pool)) items → All (λ x. IfKnown (query_named (read x) pool.pending)) items
-    → ((i : ℕ) (name : List ℕ) → slice_get (map read items) i ≡ Some name → list_any (bytes_eq name) names ≡ true → is_spare spare i ≡ false)
-    → (edges : List Edge) → edges ≡ edges_of pool.pending → IsClosing edges matched spare [] → IsEnough pool names spare
-enough-read pool good names matched spare {X} read items named flags known wanted edges are closed =
-    enough pool good names matched spare
-    (flags ∙ map-twice (λ (name : List ℕ). told (matched_named name pool)) read items ∙ ap (map (λ (name : List ℕ). told (matched_named name pool))) named)
-    (λ name h. let x = In-map_gives read items name (subst (In name) (sym named) h) in
-    subst (λ (n : List ℕ). IfKnown (query_named n pool.pending)) (sym x.2) (In-All (λ (x : X). IfKnown (query_named (read x) pool.pending)) items known x.0 x.1))
-    (λ i name here w. wanted i name (ap (λ (l : List (List ℕ)). slice_get l i) named ∙ here) w)
-    (subst (λ (l : List Edge). IsClosing l matched spare []) are closed)

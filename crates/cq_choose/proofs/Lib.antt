@@ -4,5 +4,10 @@ pub mod Terms
 pub mod Kept
 pub mod Reaching
 pub mod Offered
+pub mod Concerned
 pub mod Enough
 pub mod Selections
+pub mod Goods
+pub mod Turns
+pub mod Lacks
+pub mod Disagreements

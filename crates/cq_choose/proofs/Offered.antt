@@ -1,5 +1,5 @@
 -- The offers of a pool: the groundings of its queries.
-use Rattle.std.proofs.Common.{◌≡◌, ℕ, zero, suc, ◌+◌, Bool, true, List, [], ◌∷◌, length, map, refl, sym, ap, subst, ◌∙◌, arith, Option, Some, None}
+use Rattle.std.proofs.Common.{◌≡◌, ℕ, zero, suc, ◌+◌, Bool, true, false, not, ◌&&◌, List, [], ◌∷◌, ◌++◌, append-nil, length, map, refl, sym, ap, subst, ◌∙◌, arith, Option, Some, None}
 use Rattle.std.specs.Prelude.{if◌then◌else◌, option_map, nat_lt}
 use Rattle.std.specs.List.{Contains, enumerate_from, position_or_len, slice_get}
 use Rattle.std.proofs.lemmas.Option.{same_Some}
@@ -11,14 +11,14 @@ use Rattle.cq_ground.proofs.CallerLemmas.{listed-groundings}
 use Rattle.cq_board.specs.Pool.{PendingQuery, PoolRecord, name_of, IsPool}
 use Rattle.cq_board.specs.Edits.{is_named}
 use Rattle.cq_board.specs.Board.{place_of}
-use Rattle.cq_board.specs.Named.{query_named, groundings_named}
+use Rattle.cq_board.specs.Named.{query_named, matched_named, groundings_named}
 use Rattle.cq_board.specs.Choice.{ChoiceRecord, IsGrounded}
 use Rattle.cq_board.proofs.CallerLemmas.{place_at, query_at, groundings_at}
-use Rattle.cq_choose.specs.Steps.Reach.{is_taken, IsTaken}
+use Rattle.cq_choose.specs.Steps.Reach.{is_spare, told, is_taken, IsTaken}
 use Rattle.cq_choose.specs.Steps.Offers.{OfferRecord, offers_by, offers_at, offers_of, choice_of}
 use Rattle.cq_choose.proofs.Lists.{by_bool, In, In-Contains, Contains-In, In-map, In-map_gives, In-flat_map, In-flat_map_gives, enumerate-has, enumerate-gives}
 
-mapped-at : {X Y : Type 0} (f : X → Y) (xs : List X) (k : ℕ) (y : Y) → slice_get (map f xs) k ≡ Some y → (x : X) × (slice_get xs k ≡ Some x) × (f x ≡ y)
+pub mapped-at : {X Y : Type 0} (f : X → Y) (xs : List X) (k : ℕ) (y : Y) → slice_get (map f xs) k ≡ Some y → (x : X) × (slice_get xs k ≡ Some x) × (f x ≡ y)
 mapped-at f [] k y e = cc
 mapped-at f (x ∷ xs) zero y e = (x, refl, same_Some (f x) y e)
 mapped-at f (x ∷ xs) (suc k) y e = mapped-at f xs k y e
@@ -50,6 +50,21 @@ named-at name pending query e =
     by_bool (nat_lt k (length pending)) ((place : ℕ) × (posted : PendingQuery) × (slice_get pending place ≡ Some posted) × (posted.name ≡ name) × (posted.query ≡ query))
     (λ t. named-from name pending query k refl (slice_get pending k) refl (rw t at e))
     (λ f. absurd (let never : None ≡ Some query = rw f at e in cc))
+
+-- where the flag is set nothing is taken, and nothing offered
+pub idle-not_taken : (pool : PoolRecord) (spare : List Bool) (place : ℕ) (name : List ℕ) → is_spare spare place ≡ true → is_taken pool spare place name ≡ false
+idle-not_taken pool spare place name idle = by_case (told (matched_named name pool)) (is_spare spare place) idle
+  where
+    by_case : (a b : Bool) → b ≡ true → a && not b ≡ false
+    by_case true true e = refl
+    by_case true false e = let never : false ≡ true = e in cc
+    by_case false b e = refl
+
+pub idle-no_offers : (pool : PoolRecord) (spare : List Bool) (place : ℕ) (name : List ℕ) (offers : List OfferRecord) → is_spare spare place ≡ true → offers ≡ offers ++ offers_at pool spare place name
+idle-no_offers pool spare place name offers idle =
+    let none : offers_at pool spare place name ≡ [] =
+    ap (λ (t : Bool). if t then offers_by place name (query_named name pool.pending) (groundings_named name pool) else []) (idle-not_taken pool spare place name idle) in
+    sym (ap (λ (l : List OfferRecord). offers ++ l) none ∙ append-nil offers)
 
 -- the offer is of a pending query and of a grounding of it
 pub record IsOfferOf (pool : PoolRecord) (o : OfferRecord) : Type 0 where
@@ -95,6 +110,24 @@ module _ (pool : PoolRecord) (good : IsPool pool) (spare : List Bool) where
       let numbered = In-flat_map_gives (λ (p : ℕ × List ℕ). offers_at pool spare p.0 p.1) (enumerate_from 0 (map name_of pool.pending)) o h in
       let from = enumerate-gives 0 (map name_of pool.pending) numbered.0 numbered.1 in
       offers-give-name o numbered.0.0 from.0 numbered.0.1 from.1 from.2 numbered.2
+
+  made-by : (place : ℕ) (name : List ℕ) (query : Option QueryRecord) (lists : Option (List (List ValueContent))) (o : OfferRecord) → In o (offers_by place name query lists) → (o.place ≡ place) × (o.name ≡ name)
+  made-by place name None lists o h = absurd h
+  made-by place name (Some query) None o h = absurd h
+  made-by place name (Some query) (Some lists) o h =
+      let values = In-map_gives (made place name query) lists o h in (ap (λ (p : OfferRecord). p.place) values.2, ap (λ (p : OfferRecord). p.name) values.2)
+
+  -- only those that are taken are offered
+  pub offers-taken : (o : OfferRecord) → In o (offers_of pool spare) → is_taken pool spare o.place o.name ≡ true
+  offers-taken o h =
+      let numbered = In-flat_map_gives (λ (p : ℕ × List ℕ). offers_at pool spare p.0 p.1) (enumerate_from 0 (map name_of pool.pending)) o h in
+      let place = numbered.0.0 in
+      let name = numbered.0.1 in
+      by_bool (is_taken pool spare place name) (is_taken pool spare o.place o.name ≡ true)
+      (λ t. let own = made-by place name (query_named name pool.pending) (groundings_named name pool) o
+      (subst (λ (t : Bool). In o (if t then offers_by place name (query_named name pool.pending) (groundings_named name pool) else [])) t numbered.2) in
+      ap (λ (p : ℕ). is_taken pool spare p o.name) own.0 ∙ ap (λ (n : List ℕ). is_taken pool spare place n) own.1 ∙ t)
+      (λ f. absurd (subst (λ (t : Bool). In o (if t then offers_by place name (query_named name pool.pending) (groundings_named name pool) else [])) f numbered.2))
 
   pub offers-has : (place : ℕ) (posted : PendingQuery) (values : List ValueContent) → slice_get pool.pending place ≡ Some posted → is_taken pool spare place posted.name ≡ true
       → In values (lists_of posted.query) → In (made place posted.name posted.query values) (offers_of pool spare)

@@ -5,9 +5,15 @@ use Rattle.std.specs.List.{All, Contains, slice_get, list_any}
 use Rattle.std.specs.Str.{bytes_eq}
 use Rattle.std.proofs.lemmas.Bool.Decides.{Decides-eqb}
 use Rattle.std.proofs.lemmas.List.{map-append, take_all, take_more}
+use Rattle.std.proofs.lemmas.Slice.Eq.{bytes_eq-Decides}
 use Rattle.cq_atom.specs.declared.edge.Edge.{Edge}
-use Rattle.cq_choose.specs.Steps.Reach.{is_spare, spare_count, Takes, IsClosing}
-use Rattle.cq_choose.proofs.Lists.{by_bool, In, In-left, In-right, In-append, In-Contains, Contains-In, All-In, In-All, In-filter}
+use Rattle.cq_board.specs.Pool.{PoolRecord}
+use Rattle.cq_board.specs.Edges.{edges_of}
+use Rattle.cq_board.specs.Board.{is_matched_at, name_at}
+use Rattle.cq_choose.specs.Disagreement.{IsConcerned}
+use Rattle.cq_choose.specs.Disagreement.IsConcerned.{Asked, Serving}
+use Rattle.cq_choose.specs.Steps.Reach.{is_spare, is_idle, spare_count, Takes, IsClosing, AreConcerned}
+use Rattle.cq_choose.proofs.Lists.{by_bool, In, In-left, In-right, In-append, In-Contains, Contains-In, All-In, In-All, In-filter, In-filter_gives}
 
 module _ {X : Type 0} where
   taken : (xs : List X) (i : ℕ) (x : X) → i < length xs → x ≡ get_or xs i x → take (i + 1) xs ≡ take i xs ++ x ∷ []
@@ -41,7 +47,7 @@ count-unset (false ∷ flags) zero h = cc
 count-unset (true ∷ flags) (suc place) h = let more = count-unset flags place h in omega (arith, more)
 count-unset (false ∷ flags) (suc place) h = count-unset flags place h
 
-spare-low : (flags : List Bool) (place : ℕ) → is_spare flags place ≡ true → place < length flags
+pub spare-low : (flags : List Bool) (place : ℕ) → is_spare flags place ≡ true → place < length flags
 spare-low [] place h = cc
 spare-low (flag ∷ flags) zero h = omega arith
 spare-low (flag ∷ flags) (suc place) h = let more = spare-low flags place h in omega (arith, more)
@@ -134,3 +140,83 @@ own-get (x ∷ xs) (suc i) d low = own-get xs i d (omega arith)
 
 pub all-more-get : {X : Type 0} (P : X → Type 0) (xs : List X) (i : ℕ) (d : X) → i < length xs → All P (take i xs) → P (get_or xs i d) → All P (take (i + 1) xs)
 all-more-get P xs i d low all p = all-more P xs i (get_or xs i d) low (own-get xs i d low) all p
+
+-- ---- only those that are concerned are taken
+
+module _ (pool : PoolRecord) (names : List (List ℕ)) where
+  -- a concerned query is taken
+  pub concerned-one : (flags : List Bool) (left more : List ℕ) (place : ℕ) → is_spare flags place ≡ true → more ≡ left ++ place ∷ [] → (is_matched_at pool place ≡ true → IsConcerned pool names place)
+      → AreConcerned pool names flags left → AreConcerned pool names (set flags place false) more
+  concerned-one flags left more place set_here grew concerned are =
+      let low = spare-low flags place set_here in
+      let gone = get_or-set_same flags place false false low in
+      record {
+        taken = λ p m f. by_bool (nat_eq p place) (IsConcerned pool names p)
+            (λ t. let same = (Decides-eqb p place).0 t in subst (IsConcerned pool names) (sym same) (concerned (ap (is_matched_at pool) (sym same) ∙ m)))
+            (λ n. are.taken p m (sym (get_or-set_other flags place p false false (differ p place n)) ∙ f));
+        next = λ p h. elim (In-append p left (place ∷ []) (subst (In p) grew (In-Contains more p h))) as (λ _. IsConcerned pool names p) [
+          | inl k ↦ are.next p (Contains-In left p k)
+          | inr k ↦ elim k as (λ _. IsConcerned pool names p) [
+            | inl same ↦ subst (IsConcerned pool names) (sym same) (concerned (are.matched place set_here))
+            | inr never ↦ absurd never
+          ]
+        ];
+        matched = λ p t. by_bool (nat_eq p place) (is_matched_at pool p ≡ true)
+            (λ s. let same = (Decides-eqb p place).0 s in let never : false ≡ true = sym gone ∙ ap (is_spare (set flags place false)) (sym same) ∙ t in cc)
+            (λ n. are.matched p (sym (get_or-set_other flags place p false false (differ p place n)) ∙ t));
+      }
+    where
+      differ : (p q : ℕ) → nat_eq p q ≡ false → p ≡ q → ⊥
+      differ p q n e = let t = (Decides-eqb p q).1 e in let never : true ≡ false = sym t ∙ n in cc
+
+  -- one place less is left
+  pub concerned-less : (flags : List Bool) (left rest : List ℕ) (waiter : ℕ) → left ≡ rest ++ waiter ∷ [] → AreConcerned pool names flags left → AreConcerned pool names flags rest
+  concerned-less flags left rest waiter popped are = record {
+    taken = are.taken;
+    next = λ p h. are.next p (Contains-In left p (subst (In p) (sym popped) (In-left p rest (waiter ∷ []) (In-Contains rest p h))));
+    matched = are.matched;
+  }
+
+  -- the matched providers of a concerned query are concerned
+  pub concerned-providers : (flags : List Bool) (left rest : List ℕ) (waiter : ℕ) → left ≡ rest ++ waiter ∷ [] → AreConcerned pool names flags left → (edges into : List Edge) → edges ≡ edges_of pool.pending
+      → into ≡ filter (λ edge. edge.waiter == waiter) edges → All (λ edge. is_matched_at pool edge.provider ≡ true → IsConcerned pool names edge.provider) into
+  concerned-providers flags left rest waiter popped are edges into all some =
+      let own : IsConcerned pool names waiter = are.next waiter (Contains-In left waiter (subst (In waiter) (sym popped) (In-right waiter rest (waiter ∷ []) (inl refl)))) in
+      All-In (λ (edge : Edge). is_matched_at pool edge.provider ≡ true → IsConcerned pool names edge.provider) into
+      (λ e h m. let among = In-filter_gives (λ (edge : Edge). edge.waiter == waiter) edges e (subst (In e) some h) in
+      Serving e (Contains-In (edges_of pool.pending) e (subst (In e) all among.0)) (subst (IsConcerned pool names) (sym ((Decides-eqb e.waiter waiter).0 among.1)) own) m)
+
+  -- a matched query of one of the names is concerned
+  pub concerned-asked : (place : ℕ) (name : List ℕ) → name_at pool.pending place ≡ Some name → list_any (bytes_eq name) names ≡ true → is_matched_at pool place ≡ true → IsConcerned pool names place
+  concerned-asked place name here wanted matched = Asked place name here (Contains-In names name (any-In names wanted)) matched
+    where
+      any-In : (xs : List (List ℕ)) → list_any (bytes_eq name) xs ≡ true → In name xs
+      any-In [] h = cc
+      any-In (x ∷ xs) h = by_bool (bytes_eq name x) (In name (x ∷ xs)) (λ t. inl ((bytes_eq-Decides name x).0 t)) (λ f. inr (any-In xs (rw f at h)))
+
+-- ---- places where none is taken
+
+idle-before : (flags : List Bool) (b : Bool) (p : ℕ) → p < length flags → is_spare (flags ++ b ∷ []) p ≡ is_spare flags p
+idle-before [] b p low = absurd (omega (arith, low))
+idle-before (flag ∷ flags) b zero low = refl
+idle-before (flag ∷ flags) b (suc p) low = idle-before flags b p (omega (arith, low))
+
+idle-last : (flags : List Bool) (b : Bool) → is_spare (flags ++ b ∷ []) (length flags) ≡ b
+idle-last [] b = refl
+idle-last (flag ∷ flags) b = idle-last flags b
+
+-- one place more was looked at
+pub idle-more : (matched spare idle more : List Bool) (i : ℕ) (b : Bool) → length idle ≡ i → more ≡ idle ++ b ∷ [] → b ≡ is_idle matched spare i → ((p : ℕ) → p < i → is_spare idle p ≡ is_idle matched spare p)
+    → (p : ℕ) → p < i + 1 → is_spare more p ≡ is_idle matched spare p
+idle-more matched spare idle more i b long grew is so_far p low =
+    ap (λ (l : List Bool). is_spare l p) grew
+    ∙ by_bool (nat_eq p i) (is_spare (idle ++ b ∷ []) p ≡ is_idle matched spare p)
+    (λ t. let same = (Decides-eqb p i).0 t in
+    ap (is_spare (idle ++ b ∷ [])) (same ∙ sym long) ∙ idle-last idle b ∙ is ∙ ap (is_idle matched spare) (sym same))
+    (λ n. let inside = apart p i n low in idle-before idle b p (omega (arith, inside, long)) ∙ so_far p inside)
+  where
+    apart : (j i : ℕ) → nat_eq j i ≡ false → j < i + 1 → j < i
+    apart j i f low = by_cases (λ e. let t = (Decides-eqb j i).1 e in let never : true ≡ false = sym t ∙ f in cc)
+      where
+        by_cases : (j ≡ i → ⊥) → j < i
+        by_cases n = omega (arith, n, low)

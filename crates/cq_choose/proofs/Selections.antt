@@ -51,12 +51,12 @@ goods-awaited o g h =
     let found = In-map_gives (λ post. Atom (under (bound o.query o.values) post)) o.query.posts g h in
     (under (bound o.query o.values) found.0, In-map (under (bound o.query o.values)) o.query.posts found.0 found.1, found.2)
 
-offered-goods : (o : OfferRecord) (atom : AtomRecord) → In atom (offered_by (Some o.query) o.values) → In (Atom atom) (goods_of o)
+pub offered-goods : (o : OfferRecord) (atom : AtomRecord) → In atom (offered_by (Some o.query) o.values) → In (Atom atom) (goods_of o)
 offered-goods o atom h =
     let found = In-map_gives (under (bound o.query o.values)) o.query.heads atom h in
     inr (subst (λ (a : AtomRecord). In (Atom a) (head_goods o)) (sym found.2) (In-map (λ head. Atom (under (bound o.query o.values) head)) o.query.heads found.0 found.1))
 
-goods-offered : (o : OfferRecord) (atom : AtomRecord) → In (Atom atom) (goods_of o) → In atom (offered_by (Some o.query) o.values)
+pub goods-offered : (o : OfferRecord) (atom : AtomRecord) → In (Atom atom) (goods_of o) → In atom (offered_by (Some o.query) o.values)
 goods-offered o atom (inl e) = cc
 goods-offered o atom (inr h) =
     let found = In-map_gives (λ head. Atom (under (bound o.query o.values) head)) o.query.heads (Atom atom) h in

@@ -5,3 +5,4 @@ pub mod Reach
 pub mod Offers
 pub mod Stocks
 pub mod Answers
+pub mod Telling

@@ -57,7 +57,8 @@ fn answer_of<A: Allocator + Copy>(
 ///
 /// It looks only at the queries that are concerned: the matched ones among those of the names, among the providers of these, and so on. Before the
 /// first step it lists their groundings, and numbers what each offers and awaits, which takes time and memory in proportion to these groundings times
-/// the atoms of their queries. To find them it lists all edges, looks once at each pending query, and compares its name with each of the names.
+/// the atoms of their queries. To find them it lists all edges, looks at each pending query, compares its name with each of the names, and looks once
+/// more at each that is concerned.
 ///
 /// # Errors
 /// `AllocError` where an allocation failed.

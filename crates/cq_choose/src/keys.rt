@@ -13,7 +13,7 @@ use std::marker::Model;
 
 /// What is offered and awaited.
 #[derive(Drop)]
-pub enum Good<N, T> {
+pub(crate) enum Good<N, T> {
     /// That the query of that name is chosen for.
     Query(N),
     /// An atom.
@@ -22,15 +22,15 @@ pub enum Good<N, T> {
 
 /// An atom of a query, under values for the variables of the query's body.
 #[derive(Drop)]
-pub struct Instance<'a, A: Allocator> {
-    pub query: &'a Query<A>,
-    pub values: &'a [Value<A>],
-    pub atom: &'a Atom<A>,
+pub(crate) struct Instance<'a, A: Allocator> {
+    pub(crate) query: &'a Query<A>,
+    pub(crate) values: &'a [Value<A>],
+    pub(crate) atom: &'a Atom<A>,
 }
 
 /// What a term is under the values.
 #[derive(Drop)]
-pub enum Part<V, N> {
+pub(crate) enum Part<V, N> {
     /// A value.
     Fixed(V),
     /// A variable that has none, by its name.
@@ -39,7 +39,7 @@ pub enum Part<V, N> {
 
 /// A good by which suppliers are looked up. It borrows all that it is made of, and takes no memory.
 #[derive(Drop)]
-pub struct Key<'a, A: Allocator> {
+pub(crate) struct Key<'a, A: Allocator> {
     good: Good<&'a Name<A>, Instance<'a, A>>,
 }
 
@@ -52,7 +52,7 @@ impl<'a, A: Allocator> Model for Key<'a, A> {
 }
 
 impl<'a, A: Allocator> Key<'a, A> {
-    pub fn of(good: Good<&'a Name<A>, Instance<'a, A>>) -> Key<'a, A>
+    pub(crate) fn of(good: Good<&'a Name<A>, Instance<'a, A>>) -> Key<'a, A>
         ensures { result ≡ good_of good.entry }
     {
         Key { good }

@@ -5,13 +5,19 @@
 //! owners and atoms with numbers: here the groundings of the queries that are concerned become members, their queries owners, and what
 //! they offer and await is numbered. That a query is chosen for is one more thing that its groundings offer.
 //!
+//! Why there is none tells [`disagreement`], where it is a single query that nobody serves.
+//!
 //! Not here: how a selection is searched for, and how an answer is written.
 #![tactic(auto)]
 
 mod choosing;
+mod disagreeing;
 mod keys;
 mod offers;
 mod reach;
 mod stock;
+mod telling;
 
 pub use choosing::{Answer, Sought, choose};
+pub use disagreeing::disagreement;
+pub use telling::Disagreement;

@@ -11,11 +11,11 @@ use std::alloc::{AllocError, Allocator};
 
 /// A pending query, by its name and by its place in posting order, and a grounding of it.
 #[derive(Drop)]
-pub struct Offer<'b, A: Allocator> {
-    pub name: &'b Name<A>,
-    pub place: usize,
-    pub query: &'b Query<A>,
-    pub values: &'b [Value<A>],
+pub(crate) struct Offer<'b, A: Allocator> {
+    pub(crate) name: &'b Name<A>,
+    pub(crate) place: usize,
+    pub(crate) query: &'b Query<A>,
+    pub(crate) values: &'b [Value<A>],
 }
 
 /// Adds an offer for each of the query's groundings.
@@ -49,9 +49,12 @@ fn add_offers<'b, A: Allocator + Copy>(
 ) -> Result<(), AllocError>
     ensures { OnOk result (map offer_of offers.new.items ≡ map offer_of offers.old.items ++ offers_at board.now spare.now place name.now) }
 {
+    if is_spare(spare, place) {
+        return Ok(());
+    }
     match board.view(name) {
         Some(view) => {
-            if view.matched && !is_spare(spare, place) {
+            if view.matched {
                 add_groundings(offers, name, place, view.query, view.groundings)
             } else {
                 Ok(())
@@ -78,7 +81,7 @@ fn offers_named<'b, A: Allocator + Copy>(
 }
 
 /// The offers of the matched queries whose flags are not set, in posting order.
-pub fn offers_of<'b, A: Allocator + Copy>(
+pub(crate) fn offers_of<'b, A: Allocator + Copy>(
     alloc: A,
     board: &'b Board<A>,
     spare: &[bool],
@@ -128,7 +131,7 @@ fn add_choice<A: Allocator + Copy>(
 }
 
 /// What is chosen by the offers of these numbers.
-pub fn choices_of<A: Allocator + Copy>(
+pub(crate) fn choices_of<A: Allocator + Copy>(
     alloc: A,
     offers: &[Offer<'_, A>],
     chosen: &[usize],

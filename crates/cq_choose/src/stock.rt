@@ -16,9 +16,9 @@ use std::hash::{BuildHasherDefault, FoldHasher};
 
 /// The goods, numbered in the order in which they came, and for each of them the members that offer it.
 #[derive(Drop)]
-pub struct Stock<'a, A: Allocator> {
-    pub goods: IndexSet<Key<'a, A>, BuildHasherDefault<FoldHasher>, A>,
-    pub suppliers: Vec<Vec<usize, A>, A>,
+pub(crate) struct Stock<'a, A: Allocator> {
+    pub(crate) goods: IndexSet<Key<'a, A>, BuildHasherDefault<FoldHasher>, A>,
+    pub(crate) suppliers: Vec<Vec<usize, A>, A>,
 }
 
 /// That the query of that name is chosen for.
@@ -121,7 +121,7 @@ fn supply_all<'a, A: Allocator + Copy>(
 }
 
 /// The stock of the offers, which are its members in their order.
-pub fn stocked<'a, A: Allocator + Copy>(
+pub(crate) fn stocked<'a, A: Allocator + Copy>(
     alloc: A,
     offers: &[Offer<'a, A>],
 ) -> Result<Stock<'a, A>, AllocError>
@@ -153,7 +153,7 @@ fn needs_in<A: Allocator + Copy>(
 }
 
 /// A member for each offer: at most one of a query is chosen.
-pub fn members_of<A: Allocator + Copy>(
+pub(crate) fn members_of<A: Allocator + Copy>(
     alloc: A,
     stock: &Stock<'_, A>,
     offers: &[Offer<'_, A>],
@@ -173,7 +173,7 @@ pub fn members_of<A: Allocator + Copy>(
 }
 
 /// That the queries of these names are chosen for, by numbers.
-pub fn wanted_of<A: Allocator + Copy>(
+pub(crate) fn wanted_of<A: Allocator + Copy>(
     alloc: A,
     stock: &Stock<'_, A>,
     names: &[Name<A>],

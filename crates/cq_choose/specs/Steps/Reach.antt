@@ -1,18 +1,23 @@
 -- Which queries are concerned, by flags at their places.
-use Rattle.std.specs.Prelude.{◌≡◌, ◌⊎◌, ℕ, ◌+◌, ◌*◌, ◌≤◌, ⊤, Bool, true, false, not, ◌&&◌, List, [], ◌∷◌, length, slice_index_or, Option, Some, None}
+use Rattle.std.specs.Prelude.{◌≡◌, ◌⊎◌, ℕ, ◌+◌, ◌*◌, ◌≤◌, ⊤, Bool, true, false, not, ◌&&◌, ◌||◌, List, [], ◌∷◌, length, slice_index_or, Option, Some, None}
 use Rattle.std.specs.List.{All, Contains}
 use Rattle.cq_atom.specs.declared.edge.Edge.{Edge}
 use Rattle.cq_atom.specs.Query.{QueryRecord}
 use Rattle.cq_board.specs.Pool.{PoolRecord}
-use Rattle.cq_board.specs.Board.{place_of}
+use Rattle.cq_board.specs.Board.{is_matched_at, place_of}
 use Rattle.cq_board.specs.Named.{matched_named}
 use Rattle.cq_board.specs.Choice.{ChoiceRecord}
 use Rattle.cq_board.specs.Steps.Choices.{IsValid}
 use Rattle.cq_choose.specs.Choosing.{IsChoiceFor}
+use Rattle.cq_choose.specs.Disagreement.{IsConcerned}
 
--- The flag at the place is set: the matched query that stands there is not taken.
+-- The flag at the place is set: no query that is taken stands there.
 abbrev pub is_spare : List Bool → ℕ → Bool
 is_spare spare place = slice_index_or spare place false
+
+-- No query that is taken stands at the place: one with a flag, or none that is matched.
+abbrev pub is_idle : List Bool → List Bool → ℕ → Bool
+is_idle matched spare place = not (is_spare matched place) || is_spare spare place
 
 -- How many flags are set.
 abbrev pub spare_count : List Bool → ℕ
@@ -30,6 +35,12 @@ pub record Takes (before : List Bool) (left : List ℕ) (after : List Bool) (mor
 -- Where a matched query is taken, its matched providers are, or its place is left.
 pub record IsClosing (edges : List Edge) (matched spare : List Bool) (left : List ℕ) : Type 0 where
   pub closing : (e : Edge) → Contains edges e → is_spare matched e.waiter ≡ true → is_spare spare e.waiter ≡ false → (is_spare spare e.provider ≡ false) ⊎ Contains left e.waiter
+
+-- Who is taken is concerned, and who is left to be looked at. Only matched queries have flags.
+pub record AreConcerned (pool : PoolRecord) (names : List (List ℕ)) (spare : List Bool) (left : List ℕ) : Type 0 where
+  pub taken : (p : ℕ) → is_matched_at pool p ≡ true → is_spare spare p ≡ false → IsConcerned pool names p
+  pub next : (p : ℕ) → Contains left p → IsConcerned pool names p
+  pub matched : (p : ℕ) → is_spare spare p ≡ true → is_matched_at pool p ≡ true
 
 -- Whether the query is matched; none is not.
 abbrev pub told : Option Bool → Bool
@@ -56,3 +67,9 @@ pub record IsTaken (pool : PoolRecord) (spare : List Bool) (choice : ChoiceRecor
 -- Where anything is chosen for the names, some is that leaves these queries out.
 abbrev pub IsEnough : PoolRecord → List (List ℕ) → List Bool → Type 0
 IsEnough pool names spare = (choices : List ChoiceRecord) → IsChoiceFor pool names choices → (kept : List ChoiceRecord) × IsChoiceFor pool names kept × All (IsTaken pool spare) kept
+
+-- The matched queries that have no flag are those that are concerned; and what is pending is known.
+pub record IsExact (pool : PoolRecord) (names : List (List ℕ)) (spare : List Bool) : Type 0 where
+  pub taken : (p : ℕ) → is_matched_at pool p ≡ true → is_spare spare p ≡ false → IsConcerned pool names p
+  pub concerned : (p : ℕ) → IsConcerned pool names p → is_spare spare p ≡ false
+  pub known : All (λ p. IsKnown p.query) pool.pending

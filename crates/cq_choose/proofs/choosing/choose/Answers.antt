@@ -3,8 +3,9 @@ use Rattle.cq_select.specs.declared.supply.Supply.{Supply}
 use Rattle.cq_choose.specs.declared.offers.Offer.{Offer}
 use Rattle.cq_choose.specs.Steps.Answers.{Answers}
 use Rattle.cq_choose.specs.Steps.Offers.{OfferRecord, offer_of}
-use Rattle.cq_choose.specs.Steps.Reach.{IsEnough}
+use Rattle.cq_choose.specs.Steps.Reach.{IsExact}
 use Rattle.cq_choose.specs.Steps.Stocks.{stock_of, stocked, needs_in}
+use Rattle.cq_choose.proofs.Enough.{enough}
 use Rattle.cq_choose.proofs.Selections.{answers-found, answers-none, answers-undecided}
 use Rattle.cq_choose.proofs.choosing.choose.Goals as goal
 
@@ -40,7 +41,7 @@ returns-clause-none g c =
     (c.deref-4.ensures.value ∙ c.in_ok-wanted.ensures)
     c.in_ok-selected.field-0.selected c.in_ok-answer.answer
     (subst (λ (l : List (Offer g.row.A.Denot)). Answers (map offer_of l) c.in_ok-selected.field-0.selected c.in_ok-answer.answer) c.deref-5.ensures.value c.in_ok-answer.ensures)
-    (subst (IsEnough c.args.board.now c.args.names.now) (sym c.deref.ensures.value) c.in_ok-spare.ensures)
+    (enough c.args.board.now c.len-good.ensures.valid c.args.names.now c.deref.result.now (subst (IsExact c.args.board.now c.args.names.now) (sym c.deref.ensures.value) c.in_ok-spare.ensures))
     c.in_ok-selected.ensures.none
 
 pub returns-clause-undecided : goal.returns-clause-undecided

@@ -15,6 +15,7 @@ loop-edge-preserved g c =
       takes = takes-then old.spare.items so_far.spare.items new.spare.items old.left.items so_far.left.items new.left.items c.loop-edge.invariant.takes c.in_ok-take.ensures.takes;
       taken = all-more-get (λ (edge : Edge). is_spare new.spare.items edge.provider ≡ false) c.args.edges.now i nobody (omega arith)
           (still-taken so_far.spare.items new.spare.items (take i c.args.edges.now) c.in_ok-take.ensures.takes.kept c.loop-edge.invariant.taken) c.in_ok-take.ensures.taken;
+      only = λ pool names all are. c.in_ok-take.ensures.only pool names (all i nobody (omega arith)) (c.loop-edge.invariant.only pool names all are);
     }
 
 pub returns-clause-taken : goal.returns-clause-taken

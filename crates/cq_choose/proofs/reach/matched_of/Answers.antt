@@ -2,7 +2,7 @@ use Rattle.std.proofs.Common.{◌∙◌, arith}
 use Rattle.cq_board.specs.Named.{matched_named, query_named}
 use Rattle.cq_choose.specs.Steps.Reach.{told, IfKnown}
 use Rattle.cq_choose.proofs.Reaching.{all-more, all-end, map-more}
-use Rattle.cq_choose.proofs.reach.spare_of.Goals as goal
+use Rattle.cq_choose.proofs.reach.matched_of.Goals as goal
 
 pub loop-name-preserved : goal.loop-name-preserved
 loop-name-preserved g c =
@@ -10,7 +10,7 @@ loop-name-preserved g c =
     let names = c.args.names.now in
     let name = c.name-item.result in
     record {
-      matched = c.in_ok-push.ensures.items ∙ map-more (λ name. told (matched_named name.now c.args.board.now)) c.loop-name.spare.items c.is_matched.result names i name (omega arith) c.name-item.is c.loop-name.invariant.matched c.is_matched.ensures.matched;
+      matched = c.in_ok-push.ensures.items ∙ map-more (λ name. told (matched_named name.now c.args.board.now)) c.loop-name.matched.items c.is_matched.result names i name (omega arith) c.name-item.is c.loop-name.invariant.matched c.is_matched.ensures.matched;
       known = all-more (λ name. IfKnown (query_named name.now c.args.board.now.pending)) names i name (omega arith) c.name-item.is c.loop-name.invariant.known c.is_matched.ensures.known;
     }
 
