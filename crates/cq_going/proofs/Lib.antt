@@ -1,0 +1,3 @@
+pub mod Separated
+pub mod Listed
+pub mod Tellings

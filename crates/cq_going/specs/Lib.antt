@@ -1,0 +1,4 @@
+pub mod Reasons
+pub mod Going
+pub mod Grouping
+pub mod Steps
