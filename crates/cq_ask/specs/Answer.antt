@@ -14,8 +14,11 @@ use Rattle.cq_render.specs.Report.{line, state_word, block_of}
 use Rattle.cq_render.specs.Explain.{ArePieces, IsExplained, IsNearTold}
 use Rattle.cq_render.specs.Graph.{graph}
 use Rattle.cq_render.specs.Json.{json_of}
+use Rattle.cq_going.specs.declared.telling.Outcome.{Outcome}
+use Rattle.cq_going.specs.Going.{IsSoughtTold}
+use Rattle.cq_going.specs.Grouping.{AreGroupsTold}
 use Rattle.cq_ask.specs.declared.ask.AskKind.{AskKind}
-use Rattle.cq_ask.specs.declared.ask.AskKind.TheVariants.{Count, Status, Query, Explain, Near, Choice, Changes, Graph, Json, Help, Quit, Unfit}
+use Rattle.cq_ask.specs.declared.ask.AskKind.TheVariants.{Count, Status, Query, Explain, Near, Choice, Choose, Groups, Changes, Graph, Json, Help, Quit, Unfit}
 use Rattle.cq_ask.specs.Ask.{AskRecord}
 use Rattle.cq_ask.specs.Choices.{AreCoordinating, AreNotCoordinating, StandForNone, choice_words}
 
@@ -104,7 +107,7 @@ changes before now =
 abbrev pub help_text : List ℕ
 help_text =
     codes
-    "count                queries, rows and entries\nstatus NAME..        whether queries are matched, waiting or absent\nquery NAME           its block of the report\nexplain [NAME..]     why queries wait\nnear NAME POST       which heads nearly supply a postcondition\nchoice CHOICE..      whether a choice coordinates, as in choice a(1) b(1)\nchanges              queries that came, went or turned at the last publish\ngraph                who can supply whom, for Graphviz\njson                 the board as JSON\nhelp                 these lines\nquit                 ends; no later line is answered\nAll other lines are those of a script.\n"
+    "count                queries, rows and entries\nstatus NAME..        whether queries are matched, waiting or absent\nquery NAME           its block of the report\nexplain [NAME..]     why queries wait\nnear NAME POST       which heads nearly supply a postcondition\nchoice CHOICE..      whether a choice coordinates, as in choice a(1) b(1)\nchoose [NAME..]      a coordinating choice that has the queries\ngroups               groups of queries, and whether each can go\nchanges              queries that came, went or turned at the last publish\ngraph                who can supply whom, for Graphviz\njson                 the board as JSON\nhelp                 these lines\nquit                 ends; no later line is answered\nAll other lines are those of a script.\n"
 
 -- Why queries wait: those of these names, and which of the names are absent; where there is no name, all that wait.
 pub record IsWhyTold (pool : PoolRecord) (names : List (List ℕ)) (text : List ℕ) : Type 0 where
@@ -129,6 +132,19 @@ IsChoiceTold pool words text =
     (AreCoordinating pool words × (text ≡ line (codes "coordinating")))
     ⊎ ((AreNotCoordinating pool words × (text ≡ line (codes "not coordinating"))) ⊎ (StandForNone words × (text ≡ unfit_line)))
 
+-- What is told of a coordinating choice that has these queries.
+pub record IsSoughtAnswer (pool : PoolRecord) (names : List (List ℕ)) (text : List ℕ) : Type 0 where
+  pub outcome : Outcome
+  pub told : List ℕ
+  pub sought : IsSoughtTold pool names outcome told
+  pub is : text ≡ told ++ end_line
+
+-- The groups of matched queries, and whether each can go.
+pub record AreGroupsAnswered (pool : PoolRecord) (text : List ℕ) : Type 0 where
+  pub told : List ℕ
+  pub groups : AreGroupsTold pool told
+  pub is : text ≡ told ++ end_line
+
 -- The text answers what is asked of the floor and its pool; before the last publish so many entries were published.
 abbrev pub IsAnswerOf : FloorRecord → PoolRecord → ℕ → AskKind → List (List ℕ) → List ℕ → List ℕ → Type 0
 IsAnswerOf floor pool before Count names choices text = text ≡ count_line floor
@@ -137,6 +153,8 @@ IsAnswerOf floor pool before Query names choices text = text ≡ flat_map (block
 IsAnswerOf floor pool before Explain names choices text = IsWhyTold pool names text
 IsAnswerOf floor pool before (Near post) names choices text = IsNearAnswer pool post names text
 IsAnswerOf floor pool before Choice names choices text = IsChoiceTold pool (choice_words choices) text
+IsAnswerOf floor pool before Choose names choices text = IsSoughtAnswer pool names text
+IsAnswerOf floor pool before Groups names choices text = AreGroupsAnswered pool text
 IsAnswerOf floor pool before Changes names choices text = text ≡ changes (published_pool (floor_at floor before)) pool ++ end_line
 IsAnswerOf floor pool before Graph names choices text = text ≡ graph pool ++ end_line
 IsAnswerOf floor pool before Json names choices text = text ≡ line (print (json_tokens (json_of floor.machine.published pool)))

@@ -10,7 +10,7 @@ ghost use Rattle.cq_render.specs.Report.{line, block_of};
 ghost use Rattle.cq_render.specs.Explain.{ArePieces, IsNearTold};
 ghost use Rattle.cq_render.specs.Graph.{graph};
 ghost use Rattle.cq_render.specs.Json.{json_of};
-ghost use Rattle.cq_ask.specs.Answer.{BeganEmpty, floor_at, published_pool, changes, end_line, row_count, pool_counts, count_line, standing_word, status_line, absent_line, absent_lines, help_text, unfit_line, IsWhyTold, IsNearAnswer, IsChoiceTold, IsAnswer};
+ghost use Rattle.cq_ask.specs.Answer.{BeganEmpty, floor_at, published_pool, changes, end_line, row_count, pool_counts, count_line, standing_word, status_line, absent_line, absent_lines, help_text, unfit_line, IsWhyTold, IsNearAnswer, IsChoiceTold, IsSoughtAnswer, AreGroupsAnswered, IsAnswer};
 ghost use Rattle.cq_board.specs.Choice.{IsCoordinating};
 ghost use Rattle.cq_ask.specs.Choices.{choice_words};
 
@@ -20,6 +20,7 @@ use crate::choices::{ChoiceFault, choice_words, read_choices};
 use cq_atom::Name;
 use cq_board::{Board, Choice};
 use cq_desk::Floor;
+use cq_going::{MOST_STEPS, groups, tell_choice};
 use cq_rel::Tables;
 use cq_render::{explain_these, graph, json, near, put_block};
 use std::alloc::{AllocError, Allocator};
@@ -291,6 +292,29 @@ fn choice_text<A: Allocator + Copy>(
     String::from_str(alloc, said)
 }
 
+/// What is told of a coordinating choice that has these queries.
+fn choose_text<A: Allocator + Copy>(
+    alloc: A,
+    board: &Board<A>,
+    names: &[Name<A>],
+) -> Result<String<A>, AllocError>
+    ensures { IfOk result (λ text. IsSoughtAnswer board.now names.now (string_bytes text)) }
+{
+    let told = tell_choice(alloc, board, names, MOST_STEPS)?;
+    let mut page = told.text;
+    page.push_str(END)?;
+    Ok(page)
+}
+
+/// The groups of matched queries, and whether each can go.
+fn groups_text<A: Allocator + Copy>(alloc: A, board: &Board<A>) -> Result<String<A>, AllocError>
+    ensures { IfOk result (λ text. AreGroupsAnswered board.now (string_bytes text)) }
+{
+    let mut page = groups(alloc, board, MOST_STEPS)?;
+    page.push_str(END)?;
+    Ok(page)
+}
+
 fn changes_text<A: Allocator + Copy>(
     alloc: A,
     floor: &BoardFloor<A>,
@@ -325,7 +349,7 @@ fn json_text<A: Allocator + Copy>(alloc: A, floor: &BoardFloor<A>) -> Result<Str
 pub fn help() -> &'static str
     ensures { result.now ≡ help_text }
 {
-    "count                queries, rows and entries\nstatus NAME..        whether queries are matched, waiting or absent\nquery NAME           its block of the report\nexplain [NAME..]     why queries wait\nnear NAME POST       which heads nearly supply a postcondition\nchoice CHOICE..      whether a choice coordinates, as in choice a(1) b(1)\nchanges              queries that came, went or turned at the last publish\ngraph                who can supply whom, for Graphviz\njson                 the board as JSON\nhelp                 these lines\nquit                 ends; no later line is answered\nAll other lines are those of a script.\n"
+    "count                queries, rows and entries\nstatus NAME..        whether queries are matched, waiting or absent\nquery NAME           its block of the report\nexplain [NAME..]     why queries wait\nnear NAME POST       which heads nearly supply a postcondition\nchoice CHOICE..      whether a choice coordinates, as in choice a(1) b(1)\nchoose [NAME..]      a coordinating choice that has the queries\ngroups               groups of queries, and whether each can go\nchanges              queries that came, went or turned at the last publish\ngraph                who can supply whom, for Graphviz\njson                 the board as JSON\nhelp                 these lines\nquit                 ends; no later line is answered\nAll other lines are those of a script.\n"
 }
 
 fn help_lines<A: Allocator>(alloc: A) -> Result<String<A>, AllocError>
@@ -360,6 +384,8 @@ pub fn answer<A: Allocator + Copy>(
         AskKind::Explain => explain_text(alloc, board, names),
         AskKind::Near { post } => near_text(alloc, board, post, names),
         AskKind::Choice => choice_text(alloc, board, ask.text()),
+        AskKind::Choose => choose_text(alloc, board, names),
+        AskKind::Groups => groups_text(alloc, board),
         AskKind::Changes => changes_text(alloc, floor, before),
         AskKind::Graph => graph_text(alloc, board),
         AskKind::Json => json_text(alloc, floor),

@@ -22,6 +22,10 @@ pub enum AskKind {
     Near { post: u8 },
     /// Whether choices coordinate.
     Choice,
+    /// For a coordinating choice that has the queries.
+    Choose,
+    /// Which queries hang together, and whether they can go.
+    Groups,
     /// Which queries came, went or turned between the last two publishes.
     Changes,
     /// The graph of who can supply whom.

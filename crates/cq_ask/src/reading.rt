@@ -75,6 +75,10 @@ fn kind_of(word: &[u8]) -> Option<AskKind>
         Some(AskKind::Near { post: 0 })
     } else if is_word(word, "choice") {
         Some(AskKind::Choice)
+    } else if is_word(word, "choose") {
+        Some(AskKind::Choose)
+    } else if is_word(word, "groups") {
+        Some(AskKind::Groups)
     } else if is_word(word, "changes") {
         Some(AskKind::Changes)
     } else if is_word(word, "graph") {
@@ -97,7 +101,7 @@ fn takes(kind: AskKind, count: usize) -> bool
     match kind {
         AskKind::Status => count >= 1,
         AskKind::Query | AskKind::Near { .. } => count == 1,
-        AskKind::Explain | AskKind::Choice | AskKind::Unfit => true,
+        AskKind::Explain | AskKind::Choice | AskKind::Choose | AskKind::Unfit => true,
         _ => count == 0,
     }
 }

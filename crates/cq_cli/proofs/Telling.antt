@@ -24,8 +24,10 @@ use Rattle.cq_cli.specs.declared.fault.AnswerFault.TheVariants as answers
 use Rattle.cq_cli.specs.declared.status.Status.{Status}
 use Rattle.cq_cli.specs.declared.rows.RowsFault.{RowsFault}
 use Rattle.cq_cli.specs.declared.rows.RowsFault.TheVariants as rows
-use Rattle.cq_cli.specs.declared.status.Status.TheVariants.{Done, Failed, Usage, NoMemory, BadRecord, NotSo}
-use Rattle.cq_cli.specs.Status.{IsRefused, ended, status_of_choices, status_of_live, status_of_rows, status_of_run}
+use Rattle.cq_cli.specs.declared.status.Status.TheVariants.{Done, Failed, Usage, NoMemory, BadRecord, Unserved, NotSo, Undecided}
+use Rattle.cq_going.specs.declared.telling.Outcome.{Outcome}
+use Rattle.cq_going.specs.declared.telling.Outcome.TheVariants as sought
+use Rattle.cq_cli.specs.Status.{IsRefused, IsTold, ended, status_of_outcome, status_of_choices, status_of_live, status_of_rows, status_of_run}
 use Rattle.cq_cli.specs.Devices.{DeviceCounts, EndsRun, LeavesRefused, ReportsFailures, ReportsWriting}
 use Rattle.cq_cli.specs.Rows.{MatchFault, IsOfReader}
 use Rattle.cq_cli.specs.Rows as rows_failures
@@ -75,13 +77,22 @@ run_reported before after (runs.Read n) turn reads writes = record { read = λ _
 run_reported before after runs.Write turn reads writes = record { read = λ _. refl; write = λ _. refl; failed = λ _. inl (omega (arith, writes)) }
 run_reported before after runs.NoMemory turn reads writes = none_failed before after NoMemory (λ is. cc) (reads (λ no. no)) (omega (arith, writes))
 
-told_no_failure : (status : Status) → (status ≡ Done) ⊎ (status ≡ NotSo) → status ≡ Failed → ⊥
-told_no_failure status (inl e) is = cc
-told_no_failure status (inr e) is = cc
+told_no_failure : (status : Status) → IsTold status → status ≡ Failed → ⊥
+told_no_failure status told is = subst IsTold is told
 
-pub ended_reported : (before after : DeviceCounts) (r : Result Status RunFault) → IfOk r (λ status. (status ≡ Done) ⊎ (status ≡ NotSo)) → EndsRun before after r → ReportsFailures before after (ended r)
-ended_reported before after (Ok status) either ends = none_failed before after status (told_no_failure status either) ends.read_failures ends.write_failures
-ended_reported before after (Err fault) either ends = run_reported before after fault ends.turn ends.read_failures ends.write_failures
+-- what is so or not so was told
+pub either_told : (status : Status) → (status ≡ Done) ⊎ (status ≡ NotSo) → IsTold status
+either_told status (inl e) = subst IsTold (sym e) tt
+either_told status (inr e) = subst IsTold (sym e) tt
+
+pub outcome_told : (status : Status) (outcome : Outcome) → status ≡ status_of_outcome outcome → IsTold status
+outcome_told status sought.Found e = subst IsTold (sym e) tt
+outcome_told status sought.Impossible e = subst IsTold (sym e) tt
+outcome_told status sought.Undecided e = subst IsTold (sym e) tt
+
+pub ended_reported : (before after : DeviceCounts) (r : Result Status RunFault) → IfOk r IsTold → EndsRun before after r → ReportsFailures before after (ended r)
+ended_reported before after (Ok status) told ends = none_failed before after status (told_no_failure status told) ends.read_failures ends.write_failures
+ended_reported before after (Err fault) told ends = run_reported before after fault ends.turn ends.read_failures ends.write_failures
 
 -- a sink's failures alone are reported
 pub sink_reported : (before after : DeviceCounts) (status : Status) → after.read_failures ≡ before.read_failures → ReportsWriting before.write_failures after.write_failures status → ReportsFailures before after status
@@ -94,6 +105,7 @@ sink_reported before after status same told = record {
 -- words that are no choices are no failure
 pub choices_reported : (now : DeviceCounts) (fault : ChoiceFault) → ReportsFailures now now (status_of_choices fault)
 choices_reported now (choices.Bad word) = none_failed now now Usage (λ is. cc) refl refl
+choices_reported now (choices.Name word) = none_failed now now Usage (λ is. cc) refl refl
 choices_reported now choices.NoMemory = none_failed now now NoMemory (λ is. cc) refl refl
 
 -- what was not refused owes nothing
@@ -121,10 +133,25 @@ run_not_refused (runs.Read n) is = is
 run_not_refused runs.Write is = is
 run_not_refused runs.NoMemory is = is
 
-pub ended_not_refused : (r : Result Status RunFault) → IfOk r (λ status. (status ≡ Done) ⊎ (status ≡ NotSo)) → IsRefused (ended r) → ⊥
-ended_not_refused (Ok status) (inl e) is = subst IsRefused e is
-ended_not_refused (Ok status) (inr e) is = subst IsRefused e is
-ended_not_refused (Err fault) either is = run_not_refused fault is
+told_not_refused : (status : Status) → IsTold status → IsRefused status → ⊥
+told_not_refused Done told is = is
+told_not_refused Failed told is = told
+told_not_refused Usage told is = told
+told_not_refused NoMemory told is = told
+told_not_refused BadRecord told is = told
+told_not_refused Unserved told is = told
+told_not_refused NotSo told is = is
+told_not_refused Undecided told is = is
+
+pub ended_not_refused : (r : Result Status RunFault) → IfOk r IsTold → IsRefused (ended r) → ⊥
+ended_not_refused (Ok status) told is = told_not_refused status told is
+ended_not_refused (Err fault) told is = run_not_refused fault is
+
+pub ended_usage : (r : Result Status RunFault) → IfOk r IsTold → ended r ≡ Usage → ⊥
+ended_usage (Ok status) told e = subst IsTold e told
+ended_usage (Err (runs.Read n)) told e = cc
+ended_usage (Err runs.Write) told e = cc
+ended_usage (Err runs.NoMemory) told e = cc
 
 -- the status after a fault of rows reports it
 pub rows_reported : (before after : DeviceCounts) (words writer of_record of_memory : Type 0) (fault : RowsFault) → MatchFault fault words (λ turn. FailedAtTurn turn before.reads after.reads before.read_failures after.read_failures) writer of_record of_memory

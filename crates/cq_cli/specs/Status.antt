@@ -13,12 +13,14 @@ use Rattle.cq_cli.specs.declared.rows.RowsFault.TheVariants as rows
 use Rattle.cq_cli.specs.declared.sessions.FileFault.TheVariants as file
 use Rattle.cq_cli.specs.declared.sessions.FilesFault.{FilesFault}
 use Rattle.cq_cli.specs.declared.sessions.FilesFault.TheVariants as files
+use Rattle.cq_going.specs.declared.telling.Outcome.{Outcome}
+use Rattle.cq_going.specs.declared.telling.Outcome.TheVariants as sought
 use Rattle.cq_cli.specs.declared.choices.ChoiceFault.{ChoiceFault}
 use Rattle.cq_cli.specs.declared.choices.ChoiceFault.TheVariants as choices
 use Rattle.cq_cli.specs.declared.status.Status.{Status}
-use Rattle.cq_cli.specs.declared.status.Status.TheVariants.{Done, Failed, Usage, NoMemory, BadRecord, Unserved, NotSo}
+use Rattle.cq_cli.specs.declared.status.Status.TheVariants.{Done, Failed, Usage, NoMemory, BadRecord, Unserved, NotSo, Undecided}
 
--- Done is 0, a device that failed is 1, and so are sessions that were not served, a fault of usage is 2, out of memory is 3, a record at fault is 4, what is not so on a board is 5.
+-- Done is 0, a device that failed is 1, and so are sessions that were not served, a fault of usage is 2, out of memory is 3, a record at fault is 4, what is not so on a board is 5, what was not decided is 6.
 abbrev pub code_of : Status → ℕ
 code_of Done = 0
 code_of Failed = 1
@@ -27,6 +29,7 @@ code_of NoMemory = 3
 code_of BadRecord = 4
 code_of Unserved = 1
 code_of NotSo = 5
+code_of Undecided = 6
 
 -- A fault of reading or writing is a device that failed.
 abbrev pub status_of_run : RunFault → Status
@@ -69,9 +72,16 @@ status_of_rows (rows.Width index arity) = BadRecord
 status_of_rows (rows.Text index) = BadRecord
 status_of_rows rows.NoMemory = NoMemory
 
--- Words that are no choice are a fault of usage.
+-- A choice that was found is told; that there is none is what is not so.
+abbrev pub status_of_outcome : Outcome → Status
+status_of_outcome sought.Found = Done
+status_of_outcome sought.Impossible = NotSo
+status_of_outcome sought.Undecided = Undecided
+
+-- Words that are no choice and no name are a fault of usage.
 abbrev pub status_of_choices : ChoiceFault → Status
 status_of_choices (choices.Bad word) = Usage
+status_of_choices (choices.Name word) = Usage
 status_of_choices choices.NoMemory = NoMemory
 
 -- How the program ends where this was reported, or where that fault kept it from being reported.
@@ -88,3 +98,15 @@ IsRefused NoMemory = ⊥
 IsRefused BadRecord = Unit {0}
 IsRefused Unserved = Unit {0}
 IsRefused NotSo = ⊥
+IsRefused Undecided = ⊥
+
+-- What was asked of a board was told.
+abbrev pub IsTold : Status → Type 0
+IsTold Done = Unit {0}
+IsTold Failed = ⊥
+IsTold Usage = ⊥
+IsTold NoMemory = ⊥
+IsTold BadRecord = ⊥
+IsTold Unserved = ⊥
+IsTold NotSo = Unit {0}
+IsTold Undecided = Unit {0}

@@ -8,7 +8,7 @@ use crate::explaining::answer_explained;
 use crate::rows::write_rows;
 use crate::sessions::serve_files;
 use crate::status::Status;
-use crate::views::{answer_choice, answer_view};
+use crate::views::{View, answer_choice, answer_choose, answer_view};
 use crate::wanted::{Task, Wanted, read_words};
 use crate::writing::{tell, tell_fault, write_text};
 use clap::Error;
@@ -173,9 +173,17 @@ fn answer_task<
         Task::Sessions { setup, files } => {
             answer_sessions(host, alloc, heap, setup, files, sink, errors)
         }
-        Task::View { view } => answer_view(alloc, heap, *view, source, sink, errors),
+        Task::Graph => answer_view(alloc, heap, View::Graph, source, sink, errors),
+        Task::Json => answer_view(alloc, heap, View::Json, source, sink, errors),
+        Task::Groups { steps } => {
+            let view = View::Groups { steps: *steps };
+            answer_view(alloc, heap, view, source, sink, errors)
+        }
         Task::Explain { names } => answer_explained(alloc, heap, names, source, sink, errors),
         Task::Choice { words } => answer_choice(alloc, heap, words, source, sink, errors),
+        Task::Choose { words, steps } => {
+            answer_choose(alloc, heap, words, *steps, source, sink, errors)
+        }
     }
 }
 

@@ -1,12 +1,13 @@
 //! How the program ends.
 
 ghost use Rattle.std.specs.Prelude.{◌≡◌};
-ghost use Rattle.cq_cli.specs.Status.{code_of, status_of_live, status_of_run, status_of_choices, status_of_files, status_of_reading, status_of_rows, status_of_sessions};
+ghost use Rattle.cq_cli.specs.Status.{code_of, status_of_live, status_of_run, status_of_choices, status_of_outcome, status_of_files, status_of_reading, status_of_rows, status_of_sessions};
 
 use crate::choices::ChoiceFault;
 use crate::rows::RowsFault;
 use crate::sessions::{FileFault, FilesFault};
 use cq_devices::WholeFault;
+use cq_going::Outcome;
 use cq_report::{LiveFault, RunFault};
 use cq_sessions::SessionsFault;
 
@@ -25,8 +26,10 @@ pub(crate) enum Status {
     BadRecord,
     /// Sessions were not served: a file failed, or no thread or place was had.
     Unserved,
-    /// What was asked of a board is not so: the choices do not coordinate.
+    /// What was asked of a board is not so: the choices do not coordinate, or there are none.
     NotSo,
+    /// What was sought on a board was neither found nor ruled out.
+    Undecided,
 }
 
 impl Status {
@@ -42,6 +45,7 @@ impl Status {
             Status::BadRecord => 4,
             Status::Unserved => 1,
             Status::NotSo => 5,
+            Status::Undecided => 6,
         }
     }
 
@@ -98,12 +102,23 @@ impl Status {
         }
     }
 
+    /// How the program ends after a search for a coordinating choice.
+    pub(crate) fn of_outcome(outcome: Outcome) -> Status
+        ensures { result ≡ status_of_outcome outcome }
+    {
+        match outcome {
+            Outcome::Found => Status::Done,
+            Outcome::Impossible => Status::NotSo,
+            Outcome::Undecided => Status::Undecided,
+        }
+    }
+
     /// How the program ends after words that are no choices.
     pub(crate) fn of_choices(fault: ChoiceFault<'_>) -> Status
         ensures { result ≡ status_of_choices fault.entry }
     {
         match fault {
-            ChoiceFault::Bad { word: _ } => Status::Usage,
+            ChoiceFault::Bad { word: _ } | ChoiceFault::Name { word: _ } => Status::Usage,
             ChoiceFault::NoMemory => Status::NoMemory,
         }
     }

@@ -1,7 +1,7 @@
 //! The words of the command line, by the kit's `clap`.
 
-use crate::views::View;
 use clap::{Arg, ArgAction, ArgMatches, Command, Error, value_parser};
+use cq_going::MOST_STEPS;
 use cq_report::Numbering;
 use std::alloc::{AllocError, Global};
 use std::convert::AsStr;
@@ -18,10 +18,11 @@ const BEHIND: &str = "Commands of a script:
 Exit status:
   0  done: refused lines of a script included, and help and version
   1  standard input or standard output failed, or a file or a thread of sessions
-  2  words that are no command, a bad relation name, a bad arity, too many files, a bad choice
+  2  words that are no command, a bad relation name, a bad arity, too many files, a bad choice or name
   3  out of memory
   4  a record of CSV at fault; then nothing is written to standard output
-  5  a choice that does not coordinate, or a name under which no query is pending
+  5  a choice that does not coordinate, none that does, or a name under which no query is pending
+  6  a coordinating choice was neither found nor ruled out in so many steps
 
 docs/formats.md describes the language, its replies, the report, CSV, sessions, and what is told of a board.";
 
@@ -60,8 +61,8 @@ const BEHIND_LIVE: &str =
 drive a board over two pipes.
 
 Beside these, a line may ask about the published board: `count`, `status NAME..`, `query NAME`, `explain [NAME..]`,
-`near NAME POST`, `choice CHOICE..`, `changes`, `graph`, `json`. The line `help` lists them. An answer of several lines
-ends with `end`. `quit` ends the board, as the end of the input does.
+`near NAME POST`, `choice CHOICE..`, `choose [NAME..]`, `groups`, `changes`, `graph`, `json`. The line `help` lists them. An answer of
+several lines ends with `end`. `quit` ends the board, as the end of the input does.
 
 A line that needs more memory than there is, or than --memory allows, is answered `refused Memory`. It changes nothing, and the
 board goes on.
@@ -175,6 +176,45 @@ writes
 Exit status: 0 coordinating, 1 a device failed, 2 usage, 3 out of memory, 5 not coordinating.
 docs/formats.md describes values and choices.";
 
+const ABOUT_CHOOSE: &str =
+    "Reads a script on standard input, and looks for a choice that coordinates on its board.";
+
+const BEHIND_CHOOSE: &str =
+    "The script is read as by `board replay`, and no reply is written. A choice is sought that coordinates, as `board choice` has it, and
+has the query of each NAME. Without a NAME, the matched queries are gone through in posting order, and each is taken that can go with
+those that were taken before it. The board is the published one, which a `show` behind the last line would print.
+
+What is found is written in one line, as `board choice` reads it, and below it the atoms that each of its queries offers. Where there
+is none, `none` is written, and why, as far as it is told: the names under which no query is pending, or one that waits; and the first
+query of which no grounding has everything offered that it awaits. Where the steps were used up before, `undecided` is written.
+
+Example:
+  board choose kramer jerry <pool.board
+writes
+  kramer(122) jerry(122)
+    kramer: R(\"Kramer\", 122)
+    jerry: R(\"Jerry\", 122)
+
+Exit status: 0 found, 1 a device failed, 2 usage, 3 out of memory, 5 none, 6 undecided.
+docs/formats.md describes what is written.";
+
+const ABOUT_GROUPS: &str =
+    "Reads a script on standard input, and tells which queries of its board hang together, and whether they can go.";
+
+const BEHIND_GROUPS: &str =
+    "The script is read as by `board replay`, and no reply is written. Matched queries hang together where one may supply the other, and
+where each hangs together with a third. Each group is a line: its queries in posting order, and `can go` where a choice coordinates
+that has them all, `cannot` where there is none, `undecided` where that was not found out within the steps, which each group has
+anew. The board is the published one, which a `show` behind the last line would print.
+
+Example:
+  board groups <pool.board
+writes
+  kramer jerry: can go
+
+Exit status: 0 done, 1 a device failed, 2 usage, 3 out of memory.
+docs/formats.md describes what is written.";
+
 /// What the words ask for.
 #[derive(Drop, Debug)]
 pub(crate) struct Wanted<'a> {
@@ -208,10 +248,21 @@ pub(crate) enum Task<'a> {
         /// The paths of the files.
         files: Vec<&'a str>,
     },
-    /// Something is reported about the board that a script leaves.
-    View {
-        /// What is reported.
-        view: View,
+    /// The graph of the board that a script leaves is written.
+    Graph,
+    /// The report on the board that a script leaves is written in JSON.
+    Json,
+    /// It is told which queries of the board that a script leaves hang together, and whether they can go.
+    Groups {
+        /// How many groundings are tried for a group.
+        steps: u64,
+    },
+    /// A coordinating choice is sought on the board that a script leaves.
+    Choose {
+        /// The words that stand for the queries' names.
+        words: Vec<&'a str>,
+        /// How many groundings are tried.
+        steps: u64,
     },
     /// It is reported why queries of the board that a script leaves wait.
     Explain {
@@ -352,6 +403,36 @@ fn choice_command<'a>(alloc: Global) -> Result<Command<'a>, AllocError> {
         .arg(view_memory(alloc))
 }
 
+/// The option that bounds a search.
+fn steps<'a>(alloc: Global) -> Arg<'a> {
+    Arg::new(alloc, "steps")
+        .long("steps")
+        .value_name("N")
+        .value_parser(value_parser!(usize))
+        .help("How many groundings are tried at most; without it 1000000")
+}
+
+fn choose_command<'a>(alloc: Global) -> Result<Command<'a>, AllocError> {
+    Command::new(alloc, "choose")
+        .about(ABOUT_CHOOSE)
+        .after_help(BEHIND_CHOOSE)
+        .arg(
+            Arg::new(alloc, "NAME")
+                .num_args(0..)
+                .help("The queries that the choice has to have"),
+        )?
+        .arg(steps(alloc))?
+        .arg(view_memory(alloc))
+}
+
+fn groups_command<'a>(alloc: Global) -> Result<Command<'a>, AllocError> {
+    Command::new(alloc, "groups")
+        .about(ABOUT_GROUPS)
+        .after_help(BEHIND_GROUPS)
+        .arg(steps(alloc))?
+        .arg(view_memory(alloc))
+}
+
 /// A command with one subcommand more. Each of the two is let go here alone, where the other is refused.
 fn with<'a>(
     command: Command<'a>,
@@ -375,7 +456,9 @@ fn board_command<'a>(alloc: Global) -> Result<Command<'a>, AllocError> {
     let board = with(board, explain_command(alloc))?;
     let board = with(board, graph_command(alloc))?;
     let board = with(board, json_command(alloc))?;
-    with(board, choice_command(alloc))
+    let board = with(board, choice_command(alloc))?;
+    let board = with(board, choose_command(alloc))?;
+    with(board, groups_command(alloc))
 }
 
 /// All the words that stand for that argument.
@@ -387,6 +470,14 @@ fn words_of<'a>(
     let mut words = Vec::new(alloc);
     words.extend_from_slice(matches.get_strs(name).unwrap_or(&[]))?;
     Ok(words)
+}
+
+/// How many groundings are tried.
+fn steps_of(matches: &ArgMatches<'_>) -> u64 {
+    match matches.get_one::<usize>("steps") {
+        Some(steps) => steps as u64,
+        None => MOST_STEPS,
+    }
 }
 
 /// How replies are numbered, by whether the option for it stands there.
@@ -416,8 +507,15 @@ fn task_of<'a>(
         "explain" => Task::Explain {
             names: words_of(alloc, matches, "NAME")?,
         },
-        "graph" => Task::View { view: View::Graph },
-        "json" => Task::View { view: View::Json },
+        "graph" => Task::Graph,
+        "json" => Task::Json,
+        "groups" => Task::Groups {
+            steps: steps_of(matches),
+        },
+        "choose" => Task::Choose {
+            words: words_of(alloc, matches, "NAME")?,
+            steps: steps_of(matches),
+        },
         "choice" => Task::Choice {
             words: words_of(alloc, matches, "CHOICE")?,
         },

@@ -1,29 +1,23 @@
-//! Coordinating choices that are looked for, also with each allocation refused in turn.
+//! Coordinating choices that are sought, and groups, with each allocation refused in turn.
 
 use crate::samples::{Setup, WORKED, made};
 use cq_atom::Name;
 use cq_board::Board;
-use cq_choose::{Answer, Sought, choose};
+use cq_going::{groups, tell_choice};
 use cq_groups::group_labels;
 use cq_select::{Member, Search, Selected, Supply, select};
 use cq_tests_allocations::{Outcome, Tried, refusals};
 use std::alloc::{AllocError, Allocator};
 
-/// What comes of looking.
-#[derive(Clone, Copy, PartialEq, Eq)]
-enum Found {
-    /// So many choices that coordinate.
-    Choices(usize),
-    /// There are none.
-    Nothing,
-    /// The budget was used up.
-    Undecided,
-    /// Choices that do not coordinate.
-    Wrong,
+/// What is told: of a coordinating choice for these names, one a line, that is sought within the budget, or of the groups.
+#[derive(Clone, Copy)]
+enum Asked {
+    Choice(&'static str, u64),
+    Groups(u64),
 }
 
-/// Where is looked, for which names, one a line, within which budget, and what comes of it.
-type Looking = (Setup, &'static str, u64, Found);
+/// A board, what is asked of it, and what is told.
+type Telling = (Setup, Asked, &'static str);
 
 /// Two friends with different dates: both are matched.
 const TWO_DATES: Setup = Setup {
@@ -33,13 +27,29 @@ insert T(2, 2)",
 post b {B(x)} A(x) <- T(x, x)",
 };
 
-const LOOKS: &[Looking] = &[
-    (WORKED, "kramer\njerry", 100, Found::Choices(2)),
-    (WORKED, "jerry", 100, Found::Choices(2)),
-    (WORKED, "", 100, Found::Choices(0)),
-    (WORKED, "kramer\nnewman", 100, Found::Nothing),
-    (WORKED, "kramer", 0, Found::Undecided),
-    (TWO_DATES, "a\nb", 100, Found::Nothing),
+const TOLD: &[Telling] = &[
+    (
+        WORKED,
+        Asked::Choice("kramer\njerry", 100),
+        "kramer(122) jerry(122)\n  kramer: R(\"Kramer\", 122)\n  jerry: R(\"Jerry\", 122)\n",
+    ),
+    (
+        WORKED,
+        Asked::Choice("", 100),
+        "kramer(122) jerry(122)\n  kramer: R(\"Kramer\", 122)\n  jerry: R(\"Jerry\", 122)\n",
+    ),
+    (
+        TWO_DATES,
+        Asked::Choice("a\nb", 100),
+        "none\n  a(1) awaits A(1), which none offers; b(2) offers A(2)\n",
+    ),
+    (TWO_DATES, Asked::Groups(100), "a b: cannot\n"),
+    (
+        WORKED,
+        Asked::Choice("kramer\nnewman", 100),
+        "none\n  newman is absent\n",
+    ),
+    (WORKED, Asked::Choice("kramer", 0), "undecided\n"),
 ];
 
 fn name<A: Allocator>(alloc: A, word: &str) -> Result<Name<A>, AllocError> {
@@ -57,85 +67,56 @@ fn names<A: Allocator + Copy>(alloc: A, words: &str) -> Result<Vec<Name<A>, A>, 
     Ok(names)
 }
 
-fn found_of<A: Allocator + Copy>(board: &Board<A>, answer: Answer<A>) -> Found {
-    match answer {
-        Answer::Found(choices) => {
-            if board.check_choice(&choices) {
-                Found::Choices(choices.len())
-            } else {
-                Found::Wrong
-            }
-        }
-        Answer::Impossible => Found::Nothing,
-        Answer::Undecided => Found::Undecided,
-    }
-}
-
-fn sought<A: Allocator + Copy>(
+fn told<A: Allocator + Copy>(
     alloc: A,
     board: &Board<A>,
-    names: &[Name<A>],
-    budget: u64,
-) -> Result<Found, AllocError> {
-    let Sought { answer, steps: _ } = choose(alloc, board, names, budget)?;
-    Ok(found_of(board, answer))
+    asked: Asked,
+) -> Result<String<A>, AllocError> {
+    match asked {
+        Asked::Choice(words, budget) => {
+            let names = names(alloc, words)?;
+            Ok(tell_choice(alloc, board, &names, budget)?.text)
+        }
+        Asked::Groups(budget) => groups(alloc, board, budget),
+    }
 }
 
-fn outcome<A: Allocator + Copy>(
+fn is_told<A: Allocator + Copy>(
     alloc: A,
     board: &Board<A>,
-    names: &[Name<A>],
-    budget: u64,
-    wanted: Found,
-) -> Outcome {
-    match sought(alloc, board, names, budget) {
-        Ok(found) => Outcome::done_if(found == wanted),
-        Err(_) => Outcome::refused_if(sought(alloc, board, names, budget) == Ok(wanted)),
+    telling: &Telling,
+) -> Result<bool, AllocError> {
+    let text = told(alloc, board, telling.1)?;
+    Ok(text.as_str() == telling.2)
+}
+
+fn outcome<A: Allocator + Copy>(alloc: A, board: &Board<A>, telling: &Telling) -> Outcome {
+    match is_told(alloc, board, telling) {
+        Ok(right) => Outcome::done_if(right),
+        Err(_) => Outcome::refused_if(is_told(alloc, board, telling) == Ok(true)),
     }
 }
 
-fn looked_at<A: Allocator + Copy>(alloc: A, board: &Board<A>, looking: &Looking) -> Outcome {
-    match names(alloc, looking.1) {
-        Ok(names) => outcome(alloc, board, &names, looking.2, looking.3),
-        Err(_) => Outcome::Unready,
-    }
-}
+/// What is told at that place of the table.
+struct Nth<const N: usize>;
 
-fn looked<A: Allocator + Copy>(alloc: A, looking: &Looking) -> Outcome {
-    match made(alloc, looking.0) {
-        Ok(board) => looked_at(alloc, &board, looking),
-        Err(_) => Outcome::Unready,
-    }
-}
-
-/// The place of the first that comes out otherwise.
-fn other_look<A: Allocator + Copy>(alloc: A) -> Option<usize> {
-    for place in 0..LOOKS.len() {
-        if !matches!(looked(alloc, &LOOKS[place]), Outcome::Done) {
-            return Some(place);
-        }
-    }
-    None
-}
-
-#[test]
-fn coordinating_choices_sought(rt: HostRuntime) {
-    let other = other_look(rt.alloc());
-    assert!(rt; other == None, "{other:?}");
-}
-
-/// The first of the looks.
-struct First;
-
-impl Tried for First {
+impl<const N: usize> Tried for Nth<N> {
     fn tried<A: Allocator + Copy>(alloc: A) -> Outcome {
-        looked(alloc, &LOOKS[0])
+        match made(alloc, TOLD[N].0) {
+            Ok(board) => outcome(alloc, &board, &TOLD[N]),
+            Err(_) => Outcome::Unready,
+        }
     }
 }
 
 #[test]
-fn failed_allocation_in_choose(rt: HostRuntime) {
-    assert!(rt; matches!(refusals::<First>(rt.alloc()), Ok(9..)));
+fn failed_allocation_in_what_is_told(rt: HostRuntime) {
+    assert!(rt; matches!(refusals::<Nth<0>>(rt.alloc()), Ok(15..)));
+    assert!(rt; matches!(refusals::<Nth<1>>(rt.alloc()), Ok(15..)));
+    assert!(rt; matches!(refusals::<Nth<2>>(rt.alloc()), Ok(15..)));
+    assert!(rt; matches!(refusals::<Nth<3>>(rt.alloc()), Ok(15..)));
+    assert!(rt; matches!(refusals::<Nth<4>>(rt.alloc()), Ok(5..)));
+    assert!(rt; matches!(refusals::<Nth<5>>(rt.alloc()), Ok(5..)));
 }
 
 fn list<A: Allocator>(alloc: A, number: usize) -> Result<Vec<usize, A>, AllocError> {

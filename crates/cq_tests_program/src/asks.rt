@@ -56,6 +56,8 @@ end
         "{\"entries\":1,\"relations\":[],\"queries\":[{\"name\":\"a\",\"state\":\"waiting\",\"text\":\"{R(1)} S(2) <-\",\"heads\":[{\"relation\":\"S\",\"terms\":[{\"number\":2}]}],\"postconditions\":[{\"relation\":\"R\",\"terms\":[{\"number\":1}],\"providers\":[],\"crowded\":false}],\"body\":[],\"variables\":[],\"groundings\":[[]]}]}\n",
     ),
     (b"choice a()", "not coordinating\n"),
+    (b"choose a b", "none\n  a waits\n  b is absent\nend\n"),
+    (b"groups", "end\n"),
     (b"choice a(", "refused Words\n"),
     (b"query a b", "refused Words\n"),
 ];
@@ -147,4 +149,6 @@ fn failed_allocation_in_answers(rt: HostRuntime) {
     assert!(rt; matches!(refusals::<Nth<6>>(rt.alloc()), Ok(2..)));
     assert!(rt; matches!(refusals::<Nth<7>>(rt.alloc()), Ok(2..)));
     assert!(rt; matches!(refusals::<Nth<8>>(rt.alloc()), Ok(1..)));
+    assert!(rt; matches!(refusals::<Nth<9>>(rt.alloc()), Ok(5..)));
+    assert!(rt; matches!(refusals::<Nth<10>>(rt.alloc()), Ok(2..)));
 }

@@ -1,14 +1,13 @@
 use Rattle.std.proofs.Common.{refl}
 use Rattle.std.proofs.lemmas.Result.{err_from_is_err_and}
-use Rattle.std.specs.Io.KnownBytes.{Appends}
-use Rattle.cq_cli.specs.Views.{viewed}
+use Rattle.cq_cli.specs.Views.{IsShown}
 use Rattle.cq_cli.proofs.Absent.{floor_over}
 use Rattle.cq_cli.proofs.Telling.{read_ends, answer_ends}
 use Rattle.cq_cli.proofs.views.show_view.Goals as goal
 
 pub returns-clause-told : goal.returns-clause-told
 returns-clause-told g c =
-    floor_over (g.R.Source.left c.args.source.now) _ (λ floor. Appends (g.W.Sink.taken c.args.sink.now) (g.W.Sink.taken c.write_view.new.sink) (viewed c.args.view floor)) c.in_ok-script.ensures.board c.in_ok-write_view.ensures.ok
+    floor_over (g.R.Source.left c.args.source.now) _ (λ floor. IsShown c.args.view c.args.names.now floor c.in_ok-write_view.field-0 (g.W.Sink.taken c.args.sink.now) (g.W.Sink.taken c.write_view.new.sink)) c.in_ok-script.ensures.board c.in_ok-write_view.ensures.ok
 
 pub returns-in_err-script-clause-failures : goal.returns-in_err-script-clause-failures
 returns-in_err-script-clause-failures g c =
