@@ -97,14 +97,21 @@ fn outcome<A: Allocator + Copy>(alloc: A, board: &Board<A>, telling: &Telling) -
     }
 }
 
+fn tried_on<A: Allocator + Copy>(alloc: A, telling: &Telling) -> Outcome {
+    match made(alloc, telling.0) {
+        Ok(board) => outcome(alloc, &board, telling),
+        Err(_) => Outcome::Unready,
+    }
+}
+
 /// What is told at that place of the table.
 struct Nth<const N: usize>;
 
 impl<const N: usize> Tried for Nth<N> {
     fn tried<A: Allocator + Copy>(alloc: A) -> Outcome {
-        match made(alloc, TOLD[N].0) {
-            Ok(board) => outcome(alloc, &board, &TOLD[N]),
-            Err(_) => Outcome::Unready,
+        match TOLD.get(N) {
+            Some(telling) => tried_on(alloc, telling),
+            None => Outcome::Wrong,
         }
     }
 }
