@@ -23,6 +23,7 @@ is_flagged flags place = slice_index_or flags place false
 abbrev pub links_between : List Bool → List Edge → List (ℕ × ℕ)
 links_between flags edges = map (λ edge. (edge.provider, edge.waiter)) (filter (λ edge. is_flagged flags edge.provider && is_flagged flags edge.waiter) edges)
 
+-- The name at a flagged place that has the label, and else none.
 abbrev pub name_if : List Bool → List ℕ → ℕ → ℕ × List ℕ → List (List ℕ)
 name_if flags labels label (place, name) = if is_flagged flags place && (slice_index_or labels place 0 == label) then name ∷ [] else []
 

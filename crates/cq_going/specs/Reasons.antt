@@ -26,6 +26,7 @@ barred_line name None = line (codes "  " ++ name ++ codes " is absent")
 barred_line name (Some false) = line (codes "  " ++ name ++ codes " waits")
 barred_line name (Some true) = []
 
+-- Those of the names for which nothing can be chosen.
 abbrev pub barred_lines : PoolRecord → List (List ℕ) → List ℕ
 barred_lines pool names = flat_map (λ name. barred_line name (matched_named name pool)) names
 
@@ -48,6 +49,7 @@ offer_words link (Some query) None = []
 offer_words link (Some query) (Some []) = []
 offer_words link (Some query) (Some (values ∷ more)) = first_words link query values
 
+-- What the first of the links offers.
 abbrev pub first_offer : PoolRecord → List (Link (List ℕ)) → List ℕ
 first_offer pool [] = []
 first_offer pool (link ∷ links) = offer_words link (query_named link.provider pool.pending) (groundings_named link.provider pool)
