@@ -1,8 +1,10 @@
 -- What is answered to lines that ask. (this project's profile)
-use Rattle.std.specs.Prelude.{◌≡◌, ◌⊎◌, ℕ, ◌+◌, ◌-◌, Bool, true, false, map, List, [], ◌++◌, length, fold, codes, decimal, Option, Some, None}
+use Rattle.std.specs.Prelude.{◌≡◌, ◌⊎◌, ℕ, ◌+◌, ◌-◌, Bool, true, false, map, List, [], ◌∷◌, ◌++◌, length, fold, codes, decimal, Option, Some, None, if◌then◌else◌}
 use Rattle.std.specs.List.{flat_map}
+use Rattle.std.specs.Str.{bytes_eq}
 use Rattle.json.specs.Tree.{json_tokens}
 use Rattle.json.specs.Print.{print}
+use Rattle.json.specs.Token.{string}
 use Rattle.cq_atom.specs.Edit.{Edit}
 use Rattle.cq_rel.specs.Tables.{TablesRecord, rows_in}
 use Rattle.cq_board.specs.Pool.{PoolRecord, name_of, opening_pool}
@@ -101,7 +103,7 @@ changes before now =
     flat_map (λ name. went_line name (matched_named name now)) (map name_of before.pending)
     ++ flat_map (λ name. change_line name (change_words (matched_named name before) (matched_named name now))) (map name_of now.pending)
 
--- ---- answers
+-- ---- what is told
 
 -- Which lines ask.
 abbrev pub help_text : List ℕ
@@ -113,13 +115,13 @@ help_text =
 pub record IsWhyTold (pool : PoolRecord) (names : List (List ℕ)) (text : List ℕ) : Type 0 where
   pub why : List ℕ
   pub told : IsExplained pool names why
-  pub is : text ≡ why ++ absent_lines pool names ++ end_line
+  pub is : text ≡ why ++ absent_lines pool names
 
 -- The heads that are nearest to that postcondition of the queries of these names; and which of the names are absent.
 pub record IsNearAnswer (pool : PoolRecord) (post : ℕ) (names : List (List ℕ)) (text : List ℕ) : Type 0 where
   pub near : List ℕ
   pub told : ArePieces (λ name. IsNearTold pool.pending name post) names near
-  pub is : text ≡ near ++ absent_lines pool names ++ end_line
+  pub is : text ≡ near ++ absent_lines pool names
 
 -- The words do not fit.
 abbrev pub unfit_line : List ℕ
@@ -135,32 +137,44 @@ IsChoiceTold pool words text =
 -- What is told of a coordinating choice that has these queries.
 pub record IsSoughtAnswer (pool : PoolRecord) (names : List (List ℕ)) (text : List ℕ) : Type 0 where
   pub outcome : Outcome
-  pub told : List ℕ
-  pub sought : IsSoughtTold pool names outcome told
-  pub is : text ≡ told ++ end_line
+  pub sought : IsSoughtTold pool names outcome text
 
--- The groups of matched queries, and whether each can go.
-pub record AreGroupsAnswered (pool : PoolRecord) (text : List ℕ) : Type 0 where
-  pub told : List ℕ
-  pub groups : AreGroupsTold pool told
-  pub is : text ≡ told ++ end_line
+-- The text tells what is asked of the floor and its pool; before the last publish so many entries were published.
+abbrev pub IsToldOf : FloorRecord → PoolRecord → ℕ → AskKind → List (List ℕ) → List ℕ → List ℕ → Type 0
+IsToldOf floor pool before Count names choices text = text ≡ count_line floor
+IsToldOf floor pool before Status names choices text = text ≡ flat_map (status_line pool) names
+IsToldOf floor pool before Query names choices text = text ≡ flat_map (block_of pool) names ++ absent_lines pool names
+IsToldOf floor pool before Explain names choices text = IsWhyTold pool names text
+IsToldOf floor pool before (Near post) names choices text = IsNearAnswer pool post names text
+IsToldOf floor pool before Choice names choices text = IsChoiceTold pool (choice_words choices) text
+IsToldOf floor pool before Choose names choices text = IsSoughtAnswer pool names text
+IsToldOf floor pool before Groups names choices text = AreGroupsTold pool text
+IsToldOf floor pool before Changes names choices text = text ≡ changes (published_pool (floor_at floor before)) pool
+IsToldOf floor pool before Graph names choices text = text ≡ graph pool
+IsToldOf floor pool before Json names choices text = text ≡ print (json_tokens (json_of floor.machine.published pool))
+IsToldOf floor pool before Help names choices text = text ≡ help_text
+IsToldOf floor pool before Quit names choices text = text ≡ []
+IsToldOf floor pool before Unfit names choices text = text ≡ unfit_line
 
--- The text answers what is asked of the floor and its pool; before the last publish so many entries were published.
-abbrev pub IsAnswerOf : FloorRecord → PoolRecord → ℕ → AskKind → List (List ℕ) → List ℕ → List ℕ → Type 0
-IsAnswerOf floor pool before Count names choices text = text ≡ count_line floor
-IsAnswerOf floor pool before Status names choices text = text ≡ flat_map (status_line pool) names ++ end_line
-IsAnswerOf floor pool before Query names choices text = text ≡ flat_map (block_of pool) names ++ absent_lines pool names ++ end_line
-IsAnswerOf floor pool before Explain names choices text = IsWhyTold pool names text
-IsAnswerOf floor pool before (Near post) names choices text = IsNearAnswer pool post names text
-IsAnswerOf floor pool before Choice names choices text = IsChoiceTold pool (choice_words choices) text
-IsAnswerOf floor pool before Choose names choices text = IsSoughtAnswer pool names text
-IsAnswerOf floor pool before Groups names choices text = AreGroupsAnswered pool text
-IsAnswerOf floor pool before Changes names choices text = text ≡ changes (published_pool (floor_at floor before)) pool ++ end_line
-IsAnswerOf floor pool before Graph names choices text = text ≡ graph pool ++ end_line
-IsAnswerOf floor pool before Json names choices text = text ≡ line (print (json_tokens (json_of floor.machine.published pool)))
-IsAnswerOf floor pool before Help names choices text = text ≡ help_text ++ end_line
-IsAnswerOf floor pool before Quit names choices text = text ≡ []
-IsAnswerOf floor pool before Unfit names choices text = text ≡ unfit_line
+abbrev pub IsTold : FloorRecord → ℕ → AskRecord → List ℕ → Type 0
+IsTold floor before ask text = IsToldOf floor (published_pool floor) before ask.kind ask.names ask.text text
 
-abbrev pub IsAnswer : FloorRecord → ℕ → AskRecord → List ℕ → Type 0
-IsAnswer floor before ask text = IsAnswerOf floor (published_pool floor) before ask.kind ask.names ask.text text
+-- ---- how it is written
+
+-- What ends an answer: the line `end` where it may have several lines, and the end of the line of a board as JSON.
+abbrev pub ending : AskKind → List ℕ
+ending Count = []
+ending Choice = []
+ending Json = codes "\n"
+ending Quit = []
+ending Unfit = []
+ending _ = end_line
+
+-- A text as JSON.
+abbrev pub quoted : List ℕ → List ℕ
+quoted text = print (string text ∷ [])
+
+-- An answer as a member of a JSON object, after others: the board is one, words that do not fit are refused, and all else is a text.
+abbrev pub member_told : AskKind → List ℕ → List ℕ
+member_told Json text = codes ",\"board\":" ++ text
+member_told _ text = if bytes_eq text unfit_line then codes ",\"refused\":\"Words\"" else codes ",\"answer\":" ++ quoted text

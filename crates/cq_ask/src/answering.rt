@@ -2,15 +2,11 @@
 
 ghost use Rattle.std.specs.Prelude.{◌≡◌, ◌⊎◌, ◌++◌, ◌-◌, ◌≤◌, ◌*◌, ◌^◌, [], codes, decimal, length, map, string_bytes, IfOk, OnOk};
 ghost use Rattle.std.specs.List.{flat_map};
-ghost use Rattle.json.specs.Print.{print};
-ghost use Rattle.json.specs.Tree.{json_tokens};
 ghost use Rattle.cq_board.specs.Named.{matched_named, matched_names};
 ghost use Rattle.cq_rel.specs.Tables.{rows_in};
-ghost use Rattle.cq_render.specs.Report.{line, block_of};
+ghost use Rattle.cq_render.specs.Report.{block_of};
 ghost use Rattle.cq_render.specs.Explain.{ArePieces, IsNearTold};
-ghost use Rattle.cq_render.specs.Graph.{graph};
-ghost use Rattle.cq_render.specs.Json.{json_of};
-ghost use Rattle.cq_ask.specs.Answer.{BeganEmpty, floor_at, published_pool, changes, end_line, row_count, pool_counts, count_line, standing_word, status_line, absent_line, absent_lines, help_text, unfit_line, IsWhyTold, IsNearAnswer, IsChoiceTold, IsSoughtAnswer, AreGroupsAnswered, IsAnswer};
+ghost use Rattle.cq_ask.specs.Answer.{BeganEmpty, floor_at, published_pool, changes, row_count, pool_counts, count_line, standing_word, status_line, absent_line, absent_lines, help_text, unfit_line, IsWhyTold, IsNearAnswer, IsChoiceTold, IsSoughtAnswer, IsTold, ending, quoted, member_told};
 ghost use Rattle.cq_board.specs.Choice.{IsCoordinating};
 ghost use Rattle.cq_ask.specs.Choices.{choice_words};
 
@@ -23,13 +19,11 @@ use cq_desk::Floor;
 use cq_going::{MOST_STEPS, groups, tell_choice};
 use cq_rel::Tables;
 use cq_render::{explain_these, graph, json, near, put_block};
+use json::Writer;
 use std::alloc::{AllocError, Allocator};
 
 /// A floor over a board.
 type BoardFloor<A> = Floor<Board<A>, A>;
-
-/// The last line of an answer of several lines.
-const END: &str = "end\n";
 
 /// The answer to words that do not fit.
 const UNFIT: &str = "refused Words\n";
@@ -170,11 +164,10 @@ fn status_text<A: Allocator + Copy>(
     board: &Board<A>,
     names: &[Name<A>],
 ) -> Result<String<A>, AllocError>
-    ensures { IfOk result (λ text. string_bytes text ≡ flat_map (status_line board.now) names.now ++ end_line) }
+    ensures { IfOk result (λ text. string_bytes text ≡ flat_map (status_line board.now) names.now) }
 {
     let mut page = String::new(alloc);
     put_statuses(board, names, &mut page)?;
-    page.push_str(END)?;
     Ok(page)
 }
 
@@ -183,12 +176,11 @@ fn query_text<A: Allocator + Copy>(
     board: &Board<A>,
     names: &[Name<A>],
 ) -> Result<String<A>, AllocError>
-    ensures { IfOk result (λ text. string_bytes text ≡ flat_map (block_of board.now) names.now ++ absent_lines board.now names.now ++ end_line) }
+    ensures { IfOk result (λ text. string_bytes text ≡ flat_map (block_of board.now) names.now ++ absent_lines board.now names.now) }
 {
     let mut page = String::new(alloc);
     put_blocks(alloc, board, names, &mut page)?;
     put_absent(board, names, &mut page)?;
-    page.push_str(END)?;
     Ok(page)
 }
 
@@ -213,7 +205,6 @@ fn explain_text<A: Allocator + Copy>(
     let words = words_of(alloc, names)?;
     let mut page = explain_these(alloc, board, &words)?;
     put_absent(board, names, &mut page)?;
-    page.push_str(END)?;
     Ok(page)
 }
 
@@ -245,7 +236,6 @@ fn near_text<A: Allocator + Copy>(
     let mut page = String::new(alloc);
     put_nears(alloc, board, post, names, &mut page)?;
     put_absent(board, names, &mut page)?;
-    page.push_str(END)?;
     Ok(page)
 }
 
@@ -301,18 +291,7 @@ fn choose_text<A: Allocator + Copy>(
     ensures { IfOk result (λ text. IsSoughtAnswer board.now names.now (string_bytes text)) }
 {
     let told = tell_choice(alloc, board, names, MOST_STEPS)?;
-    let mut page = told.text;
-    page.push_str(END)?;
-    Ok(page)
-}
-
-/// The groups of matched queries, and whether each can go.
-fn groups_text<A: Allocator + Copy>(alloc: A, board: &Board<A>) -> Result<String<A>, AllocError>
-    ensures { IfOk result (λ text. AreGroupsAnswered board.now (string_bytes text)) }
-{
-    let mut page = groups(alloc, board, MOST_STEPS)?;
-    page.push_str(END)?;
-    Ok(page)
+    Ok(told.text)
 }
 
 fn changes_text<A: Allocator + Copy>(
@@ -321,59 +300,53 @@ fn changes_text<A: Allocator + Copy>(
     before: u64,
 ) -> Result<String<A>, AllocError>
     requires { BeganEmpty floor.now }
-    ensures { IfOk result (λ text. string_bytes text ≡ changes (published_pool (floor_at floor.now before)) (published_pool floor.now) ++ end_line) }
+    ensures { IfOk result (λ text. string_bytes text ≡ changes (published_pool (floor_at floor.now before)) (published_pool floor.now)) }
 {
     let mut page = String::new(alloc);
     put_last_changes(alloc, floor, before, &mut page)?;
-    page.push_str(END)?;
-    Ok(page)
-}
-
-fn graph_text<A: Allocator + Copy>(alloc: A, board: &Board<A>) -> Result<String<A>, AllocError>
-    ensures { IfOk result (λ text. string_bytes text ≡ graph board.now ++ end_line) }
-{
-    let mut page = graph(alloc, board)?;
-    page.push_str(END)?;
-    Ok(page)
-}
-
-fn json_text<A: Allocator + Copy>(alloc: A, floor: &BoardFloor<A>) -> Result<String<A>, AllocError>
-    ensures { IfOk result (λ text. string_bytes text ≡ line (print (json_tokens (json_of floor.now.machine.published (published_pool floor.now))))) }
-{
-    let mut page = json(alloc, floor.published_count(), floor.board())?;
-    page.push('\n')?;
     Ok(page)
 }
 
 /// Which lines ask.
-pub fn help() -> &'static str
+fn help() -> &'static str
     ensures { result.now ≡ help_text }
 {
     "count                queries, rows and entries\nstatus NAME..        whether queries are matched, waiting or absent\nquery NAME           its block of the report\nexplain [NAME..]     why queries wait\nnear NAME POST       which heads nearly supply a postcondition\nchoice CHOICE..      whether a choice coordinates, as in choice a(1) b(1)\nchoose [NAME..]      a coordinating choice that has the queries\ngroups               groups of queries, and whether each can go\nchanges              queries that came, went or turned at the last publish\ngraph                who can supply whom, for Graphviz\njson                 the board as JSON\nhelp                 these lines\nquit                 ends; no later line is answered\nAll other lines are those of a script.\n"
 }
 
-fn help_lines<A: Allocator>(alloc: A) -> Result<String<A>, AllocError>
-    ensures { IfOk result (λ text. string_bytes text ≡ help_text ++ end_line) }
+/// What ends an answer to what is asked.
+pub fn ending(kind: AskKind) -> &'static str
+    ensures { result.now ≡ ending kind }
 {
-    let mut page = String::from_str(alloc, help())?;
-    page.push_str(END)?;
-    Ok(page)
+    match kind {
+        AskKind::Count | AskKind::Choice | AskKind::Quit | AskKind::Unfit => "",
+        AskKind::Json => "\n",
+        AskKind::Status
+        | AskKind::Query
+        | AskKind::Explain
+        | AskKind::Near { .. }
+        | AskKind::Choose
+        | AskKind::Groups
+        | AskKind::Changes
+        | AskKind::Graph
+        | AskKind::Help => "end\n",
+    }
 }
 
-/// The answer to what is asked, of the board that the floor publishes; before the last publish so many entries were published. Its
-/// time is that of the text that it has: for `count`, `status` and `help` that of the names, for a query's block that of a walk over
-/// the board, for `changes` that of taking once more the edits that were published before, which takes a floor that began empty.
+/// What is told of what is asked, of the board that the floor publishes, without what [ends](ending) the answer; before the last publish so
+/// many entries were published. Its time is that of the text that it has: for `count`, `status` and `help` that of the names, for a query's block
+/// that of a walk over the board, for `changes` that of taking once more the edits that were published before, which takes a floor that began empty.
 ///
 /// # Errors
 /// `AllocError` where an allocation failed.
-pub fn answer<A: Allocator + Copy>(
+pub fn tell<A: Allocator + Copy>(
     alloc: A,
     floor: &Floor<Board<A>, A>,
     before: u64,
     ask: &Ask<A>,
 ) -> Result<String<A>, AllocError>
     requires { ask.now.kind ≡ AskKind.Changes → BeganEmpty floor.now }
-    ensures { IfOk result (λ text. IsAnswer floor.now before ask.now (string_bytes text)) }
+    ensures { IfOk result (λ text. IsTold floor.now before ask.now (string_bytes text)) }
 {
     let board = floor.board();
     let names = ask.names();
@@ -385,12 +358,46 @@ pub fn answer<A: Allocator + Copy>(
         AskKind::Near { post } => near_text(alloc, board, post, names),
         AskKind::Choice => choice_text(alloc, board, ask.text()),
         AskKind::Choose => choose_text(alloc, board, names),
-        AskKind::Groups => groups_text(alloc, board),
+        AskKind::Groups => groups(alloc, board, MOST_STEPS),
         AskKind::Changes => changes_text(alloc, floor, before),
-        AskKind::Graph => graph_text(alloc, board),
-        AskKind::Json => json_text(alloc, floor),
-        AskKind::Help => help_lines(alloc),
+        AskKind::Graph => graph(alloc, board),
+        AskKind::Json => json(alloc, floor.published_count(), board),
+        AskKind::Help => Ok(String::from_str(alloc, help())?),
         AskKind::Quit => Ok(String::new(alloc)),
         AskKind::Unfit => Ok(String::from_str(alloc, UNFIT)?),
     }
+}
+
+/// A text as JSON.
+fn quoted<A: Allocator>(alloc: A, text: &str) -> Result<String<A>, AllocError>
+    ensures { IfOk result (λ page. string_bytes page ≡ quoted text.now) }
+{
+    let mut writer = Writer::new(Vec::new(alloc));
+    writer.string(text)?;
+    match String::from_utf8(writer.into_inner()) {
+        Ok(page) => Ok(page),
+        // What a writer writes is UTF-8.
+        Err(_) => unreachable!(),
+    }
+}
+
+/// What is told of what is asked, as a member of a JSON object that has others before it.
+///
+/// # Errors
+/// `AllocError` where an allocation failed.
+pub fn member_told<A: Allocator + Copy>(
+    alloc: A,
+    kind: AskKind,
+    text: &str,
+) -> Result<String<A>, AllocError>
+    ensures { IfOk result (λ member. string_bytes member ≡ member_told kind text.now) }
+{
+    if matches!(kind, AskKind::Json) {
+        return format!(in alloc; ",\"board\":{text}");
+    }
+    if text == UNFIT {
+        return String::from_str(alloc, ",\"refused\":\"Words\"");
+    }
+    let quoted = quoted(alloc, text)?;
+    format!(in alloc; ",\"answer\":{quoted}")
 }

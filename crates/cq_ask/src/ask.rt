@@ -82,7 +82,7 @@ impl<A: Allocator> Ask<A> {
     }
 
     /// What is asked.
-    pub(crate) fn kind(&self) -> AskKind
+    pub fn kind(&self) -> AskKind
         ensures { result ≡ self.now.kind }
     {
         self.kind

@@ -76,6 +76,7 @@ fn answer_replay<A: Allocator + Copy, R: Source, W: Sink, E: Sink>(
 fn answer_live<A: Allocator + Copy, R: Source, W: Sink, E: Sink>(
     alloc: Global,
     heap: A,
+    numbering: Numbering,
     source: &mut R,
     sink: &mut W,
     errors: &mut E,
@@ -85,7 +86,7 @@ fn answer_live<A: Allocator + Copy, R: Source, W: Sink, E: Sink>(
     ensures failures { ReportsFailures (counts R.reads_made R.failures_met W.write_failures source.old sink.old) (counts R.reads_made R.failures_met W.write_failures source.new sink.new) result }
     ensures refused { LeavesRefused source.old source.new sink.old sink.new result }
 {
-    let Err(fault) = live(heap, source, sink) else {
+    let Err(fault) = live(heap, numbering, source, sink) else {
         return Status::Done;
     };
     tell_fault(alloc, &fault, errors);
@@ -166,7 +167,7 @@ fn answer_task<
         Task::Replay { numbering } => {
             answer_replay(alloc, heap, *numbering, source, sink, errors)
         }
-        Task::Live => answer_live(alloc, heap, source, sink, errors),
+        Task::Live { numbering } => answer_live(alloc, heap, *numbering, source, sink, errors),
         Task::Rows { relation, arity } => {
             answer_rows(alloc, heap, relation, arity, source, sink, errors)
         }

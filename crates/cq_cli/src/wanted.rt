@@ -64,6 +64,9 @@ Beside these, a line may ask about the published board: `count`, `status NAME..`
 `near NAME POST`, `choice CHOICE..`, `choose [NAME..]`, `groups`, `changes`, `graph`, `json`. The line `help` lists them. An answer of
 several lines ends with `end`. `quit` ends the board, as the end of the input does.
 
+With --json each line, blank ones too, is answered by one JSON object with its number, in a line of its own: {\"line\":7,\"ok\":5},
+{\"line\":9,\"refused\":\"Shape\",\"at\":57}.
+
 A line that needs more memory than there is, or than --memory allows, is answered `refused Memory`. It changes nothing, and the
 board goes on.
 
@@ -233,7 +236,10 @@ pub(crate) enum Task<'a> {
         numbering: Numbering,
     },
     /// Lines are answered one at a time.
-    Live,
+    Live {
+        /// Whether answers are JSON objects.
+        numbering: Numbering,
+    },
     /// CSV becomes insert lines.
     Rows {
         /// The word that stands for the relation's name.
@@ -305,6 +311,12 @@ fn live_command<'a>(alloc: Global) -> Result<Command<'a>, AllocError> {
     Command::new(alloc, "live")
         .about(ABOUT_LIVE)
         .after_help(BEHIND_LIVE)
+        .arg(
+            Arg::new(alloc, "json")
+                .long("json")
+                .action(ArgAction::SetTrue)
+                .help("Answer each line by a JSON object"),
+        )?
         .arg(memory(
             alloc,
             "The most bytes of memory that the board may have at a time",
@@ -480,11 +492,12 @@ fn steps_of(matches: &ArgMatches<'_>) -> u64 {
     }
 }
 
-/// How replies are numbered, by whether the option for it stands there.
-fn numbering(asked: bool) -> Numbering {
-    match asked {
-        true => Numbering::Numbered,
-        false => Numbering::Plain,
+/// How replies are numbered: so, where the option for it stands there.
+fn numbered(matches: &ArgMatches<'_>, option: &str, numbering: Numbering) -> Numbering {
+    if matches.get_flag(option) {
+        numbering
+    } else {
+        Numbering::Plain
     }
 }
 
@@ -495,7 +508,9 @@ fn task_of<'a>(
     matches: &ArgMatches<'a>,
 ) -> Result<Task<'a>, AllocError> {
     Ok(match name {
-        "live" => Task::Live,
+        "live" => Task::Live {
+            numbering: numbered(matches, "json", Numbering::Json),
+        },
         "rows" => Task::Rows {
             relation: matches.get_str("RELATION").unwrap_or(""),
             arity: matches.get_str("ARITY").unwrap_or(""),
@@ -520,7 +535,7 @@ fn task_of<'a>(
             words: words_of(alloc, matches, "CHOICE")?,
         },
         _ => Task::Replay {
-            numbering: numbering(matches.get_flag("number")),
+            numbering: numbered(matches, "number", Numbering::Numbered),
         },
     })
 }

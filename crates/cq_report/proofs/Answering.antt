@@ -1,6 +1,6 @@
 -- What a line is read as, and what is known of its reply.
-use Rattle.std.proofs.Common.{◌≡◌, ℕ, List, [], ◌++◌, inl, inr, sym, ap, subst, ◌∙◌, Option}
-use Rattle.std.specs.Prelude.{Result, Ok, Err, OnOk, IfErr}
+use Rattle.std.proofs.Common.{◌≡◌, ◌+◌, ◌≤◌, ℕ, List, [], inl, inr, sym, ap, subst, ◌∙◌, arith}
+use Rattle.std.specs.Prelude.{Option, Result, Ok, Err, OnOk, IfOk}
 use Rattle.cq_text.specs.declared.fault.Kind.{Kind}
 use Rattle.cq_text.specs.declared.fault.TextFault.{TextFault}
 use Rattle.cq_text.specs.declared.fault.TextFault.TheVariants.{At}
@@ -8,26 +8,24 @@ use Rattle.cq_text.specs.declared.form.Form.{Form}
 use Rattle.cq_text.specs.Grammar.{CommandContent, StandsFor}
 use Rattle.cq_text.specs.Fault.{FirstFault}
 use Rattle.cq_text.specs.Views.{OrNoMemory, OfFault}
+use Rattle.cq_report.specs.declared.numbering.Numbering.{Numbering}
+use Rattle.cq_report.specs.declared.numbering.Numbering.TheVariants.{Plain, Numbered, Json}
 use Rattle.cq_report.specs.declared.output.Output.{Output}
-use Rattle.cq_report.specs.declared.fault.ReplyFault.{ReplyFault}
-use Rattle.cq_report.specs.declared.fault.ReplyFault.TheVariants as replies
 use Rattle.cq_report.specs.declared.fault.RunFault.TheVariants as faults
-use Rattle.cq_report.specs.Steps.Replies.{UnlessStarved, fault_of_reply}
-use Rattle.cq_report.specs.Steps.Written.{Puts, Breaks, Fails}
+use Rattle.cq_report.specs.Steps.Written.{Breaks}
 use Rattle.cq_report.specs.Reading.{Reading, Reads, Faulty, IsReading}
-use Rattle.cq_report.specs.Machine.{State, served, unnumbered}
-use Rattle.cq_report.specs.Run.{IfMemory}
-use Rattle.cq_report.specs.Steps.Put.{Put, led, lead_bytes}
-use Rattle.cq_report.specs.Steps.Writing.{Puts-nothing, Puts-starved, Puts-then, Puts-breaks, Breaks-more}
+use Rattle.cq_report.specs.Machine.{State, one_more, counted}
+use Rattle.cq_report.specs.Steps.Count.{lines_before}
+use Rattle.cq_report.specs.Steps.Writing.{Puts-nothing, Puts-starved}
 
 pub on_ok : {X E : Type 0} (r : Result X E) (P : Type 0) → P → OnOk r P
 on_ok (Ok x) P p = p
 on_ok (Err e) P p = tt
 
-pub unless_starved : (r : Result (Unit {0}) ReplyFault) (P : Type 0) → P → UnlessStarved r P
-unless_starved (Ok done) P p = p
-unless_starved (Err replies.Write) P p = p
-unless_starved (Err replies.NoMemory) P p = tt
+-- two things that are known where it went well
+pub both_ok : {X E : Type 0} (r : Result X E) (P Q R : X → Type 0) → ((x : X) → P x → Q x → R x) → IfOk r P → IfOk r Q → IfOk r R
+both_ok (Ok x) P Q R f p q = f x p q
+both_ok (Err e) P Q R f p q = tt
 
 -- a line that is read as a command is read as nothing else
 pub only_command : (form : Form) (line : List ℕ) (command : CommandContent)
@@ -52,43 +50,19 @@ only_the_fault form line fault kind offset is only only_fault (Faulty k o) h =
 pub the_fault : (form : Form) (line : List ℕ) (fault : TextFault) (kind : Kind) (offset : ℕ) → fault ≡ At kind offset → OfFault fault (λ k o. FirstFault form line k o) → IsReading form line (Faulty kind offset)
 the_fault form line fault kind offset is h = rw is at h
 
-module _ {W A : Type 0} (taken : W → Option (List ℕ)) (failures : W → ℕ) (first now : Output W A) where
-  -- bytes after what stands before them
-  pub Puts-led : (mid : Output W A) (bytes : List ℕ) → led first.lead.now bytes ≡ lead_bytes first.lead.now ++ bytes → Puts taken failures first mid (lead_bytes first.lead.now) → Puts taken failures mid now bytes → Puts taken failures first now (led first.lead.now bytes)
-  Puts-led mid bytes e p q = subst (Puts taken failures first now) (sym e) (Puts-then taken failures first mid now (lead_bytes first.lead.now) bytes p q)
-
-  -- the writer failed at the bytes, and at what stands before them
-  pub Put-led : (mid : Output W A) (bytes : List ℕ) → led first.lead.now bytes ≡ lead_bytes first.lead.now ++ bytes → Puts taken failures first mid (lead_bytes first.lead.now) → Breaks taken failures mid now bytes faults.Write → Put taken failures first now bytes (Err replies.Write)
-  Put-led mid bytes e p err = (subst (λ (bs : List ℕ). Breaks taken failures first now bs faults.Write) (sym e) (Puts-breaks taken failures first mid now (lead_bytes first.lead.now) bytes faults.Write p err), tt)
-
-  pub Put-unled : (bytes : List ℕ) → led first.lead.now bytes ≡ lead_bytes first.lead.now ++ bytes → Breaks taken failures first now (lead_bytes first.lead.now) faults.Write → Put taken failures first now bytes (Err replies.Write)
-  Put-unled bytes e err = (subst (λ (bs : List ℕ). Breaks taken failures first now bs faults.Write) (sym e) (Breaks-more taken failures first now (lead_bytes first.lead.now) bytes faults.Write err), tt)
-
-  module _ (form : Form) (old new : State) (line : List ℕ) (reading : Reading) (only : (other : Reading) → IsReading form line other → other ≡ reading) where
-    pub reads_ok : (r : Result (Unit {0}) ReplyFault) → OnOk r (new ≡ served old reading) → Put taken failures first now (unnumbered old reading) r
-        → OnOk r ((other : Reading) → IsReading form line other → (new ≡ served old other) × Puts taken failures first now (led first.lead.now (unnumbered old other)))
-    reads_ok (Ok done) s p = λ other h.
-        let e = only other h in
-        (subst (λ (o : Reading). new ≡ served old o) (sym e) s, subst (λ (o : Reading). Puts taken failures first now (led first.lead.now (unnumbered old o))) (sym e) p)
-    reads_ok (Err fault) s p = tt
-
-    pub reads_err : (r : Result (Unit {0}) ReplyFault) → Put taken failures first now (unnumbered old reading) r
-        → IfErr r (λ fault. (other : Reading) → IsReading form line other → Breaks taken failures first now (led first.lead.now (unnumbered old other)) (fault_of_reply fault))
-    reads_err (Ok done) p = tt
-    reads_err (Err fault) p = λ other h. subst (λ (o : Reading). Breaks taken failures first now (led first.lead.now (unnumbered old o)) (fault_of_reply fault)) (sym (only other h)) p.0
-
-  pub put_fails : (bytes : List ℕ) (r : Result (Unit {0}) ReplyFault) → Put taken failures first now bytes r → IfErr r (λ fault. Fails failures first now (fault_of_reply fault))
-  put_fails bytes (Ok done) p = tt
-  put_fails bytes (Err fault) p = record { writer = p.0.writer; failed = p.0.failed }
-
-  -- nothing was put where memory ran out
-  pub put_nothing : (bytes : List ℕ) (r : Result (Unit {0}) ReplyFault) → Put taken failures first now bytes r → IfErr r (λ fault. IfMemory (fault_of_reply fault) (Puts taken failures first now []))
-  put_nothing bytes (Ok done) p = tt
-  put_nothing bytes (Err fault) p = p.1
+-- what is known of the one reading is known of each
+pub of_each : (form : Form) (line : List ℕ) (reading : Reading) → ((other : Reading) → IsReading form line other → other ≡ reading) → (P : Reading → Type 0) → P reading → (other : Reading) → IsReading form line other → P other
+of_each form line reading only P p other is = subst P (sym (only other is)) p
 
 -- memory ran out before anything was put
 pub starved : {W A : Type 0} (taken : W → Option (List ℕ)) (failures : W → ℕ) (output : Output W A) (bytes : List ℕ) → Breaks taken failures output output bytes faults.NoMemory
 starved taken failures output bytes = Puts-starved taken failures output output [] bytes (Puts-nothing taken failures output)
 
-pub Put-starved : {W A : Type 0} (taken : W → Option (List ℕ)) (failures : W → ℕ) (output : Output W A) (bytes : List ℕ) → Put taken failures output output bytes (Err replies.NoMemory)
-Put-starved taken failures output bytes = (starved taken failures output (led output.lead.now bytes), Puts-nothing taken failures output)
+-- a count rises by one at most
+pub one_more_most : (numbering : Numbering) (lines : ℕ) → one_more numbering lines ≤ lines + 1
+one_more_most Plain lines = omega arith
+one_more_most Numbered lines = omega arith
+one_more_most Json lines = omega arith
+
+pub counted_most : (state : State) → lines_before (counted state) ≤ lines_before state + 1
+counted_most state = one_more_most state.numbering state.lines

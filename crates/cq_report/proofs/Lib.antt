@@ -2,7 +2,6 @@ pub mod CallerLemmas
 mod Examples
 pub mod Refused
 pub mod Answering
-pub mod Numbers
 pub mod Cutting
 pub mod Ends
 pub mod Kept
@@ -12,3 +11,4 @@ pub mod Ending
 pub mod Leaving
 pub mod Lives
 pub mod Empty
+pub mod Parts

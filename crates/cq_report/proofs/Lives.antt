@@ -11,6 +11,7 @@ use Rattle.std.specs.Prelude.{Result, IfSome, MatchResult}
 use Rattle.std.specs.Io.KnownBytes.{Consumes, IsAtEnd}
 use Rattle.std.proofs.KnownBytes.{Consumes-whole}
 use Rattle.cq_devices.specs.Device.{TakesFront}
+use Rattle.cq_report.specs.declared.numbering.Numbering.{Numbering}
 use Rattle.cq_report.specs.declared.fault.LiveFault.{LiveFault}
 use Rattle.cq_report.specs.declared.fault.LiveFault.TheVariants as faults
 use Rattle.cq_report.specs.Live.{Life, Turn, Served, Asked, OutOfMemory, Unheard, IsTurn, AreTurns, turned, turn_reply, life_turned, replies_to, begin_live, Answered, AnsweredWhole, AnsweredFront, Leaves, write_failures_of}
@@ -366,28 +367,28 @@ LiveQuits-passed taken failures first opening now now' life line bytes over s p 
 
 -- ---- a whole life
 
-module _ {W A : Type 0} (taken : W → Option (List ℕ)) (failures : W → ℕ) (opening : Life) (left left' : Option (List ℕ)) (first now : Output W A) (t t' : Option (List ℕ)) (begins : opening ≡ begin_live) (none : first.held.now.items ≡ []) (e : taken first.sink.now ≡ t) (e' : taken now.sink.now ≡ t') where
+module _ {W A : Type 0} (numbering : Numbering) (taken : W → Option (List ℕ)) (failures : W → ℕ) (opening : Life) (left left' : Option (List ℕ)) (first now : Output W A) (t t' : Option (List ℕ)) (begins : opening ≡ begin_live numbering) (none : first.held.now.items ≡ []) (e : taken first.sink.now ≡ t) (e' : taken now.sink.now ≡ t') where
   -- all was read and answered
-  all_answered : (bytes : List ℕ) → Consumes left left' bytes → IsAtEnd left' → LiveEnds taken failures first begin_live now bytes → now.held.now.items ≡ [] → IfSome left (λ input. Answered (lines_of input) t t')
+  all_answered : (bytes : List ℕ) → Consumes left left' bytes → IsAtEnd left' → LiveEnds taken failures first (begin_live numbering) now bytes → now.held.now.items ≡ [] → IfSome left (λ input. Answered numbering (lines_of input) t t')
   all_answered bytes read at_end ends held =
-      Consumes-whole left left' bytes (λ input. Answered (lines_of input) t t') read at_end
+      Consumes-whole left left' bytes (λ input. Answered numbering (lines_of input) t t') read at_end
       (record { turns = ends.turns; are = ends.are; wrote = rw (← e, ← e') (Passes-all _ _ _ _ _ ends.puts.passed none held) })
 
   -- no further line is heard
-  all_heard : (bytes : List ℕ) → Consumes left left' bytes → LiveQuits taken failures first begin_live now bytes → now.held.now.items ≡ [] → IfSome left (λ input. Answered (lines_of input) t t')
+  all_heard : (bytes : List ℕ) → Consumes left left' bytes → LiveQuits taken failures first (begin_live numbering) now bytes → now.held.now.items ≡ [] → IfSome left (λ input. Answered numbering (lines_of input) t t')
   all_heard bytes read quits held =
-      Consumes-front left left' bytes (λ input. Answered (lines_of input) t t') read
+      Consumes-front left left' bytes (λ input. Answered numbering (lines_of input) t t') read
       (λ rest.
-      let ends = LiveQuits-all taken failures first begin_live now bytes rest quits in
+      let ends = LiveQuits-all taken failures first (begin_live numbering) now bytes rest quits in
       record { turns = ends.turns; are = ends.are; wrote = rw (← e, ← e') (Passes-all _ _ _ _ _ ends.puts.passed none held) })
 
-  pub LivedOut-answered : LivedOut taken failures opening left left' first now → IfSome left (λ input. Answered (lines_of input) t t')
+  pub LivedOut-answered : LivedOut taken failures opening left left' first now → IfSome left (λ input. Answered numbering (lines_of input) t t')
   LivedOut-answered r0 =
       let r = subst (λ (s : Life). LivedOut taken failures s left left' first now) begins r0 in
       elim r.ends [ inl ended ↦ all_answered r.bytes r.read ended.0 ended.1 r.held | inr quits ↦ all_heard r.bytes r.read quits r.held ]
 
   -- the whole lines were answered
-  broke_off : LiveBrokeOff taken failures opening left left' first now → AnsweredWhole left left' t t'
+  broke_off : LiveBrokeOff taken failures opening left left' first now → AnsweredWhole numbering left left' t t'
   broke_off b0 =
       let b = subst (λ (s : Life). LiveBrokeOff taken failures s left left' first now) begins b0 in
       let s = b.lived in
@@ -395,11 +396,11 @@ module _ {W A : Type 0} (taken : W → Option (List ℕ)) (failures : W → ℕ)
       record {
         bytes = b.bytes;
         read = b.read;
-        answered = record { turns = s.turns; are = subst (λ (ls : List (List ℕ)). AreTurns begin_live ls s.turns) (sym cut) s.are; wrote = rw (← e, ← e') (Passes-all _ _ _ _ _ s.puts.passed none b.held) };
+        answered = record { turns = s.turns; are = subst (λ (ls : List (List ℕ)). AreTurns (begin_live numbering) ls s.turns) (sym cut) s.are; wrote = rw (← e, ← e') (Passes-all _ _ _ _ _ s.puts.passed none b.held) };
       }
 
   -- no more than a front was written
-  ended_by : LiveEnded taken failures opening left left' first now → AnsweredFront left left' t t'
+  ended_by : LiveEnded taken failures opening left left' first now → AnsweredFront numbering left left' t t'
   ended_by d0 =
       let d = subst (λ (s : Life). LiveEnded taken failures s left left' first now) begins d0 in
       let b = d.breaks in
@@ -411,10 +412,10 @@ module _ {W A : Type 0} (taken : W → Option (List ℕ)) (failures : W → ℕ)
         cut = b.cut;
         turns = b.turns;
         are = b.are;
-        wrote = rw (← e, ← e') (subst (λ (held : List ℕ). TakesFront (taken first.sink.now) (taken now.sink.now) (held ++ replies_to begin_live b.turns)) none b.breaks.took);
+        wrote = rw (← e, ← e') (subst (λ (held : List ℕ). TakesFront (taken first.sink.now) (taken now.sink.now) (held ++ replies_to (begin_live numbering) b.turns)) none b.breaks.took);
       }
 
-  pub LiveFails-leaves : (fault : LiveFault) → LiveFails taken failures opening left left' first now fault → Leaves fault left left' t t'
+  pub LiveFails-leaves : (fault : LiveFault) → LiveFails taken failures opening left left' first now fault → Leaves numbering fault left left' t t'
   LiveFails-leaves (faults.Read turn) h = broke_off h
   LiveFails-leaves faults.Write h = ended_by h
   LiveFails-leaves faults.NoMemory h = absurd h

@@ -13,13 +13,11 @@ use Rattle.cq_desk.specs.declared.event.StepFault.TheVariants.{NoSession, Ahead,
 use Rattle.cq_desk.specs.Machine.{answer_to, moved, unless_refused}
 use Rattle.cq_desk.specs.Standing.{IsTold}
 use Rattle.cq_board.specs.Pool.{PoolRecord}
-use Rattle.cq_report.specs.Machine.{ServingRecord, after}
-use Rattle.cq_report.specs.Reply.{answer_lines}
-use Rattle.cq_report.specs.Run.{IfMemory}
-use Rattle.cq_report.specs.declared.fault.ReplyFault.{ReplyFault}
-use Rattle.cq_report.specs.declared.fault.ReplyFault.TheVariants as replies
+use Rattle.cq_report.specs.declared.numbering.Numbering.{Numbering}
+use Rattle.cq_report.specs.declared.numbering.Numbering.TheVariants.{Plain, Numbered, Json}
+use Rattle.cq_report.specs.Machine.{ServingRecord, after, spoken}
+use Rattle.cq_report.specs.Reply.{Happened}
 use Rattle.cq_report.specs.Steps.Happening.{HasNoLine, IsNoLook}
-use Rattle.cq_report.specs.Steps.Replies.{fault_of_reply}
 
 -- it is as it was
 pub refused_after : (serving : ServingRecord) (event : Event Edit) (fault : StepFault) → answer_to pool_after why serving.opening serving.limit serving.machine event ≡ Err fault → after serving event ≡ serving
@@ -30,11 +28,6 @@ pub told_fault : (answer : Result (Answer Why) StepFault) (fault : StepFault) �
 told_fault answer NoSession other is = is
 told_fault answer Ahead other is = is
 told_fault answer NoMemory other is = absurd (other refl)
-
--- where the writer failed, nothing is said of memory
-pub of_writer : (fault : ReplyFault) (P : Type 0) → fault ≡ replies.Write → IfMemory (fault_of_reply fault) P
-of_writer replies.Write P e = tt
-of_writer replies.NoMemory P e = cc
 
 -- no event but a look is answered by what is seen
 seen_if : (b : Bool) (fault : StepFault) (answer : Result (Answer Why) StepFault) (p : ℕ) → (answer ≡ Ok (Looked p) → ⊥) → (if b then Err fault else answer) ≡ Ok (Looked p) → ⊥
@@ -51,9 +44,17 @@ no_look serving Publish p other same = cc
 no_look serving (Look session) p other same = absurd other
 no_look serving (Hear session count) p other same = seen_if (nat_le (length serving.machine.seen) session) NoSession _ p (heard_if (nat_le count serving.machine.published) Ahead _ p (λ heard. cc)) same
 
--- an answer that is no line has no words
-pub no_words : (serving : ServingRecord) (event : Event Edit) (answer : Answer Why) (pool : PoolRecord) → IsNoLook event → HasNoLine answer → answer_to pool_after why serving.opening serving.limit serving.machine event ≡ Ok answer → answer_lines pool answer ≡ []
-no_words serving event (Replied reply) pool other none e = absurd none
-no_words serving event (Published p) pool other none e = absurd none
-no_words serving event (Looked p) pool other none e = absurd (no_look serving event p other e)
-no_words serving event (Heard p) pool other none e = refl
+-- nothing is told of an answer that is no line
+pub no_words : (numbering : Numbering) (serving : ServingRecord) (event : Event Edit) (answer : Answer Why) (pool : PoolRecord) → IsNoLook event → HasNoLine answer → answer_to pool_after why serving.opening serving.limit serving.machine event ≡ Ok answer → spoken numbering (Happened pool (Ok answer)) ≡ []
+no_words numbering serving event (Replied reply) pool other none e = absurd none
+no_words numbering serving event (Published p) pool other none e = absurd none
+no_words numbering serving event (Looked p) pool other none e = absurd (no_look serving event p other e)
+no_words Plain serving event (Heard p) pool other none e = refl
+no_words Numbered serving event (Heard p) pool other none e = refl
+no_words Json serving event (Heard p) pool other none e = refl
+
+-- nor of an event that has no answer
+pub no_answer : (numbering : Numbering) (pool : PoolRecord) (fault : StepFault) → spoken numbering (Happened pool (Err fault)) ≡ []
+no_answer Plain pool fault = refl
+no_answer Numbered pool fault = refl
+no_answer Json pool fault = refl

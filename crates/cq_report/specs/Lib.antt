@@ -2,6 +2,7 @@ pub mod Limits
 pub mod Lines
 pub mod Reading
 pub mod Reply
+pub mod Data
 pub mod Machine
 pub mod Output
 pub mod Live

@@ -7,17 +7,20 @@ use Rattle.cq_report.specs.declared.fault.LiveFault.TheVariants as faults
 use Rattle.cq_report.specs.Lines.{lines_of, whole_lines}
 use Rattle.cq_report.specs.Reading.{Reading, IsReading}
 use Rattle.cq_report.specs.Reply.{refused_line}
-use Rattle.cq_report.specs.Machine.{State, form_in, next, reply, begin_state, serving_of}
+use Rattle.cq_report.specs.Data.{refused}
+use Rattle.cq_report.specs.Machine.{State, form_in, next, counted, numbered, reply, begin_state, serving_of}
 use Rattle.cq_ask.specs.Ask.{AskRecord, asked, is_quit}
-use Rattle.cq_ask.specs.Answer.{IsAnswer}
-use Rattle.cq_report.specs.declared.numbering.Numbering.TheVariants.{Plain}
+use Rattle.cq_ask.specs.declared.ask.AskKind.{AskKind}
+use Rattle.cq_ask.specs.Answer.{IsTold, ending, member_told}
+use Rattle.cq_report.specs.declared.numbering.Numbering.{Numbering}
+use Rattle.cq_report.specs.declared.numbering.Numbering.TheVariants.{Plain, Numbered, Json}
 
 -- A board that is live: the state of its script, and whether it is over.
 pub record Life : Type 0 where
   pub state : State
   pub is_over : Bool
 
--- What comes of a line: it is served as it is read; or it asks, and has this answer; or an allocation failed; or the board is over, and does not hear it.
+-- What comes of a line: it is served as it is read; or it asks, and this is told; or an allocation failed; or the board is over, and does not hear it.
 pub data Turn : Type 0 where
   Served : Reading → Turn
   Asked : AskRecord → List ℕ → Turn
@@ -25,28 +28,36 @@ pub data Turn : Type 0 where
   Unheard : Turn
 
 -- The reply where an allocation failed.
-abbrev pub memory_line : List ℕ
-memory_line = refused_line (codes "Memory")
+abbrev pub memory_told : Numbering → List ℕ
+memory_told Plain = refused_line (codes "Memory")
+memory_told Numbered = refused_line (codes "Memory")
+memory_told Json = refused (codes "Memory")
+
+-- What is told of what is asked, in lines, or as a member of a JSON object.
+abbrev pub ask_told : Numbering → AskKind → List ℕ → List ℕ
+ask_told Plain kind told = told ++ ending kind
+ask_told Numbered kind told = told ++ ending kind
+ask_told Json kind told = member_told kind told
 
 -- A line that does not ask is served as it is read in this state; one that asks has an answer of what is published. An allocation may fail at any line.
 abbrev pub IsTurn : Life → List ℕ → Turn → Type 0
 IsTurn life line (Served reading) = (life.is_over ≡ false) × (asked line ≡ None) × IsReading (form_in life.state) line reading
-IsTurn life line (Asked ask answer) = (life.is_over ≡ false) × (asked line ≡ Some ask) × IsAnswer (serving_of life.state.stage) life.state.before ask answer
+IsTurn life line (Asked ask told) = (life.is_over ≡ false) × (asked line ≡ Some ask) × IsTold (serving_of life.state.stage) life.state.before ask told
 IsTurn life line OutOfMemory = life.is_over ≡ false
 IsTurn life line Unheard = life.is_over ≡ true
 
--- The board after a line. One that asks changes nothing, but that the board may be over; an allocation that failed changes nothing.
+-- The board after a line. One that asks changes nothing, but that it is counted, and that the board may be over; one at which an allocation failed is counted alone.
 abbrev pub turned : Life → Turn → Life
 turned life (Served reading) = record life { state = next life.state reading }
-turned life (Asked ask answer) = record life { is_over = is_quit ask.kind }
-turned life OutOfMemory = life
+turned life (Asked ask told) = record { state = counted life.state; is_over = is_quit ask.kind }
+turned life OutOfMemory = record life { state = counted life.state }
 turned life Unheard = life
 
 -- The reply to a line.
 abbrev pub turn_reply : Life → Turn → List ℕ
 turn_reply life (Served reading) = reply life.state reading
-turn_reply life (Asked ask answer) = answer
-turn_reply life OutOfMemory = memory_line
+turn_reply life (Asked ask told) = numbered life.state.numbering life.state.lines (ask_told life.state.numbering ask.kind told)
+turn_reply life OutOfMemory = numbered life.state.numbering life.state.lines (memory_told life.state.numbering)
 turn_reply life Unheard = []
 
 -- These come of the lines, one after another.
@@ -66,40 +77,40 @@ abbrev pub replies_to : Life → List Turn → List ℕ
 replies_to life [] = []
 replies_to life (turn ∷ turns) = turn_reply life turn ++ replies_to (turned life turn) turns
 
--- Before the first line nothing has happened, and replies have no numbers.
-abbrev pub begin_live : Life
-begin_live = record { state = begin_state Plain; is_over = false }
+-- Before the first line nothing has happened.
+abbrev pub begin_live : Numbering → Life
+begin_live numbering = record { state = begin_state numbering; is_over = false }
 
 -- ---- what a life leaves after
 
 -- The replies to these lines were written, and nothing else.
-pub record Answered (lines : List (List ℕ)) (taken taken' : Option (List ℕ)) : Type 0 where
+pub record Answered (numbering : Numbering) (lines : List (List ℕ)) (taken taken' : Option (List ℕ)) : Type 0 where
   pub turns : List Turn
-  pub are : AreTurns begin_live lines turns
-  pub wrote : Appends taken taken' (replies_to begin_live turns)
+  pub are : AreTurns (begin_live numbering) lines turns
+  pub wrote : Appends taken taken' (replies_to (begin_live numbering) turns)
 
 -- Bytes were read, and the replies to their whole lines were written.
-pub record AnsweredWhole (left left' taken taken' : Option (List ℕ)) : Type 0 where
+pub record AnsweredWhole (numbering : Numbering) (left left' taken taken' : Option (List ℕ)) : Type 0 where
   pub bytes : List ℕ
   pub read : Consumes left left' bytes
-  pub answered : Answered (whole_lines bytes) taken taken'
+  pub answered : Answered numbering (whole_lines bytes) taken taken'
 
 -- Bytes were read, and a front of the replies to some first lines of them was written.
-pub record AnsweredFront (left left' taken taken' : Option (List ℕ)) : Type 0 where
+pub record AnsweredFront (numbering : Numbering) (left left' taken taken' : Option (List ℕ)) : Type 0 where
   pub bytes : List ℕ
   pub read : Consumes left left' bytes
   pub lines : List (List ℕ)
   pub more : List (List ℕ)
   pub cut : lines_of bytes ≡ lines ++ more
   pub turns : List Turn
-  pub are : AreTurns begin_live lines turns
-  pub wrote : TakesFront taken taken' (replies_to begin_live turns)
+  pub are : AreTurns (begin_live numbering) lines turns
+  pub wrote : TakesFront taken taken' (replies_to (begin_live numbering) turns)
 
 -- What is known after a fault: after one of reading all whole lines are answered, and where there was no memory to begin with nothing was read or written.
-abbrev pub Leaves : LiveFault → (left left' taken taken' : Option (List ℕ)) → Type 0
-Leaves (faults.Read turn) left left' taken taken' = AnsweredWhole left left' taken taken'
-Leaves faults.Write left left' taken taken' = AnsweredFront left left' taken taken'
-Leaves faults.NoMemory left left' taken taken' = (left' ≡ left) × (taken' ≡ taken)
+abbrev pub Leaves : Numbering → LiveFault → (left left' taken taken' : Option (List ℕ)) → Type 0
+Leaves numbering (faults.Read turn) left left' taken taken' = AnsweredWhole numbering left left' taken taken'
+Leaves numbering faults.Write left left' taken taken' = AnsweredFront numbering left left' taken taken'
+Leaves numbering faults.NoMemory left left' taken taken' = (left' ≡ left) × (taken' ≡ taken)
 
 -- How much the writer's failures rise with a fault.
 abbrev pub write_failures_of : LiveFault → ℕ

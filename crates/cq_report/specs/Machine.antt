@@ -1,5 +1,5 @@
 -- A script is served by its setup first, and from then on by the floor machine with one session. (this project's profile)
-use Rattle.std.specs.Prelude.{ℕ, suc, List, [], ◌∷◌, ◌++◌, ◌+◌, Option, Some, None, option_map, codes, decimal}
+use Rattle.std.specs.Prelude.{ℕ, List, [], ◌∷◌, ◌++◌, ◌+◌, Option, Some, None, codes, decimal}
 use Rattle.cq_rel.specs.declared.fault.CatalogFault.{CatalogFault}
 use Rattle.cq_rel.specs.Tables.{Declaration, declaration, declare_fault}
 use Rattle.cq_text.specs.declared.form.Form.{Form}
@@ -17,11 +17,14 @@ use Rattle.cq_desk.specs.Machine.{opening_machine, answer_to, published_content}
 use Rattle.cq_desk.specs.Standing.{StandingRecord, stepped}
 use Rattle.cq_report.specs.Limits.{pool_limit, journal_limit}
 use Rattle.cq_report.specs.declared.numbering.Numbering.{Numbering}
-use Rattle.cq_report.specs.declared.numbering.Numbering.TheVariants.{Plain, Numbered}
+use Rattle.cq_report.specs.declared.numbering.Numbering.TheVariants.{Plain, Numbered, Json}
 use Rattle.cq_report.specs.declared.stage.Stage.{Stage}
 use Rattle.cq_report.specs.declared.stage.Stage.TheVariants.{Setup, Serving}
 use Rattle.cq_report.specs.Reading.{Reading, Reads, Faulty}
-use Rattle.cq_report.specs.Reply.{fault_line, ok_line, late_line, catalog_line, reply_lines}
+use Rattle.cq_report.specs.declared.reply.Prepared.{Prepared}
+use Rattle.cq_report.specs.declared.reply.Prepared.TheVariants.{Accepted, Late, Undeclared}
+use Rattle.cq_report.specs.Reply.{Told, Nothing, Prepares, Misread, Happened, told_lines}
+use Rattle.cq_report.specs.Data.{told_data}
 
 -- The relations that were declared so far, and the latest limits.
 pub record SetupRecord : Type 0 where
@@ -36,10 +39,11 @@ ServingRecord = StandingRecord PoolRecord Edit
 abbrev pub Staged : Type 0
 Staged = Stage SetupRecord ServingRecord
 
--- How many lines came before, where replies are numbered; which form a script is in, once a line was read that is not blank; what
+-- How replies are numbered, and how many lines came before, where they are; which form a script is in, once a line was read that is not blank; what
 -- serves its lines; and how many entries were published before the last publish.
 pub record State : Type 0 where
-  pub lines : Option ℕ
+  pub numbering : Numbering
+  pub lines : ℕ
   pub heading : Option Form
   pub stage : Staged
   pub before : ℕ
@@ -51,13 +55,8 @@ begin_setup = record { catalog = []; limits = record { pool = pool_limit; journa
 abbrev pub begin_stage : Staged
 begin_stage = Setup begin_setup
 
--- No line came before.
-abbrev pub no_lines : Numbering → Option ℕ
-no_lines Plain = None
-no_lines Numbered = Some 0
-
 abbrev pub begin_state : Numbering → State
-begin_state numbering = record { lines = no_lines numbering; heading = None; stage = begin_stage; before = 0 }
+begin_state numbering = record { numbering = numbering; lines = 0; heading = None; stage = begin_stage; before = 0 }
 
 -- ---- the form
 
@@ -87,27 +86,27 @@ headed None (Reads commands.Show) = Some One
 headed None (Faulty kind offset) = Some One
 
 -- A line that names the form is too late after any other that is not blank.
-abbrev pub board_line : Option Form → List ℕ
-board_line None = ok_line
-board_line (Some form) = late_line
+abbrev pub board_named : Option Form → Prepared
+board_named None = Accepted
+board_named (Some form) = Late
 
 -- ---- the setup
 
 -- A relation is declared after the others, or the reason is reported.
-abbrev pub declared : Option CatalogFault → SetupRecord → Declaration → SetupRecord × List ℕ
-declared None setup relation = (record setup { catalog = setup.catalog ++ (relation ∷ []) }, ok_line)
-declared (Some fault) setup relation = (setup, catalog_line fault)
+abbrev pub declared : Option CatalogFault → SetupRecord → Declaration → SetupRecord × Prepared
+declared None setup relation = (record setup { catalog = setup.catalog ++ (relation ∷ []) }, Accepted)
+declared (Some fault) setup relation = (setup, Undeclared fault)
 
--- The setup after a line of it, where this form was settled before, if any, and the reply. The latest limits count.
-abbrev pub set_up : SetupRecord → Option Form → SetupLine (List ℕ) → SetupRecord × List ℕ
+-- The setup after a line of it, where this form was settled before, if any, and what comes of it. The latest limits count.
+abbrev pub set_up : SetupRecord → Option Form → SetupLine (List ℕ) → SetupRecord × Prepared
 set_up setup heading (setups.Relation name arity) = declared (declare_fault setup.catalog name arity) setup (declaration name arity)
-set_up setup heading (setups.Board form) = (setup, board_line heading)
-set_up setup heading (setups.Limits pool journal) = (record setup { limits = record { pool = pool; journal = journal } }, ok_line)
+set_up setup heading (setups.Board form) = (setup, board_named heading)
+set_up setup heading (setups.Limits pool journal) = (record setup { limits = record { pool = pool; journal = journal } }, Accepted)
 
 -- After the setup each line of a setup is too late.
-abbrev pub prepare : Staged → Option Form → SetupLine (List ℕ) → Staged × List ℕ
+abbrev pub prepare : Staged → Option Form → SetupLine (List ℕ) → Staged × Prepared
 prepare (Setup setup) heading line = (Setup (set_up setup heading line).0, (set_up setup heading line).1)
-prepare (Serving serving) heading line = (Serving serving, late_line)
+prepare (Serving serving) heading line = (Serving serving, Late)
 
 -- ---- the floor
 
@@ -128,30 +127,38 @@ after = stepped pool_after why
 abbrev pub shown : ServingRecord → PoolRecord
 shown serving = published_content pool_after serving.opening serving.machine
 
--- The reply to an event: what is shown is the pool that is published then.
-abbrev pub told : ServingRecord → Event Edit → List ℕ
-told serving event = reply_lines (shown (after serving event)) (answer_to pool_after why serving.opening serving.limit serving.machine event)
+-- What is told of an event: what is shown is the pool that is published then.
+abbrev pub told : ServingRecord → Event Edit → Told
+told serving event = Happened (shown (after serving event)) (answer_to pool_after why serving.opening serving.limit serving.machine event)
 
 -- An event of the one session, whose number is 0.
-abbrev pub happen : Staged → Event Edit → Staged × List ℕ
+abbrev pub happen : Staged → Event Edit → Staged × Told
 happen state event = (Serving (after (serving_of state) event), told (serving_of state) event)
 
 -- ---- lines
 
--- The stage after a line, and the reply to it, where this form was settled before, if any. A blank line and a fault of text change nothing.
-abbrev pub staged : Staged → Option Form → Reading → Staged × List ℕ
-staged stage heading (Reads commands.Blank) = (stage, [])
-staged stage heading (Reads (commands.Setup line)) = prepare stage heading line
+-- The stage after a line, and what is told of it, where this form was settled before, if any. A blank line and a fault of text change nothing.
+abbrev pub staged : Staged → Option Form → Reading → Staged × Told
+staged stage heading (Reads commands.Blank) = (stage, Nothing)
+staged stage heading (Reads (commands.Setup line)) = ((prepare stage heading line).0, Prepares (prepare stage heading line).1)
 staged stage heading (Reads (commands.Edit edit)) = happen stage (events.Enter 0 edit)
 staged stage heading (Reads commands.Publish) = happen stage events.Publish
 staged stage heading (Reads commands.Show) = happen stage (events.Look 0)
-staged stage heading (Faulty kind offset) = (stage, fault_line kind offset)
+staged stage heading (Faulty kind offset) = (stage, Misread kind offset)
 
--- A reply after the number of its line, counted from 1, where replies are numbered. Where a line has no reply, it has no number.
-abbrev pub numbered : Option ℕ → List ℕ → List ℕ
-numbered None bytes = bytes
-numbered (Some before) [] = []
-numbered (Some before) (b ∷ bs) = decimal (before + 1) ++ codes ": " ++ b ∷ bs
+-- What is told, in words, or as members of a JSON object.
+abbrev pub spoken : Numbering → Told → List ℕ
+spoken Plain told = told_lines told
+spoken Numbered told = told_lines told
+spoken Json told = told_data told
+
+-- A reply with the number of its line, where so many lines came before: it stands before it, and a line that has no reply has no number; or both are in a
+-- JSON object, in a line of its own.
+abbrev pub numbered : Numbering → ℕ → List ℕ → List ℕ
+numbered Plain before bytes = bytes
+numbered Numbered before [] = []
+numbered Numbered before (b ∷ bs) = decimal (before + 1) ++ codes ": " ++ b ∷ bs
+numbered Json before bytes = codes "{\"line\":" ++ decimal (before + 1) ++ bytes ++ codes "}\n"
 
 -- How many entries were published before the last publish, after a line.
 abbrev pub before_after : State → Reading → ℕ
@@ -162,9 +169,14 @@ before_after state reading = state.before
 abbrev pub served : State → Reading → State
 served state reading = record state { heading = headed state.heading reading; stage = (staged state.stage state.heading reading).0; before = before_after state reading }
 
--- One line more came.
+-- One line more came; lines are counted where replies have their numbers.
+abbrev pub one_more : Numbering → ℕ → ℕ
+one_more Plain lines = lines
+one_more Numbered lines = lines + 1
+one_more Json lines = lines + 1
+
 abbrev pub counted : State → State
-counted state = record state { lines = option_map suc state.lines }
+counted state = record state { lines = one_more state.numbering state.lines }
 
 -- The state after a line.
 abbrev pub next : State → Reading → State
@@ -172,11 +184,11 @@ next state reading = counted (served state reading)
 
 -- The reply to a line, without a number.
 abbrev pub unnumbered : State → Reading → List ℕ
-unnumbered state reading = (staged state.stage state.heading reading).1
+unnumbered state reading = spoken state.numbering (staged state.stage state.heading reading).1
 
 -- The reply to a line.
 abbrev pub reply : State → Reading → List ℕ
-reply state reading = numbered state.lines (unnumbered state reading)
+reply state reading = numbered state.numbering state.lines (unnumbered state reading)
 
 -- The pool that a look would show in this state: where the setup lasts, the opening pool.
 abbrev pub pool_shown : State → PoolRecord

@@ -1,4 +1,4 @@
--- The reply to a line: whole lines, or nothing. (this project's profile)
+-- What is told of a line, and how it reads: whole lines, or nothing. (this project's profile)
 use Rattle.std.specs.Prelude.{ℕ, List, [], ◌++◌, codes, decimal, Result, Ok, Err}
 use Rattle.cq_atom.specs.declared.fault.Part.{Part}
 use Rattle.cq_atom.specs.declared.fault.Part.TheVariants.{Posts, Heads, Body}
@@ -15,6 +15,18 @@ use Rattle.cq_desk.specs.declared.event.StepFault.{StepFault}
 use Rattle.cq_desk.specs.declared.reply.Reply.{Reply}
 use Rattle.cq_desk.specs.declared.reply.Reply.TheVariants.{Entered, JournalFull, Not}
 use Rattle.cq_render.specs.Report.{line, report}
+use Rattle.cq_report.specs.declared.reply.Prepared.{Prepared}
+use Rattle.cq_report.specs.declared.reply.Prepared.TheVariants.{Accepted, Late, Undeclared}
+
+-- What is told of a line: nothing of a blank one; what comes of a line of a setup; a fault of text, by its kind and its offset; or the answer to an
+-- event, with the pool that is published then.
+pub data Told : Type 0 where
+  Nothing : Told
+  Prepares : Prepared → Told
+  Misread : Kind → ℕ → Told
+  Happened : PoolRecord → Result (Answer Why) StepFault → Told
+
+-- ---- in words
 
 abbrev pub kind_word : Kind → List ℕ
 kind_word kinds.Token = codes "Token"
@@ -47,6 +59,12 @@ catalog_line catalogs.BadArity = refused_line (codes "BadArity")
 catalog_line catalogs.Declared = refused_line (codes "Declared")
 catalog_line catalogs.CatalogFull = refused_line (codes "CatalogFull")
 catalog_line catalogs.NoMemory = []
+
+-- What comes of a line of a setup.
+abbrev pub prepared_line : Prepared → List ℕ
+prepared_line Accepted = ok_line
+prepared_line Late = late_line
+prepared_line (Undeclared fault) = catalog_line fault
 
 abbrev pub part_word : Part → List ℕ
 part_word Posts = codes "posts"
@@ -98,3 +116,10 @@ answer_lines shown (Heard p) = []
 abbrev pub reply_lines : PoolRecord → Result (Answer Why) StepFault → List ℕ
 reply_lines shown (Ok answer) = answer_lines shown answer
 reply_lines shown (Err fault) = []
+
+-- What is told in words.
+abbrev pub told_lines : Told → List ℕ
+told_lines Nothing = []
+told_lines (Prepares prepared) = prepared_line prepared
+told_lines (Misread kind offset) = fault_line kind offset
+told_lines (Happened shown answer) = reply_lines shown answer

@@ -3,7 +3,6 @@ pub mod Replies
 pub mod Lines
 pub mod Happening
 pub mod Written
-pub mod Put
 pub mod Count
 pub mod Writing
 pub mod Kept

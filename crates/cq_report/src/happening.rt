@@ -1,24 +1,23 @@
 //! What happens on the floor of a script.
 
-ghost use Rattle.std.specs.Prelude.{◌≡◌, ◌<◌, ◌^◌, string_bytes, OnOk, IfOk, IfErr, IfSome, IfNone};
+ghost use Rattle.std.specs.Prelude.{◌≡◌, Ok, string_bytes, IfOk, IfSome, IfNone, OnErr};
 ghost use Rattle.cq_board.specs.Pool.{PoolRecord};
+ghost use Rattle.cq_desk.specs.declared.event.Answer.TheVariants.{Looked};
 ghost use Rattle.cq_desk.specs.declared.event.Event.TheVariants.{Look};
-ghost use Rattle.cq_report.specs.Machine.{opened, after, told};
-ghost use Rattle.cq_report.specs.Reply.{show_block, answer_lines};
-ghost use Rattle.cq_report.specs.Run.{IfMemory};
+ghost use Rattle.cq_report.specs.Reply.{Happened, answer_lines, show_block};
+ghost use Rattle.cq_report.specs.Data.{answer_data};
+ghost use Rattle.cq_report.specs.Machine.{opened, after, told, spoken};
 ghost use Rattle.cq_report.specs.Steps.Happening.{HasNoLine, IsNoLook};
-ghost use Rattle.cq_report.specs.Steps.Put.{Put};
-ghost use Rattle.cq_report.specs.Steps.Replies.{fault_of_reply};
 
-use crate::fault::ReplyFault;
-use crate::output::Output;
+use crate::data::reply_data;
+use crate::numbering::Numbering;
 use crate::reply::{ReplyLine, end_line, published_line, reply_line, show_line};
+use crate::said::Said;
 use crate::setup::Setup;
 use cq_atom::Edit;
 use cq_board::{Board, Why};
 use cq_desk::{Answer, Event, Floor, StepFault};
-use cq_devices::Sink;
-use cq_render::put_report;
+use cq_render::{json, put_report};
 use std::alloc::{AllocError, Allocator};
 
 /// A floor over a board.
@@ -43,8 +42,7 @@ pub(crate) fn open<A: Allocator + Copy>(
     }
 }
 
-/// What a look shows: the count, the report on the board, and an end. It is made whole before any of it is put, so that
-/// where memory runs out no part of it is left.
+/// What a look shows in words: the count, the report on the board, and an end.
 fn shown_block<A: Allocator + Copy>(
     alloc: A,
     board: &Board<A>,
@@ -58,28 +56,48 @@ fn shown_block<A: Allocator + Copy>(
     Ok(text)
 }
 
-/// Shows the board to the session, if there is one of that number. What is shown is made before the session looks.
-fn look<W: Sink, A: Allocator + Copy>(
+/// What a look shows.
+fn shown<A: Allocator + Copy>(
     alloc: A,
+    numbering: Numbering,
+    board: &Board<A>,
+    count: u64,
+) -> Result<Said<A>, AllocError>
+    ensures { IfOk result (λ said. said ≡ spoken numbering (Happened board.now (Ok (Looked count)))) }
+{
+    match numbering {
+        Numbering::Json => {
+            let text = json(alloc, count, board)?;
+            Ok(Said::of_text(",\"board\":", text, ""))
+        }
+        Numbering::Plain | Numbering::Numbered => {
+            let text = shown_block(alloc, board, count)?;
+            Ok(Said::of_text("", text, ""))
+        }
+    }
+}
+
+/// Shows the board to the session, if there is one of that number. What is shown is made before the session looks.
+fn look<A: Allocator + Copy>(
+    alloc: A,
+    numbering: Numbering,
     floor: &mut BoardFloor<A>,
     session: usize,
-    output: &mut Output<'_, W, A>,
-) -> Result<(), ReplyFault>
-    requires { W.write_failures output.old.sink.now < 2 ^ 62 }
-    ensures state { OnOk result (floor.new ≡ after floor.old (Look session)) }
-    ensures put { Put W.taken W.write_failures output.old output.new (told floor.old (Look session)) result }
-    ensures kept { IfErr result (λ fault. IfMemory (fault_of_reply fault) (floor.new ≡ floor.old)) }
+) -> Result<Said<A>, AllocError>
+    ensures state { IfOk result (λ said. floor.new ≡ after floor.old (Look session)) }
+    ensures said { IfOk result (λ said. said ≡ spoken numbering (told floor.old (Look session))) }
+    ensures err { OnErr result (floor.new ≡ floor.old) }
     ensures opening { floor.new.opening ≡ floor.old.opening }
 {
     if floor.seen(session).is_none() {
-        return Ok(());
+        return Ok(Said::nothing());
     }
-    let text = shown_block(alloc, floor.board(), floor.published_count())?;
+    let said = shown(alloc, numbering, floor.board(), floor.published_count())?;
     let _count = floor.look(session);
-    output.put_text(text.as_str())
+    Ok(said)
 }
 
-/// The reply to what is answered, where it is one line.
+/// The answer in words, where it is one line.
 fn line_of(answer: &Answer<Why>) -> Option<ReplyLine>
     ensures some { (shown : PoolRecord) → IfSome result (λ line. line ≡ answer_lines shown answer.now) }
     ensures none { IfNone result (HasNoLine answer.now) }
@@ -91,47 +109,68 @@ fn line_of(answer: &Answer<Why>) -> Option<ReplyLine>
     }
 }
 
-/// Takes an event that is no look, and puts the reply. Nobody is told of anything.
-fn act<W: Sink, A: Allocator + Copy>(
+/// The answer as members, where it is no board.
+fn data_of(answer: &Answer<Why>) -> Option<ReplyLine>
+    ensures some { (shown : PoolRecord) → IfSome result (λ line. line ≡ answer_data shown answer.now) }
+    ensures none { IfNone result (HasNoLine answer.now) }
+{
+    match answer {
+        Answer::Replied(reply) => Some(reply_data(reply)),
+        Answer::Published(count) => Some(ReplyLine::counting(",\"published\":", *count)),
+        Answer::Looked(_) | Answer::Heard(_) => None,
+    }
+}
+
+/// What is told of an answer that is no board.
+fn told_of(numbering: Numbering, answer: &Answer<Why>) -> Option<ReplyLine>
+    ensures some { (shown : PoolRecord) → IfSome result (λ line. line ≡ spoken numbering (Happened shown (Ok answer.now))) }
+    ensures none { IfNone result (HasNoLine answer.now) }
+{
+    match numbering {
+        Numbering::Json => data_of(answer),
+        Numbering::Plain | Numbering::Numbered => line_of(answer),
+    }
+}
+
+/// Takes an event that is no look. Nobody is told of anything.
+fn act<A: Allocator + Copy>(
+    numbering: Numbering,
     floor: &mut BoardFloor<A>,
     event: Event<Edit<A>>,
-    output: &mut Output<'_, W, A>,
-) -> Result<(), ReplyFault>
-    requires failures { W.write_failures output.old.sink.now < 2 ^ 62 }
+) -> Result<Said<A>, AllocError>
     requires other { IsNoLook event }
-    ensures state { OnOk result (floor.new ≡ after floor.old event) }
-    ensures put { Put W.taken W.write_failures output.old output.new (told floor.old event) result }
-    ensures kept { IfErr result (λ fault. IfMemory (fault_of_reply fault) (floor.new ≡ floor.old)) }
+    ensures state { IfOk result (λ said. floor.new ≡ after floor.old event) }
+    ensures said { IfOk result (λ said. said ≡ spoken numbering (told floor.old event)) }
+    ensures err { OnErr result (floor.new ≡ floor.old) }
     ensures opening { floor.new.opening ≡ floor.old.opening }
 {
     match floor.step(event) {
-        Ok(answer) => match line_of(&answer) {
-            Some(line) => output.put_line(line),
-            None => Ok(()),
+        Ok(answer) => match told_of(numbering, &answer) {
+            Some(line) => Ok(Said::of_line(line)),
+            None => Ok(Said::nothing()),
         },
         Err(fault) => match fault {
-            StepFault::NoMemory => Err(ReplyFault::NoMemory),
-            _ => Ok(()),
+            StepFault::NoMemory => Err(AllocError),
+            _ => Ok(Said::nothing()),
         },
     }
 }
 
-/// Takes an event of the session, and puts the reply. The session is there, and nobody is told of
+/// Takes an event of the session. The session is there, and nobody is told of
 /// anything, so out of memory is all that leaves an event without an answer; the floor stays as it was then.
-pub(crate) fn happen<W: Sink, A: Allocator + Copy>(
+pub(crate) fn happen<A: Allocator + Copy>(
     alloc: A,
+    numbering: Numbering,
     floor: &mut BoardFloor<A>,
     event: Event<Edit<A>>,
-    output: &mut Output<'_, W, A>,
-) -> Result<(), ReplyFault>
-    requires { W.write_failures output.old.sink.now < 2 ^ 62 }
-    ensures state { OnOk result (floor.new ≡ after floor.old event) }
-    ensures put { Put W.taken W.write_failures output.old output.new (told floor.old event) result }
-    ensures kept { IfErr result (λ fault. IfMemory (fault_of_reply fault) (floor.new ≡ floor.old)) }
+) -> Result<Said<A>, AllocError>
+    ensures state { IfOk result (λ said. floor.new ≡ after floor.old event) }
+    ensures said { IfOk result (λ said. said ≡ spoken numbering (told floor.old event)) }
+    ensures err { OnErr result (floor.new ≡ floor.old) }
     ensures opening { floor.new.opening ≡ floor.old.opening }
 {
     match event {
-        Event::Look { session } => look(alloc, floor, session, output),
-        other => act(floor, other, output),
+        Event::Look { session } => look(alloc, numbering, floor, session),
+        other => act(numbering, floor, other),
     }
 }

@@ -1,29 +1,37 @@
 //! Interprets the commands of a script.
 
-ghost use Rattle.std.specs.Prelude.{◌≡◌, ◌<◌, ◌^◌, string_bytes, OnOk, OnErr, IfOk, IfErr};
-ghost use Rattle.cq_ask.specs.Answer.{IsAnswer};
+ghost use Rattle.std.specs.Prelude.{◌≡◌, string_bytes, OnErr, IfOk};
+ghost use Rattle.cq_ask.specs.Answer.{IsTold};
 ghost use Rattle.cq_desk.specs.declared.event.Event.TheVariants.{Enter};
 ghost use Rattle.cq_report.specs.Reading.{Reads};
-ghost use Rattle.cq_report.specs.Machine.{begin_stage, serving_of, prepare, happen, staged};
-ghost use Rattle.cq_report.specs.Run.{IfMemory};
+ghost use Rattle.cq_report.specs.Reply.{Prepares};
+ghost use Rattle.cq_report.specs.Machine.{begin_stage, serving_of, prepare, happen, staged, spoken};
 ghost use Rattle.cq_report.specs.Steps.Happening.{IsInSetup};
-ghost use Rattle.cq_report.specs.Steps.Put.{Put};
-ghost use Rattle.cq_report.specs.Steps.Replies.{fault_of_reply};
 
-use crate::fault::ReplyFault;
+use crate::data::prepared_data;
 use crate::happening::{BoardFloor, happen, open};
-use crate::output::Output;
-use crate::reply::late_line;
+use crate::numbering::Numbering;
+use crate::reply::{Prepared, ReplyLine, prepared_line};
+use crate::said::Said;
 use crate::setup::Setup;
 use crate::stage::Stage;
-use cq_ask::{Ask, answer};
+use cq_ask::{Ask, tell};
 use cq_atom::{Edit, Name};
 use cq_desk::Event;
-use cq_devices::Sink;
 use cq_text::{Command, CommandKind, Form, SetupLine};
 use std::alloc::{AllocError, Allocator};
 use std::marker::Model;
 use std::mem;
+
+/// What is told of a line of a setup.
+fn told_of(numbering: Numbering, prepared: Prepared) -> &'static str
+    ensures { result.now ≡ spoken numbering (Prepares prepared) }
+{
+    match numbering {
+        Numbering::Json => prepared_data(prepared),
+        Numbering::Plain | Numbering::Numbered => prepared_line(prepared),
+    }
+}
 
 /// The number of the one session that a script has.
 const SESSION: usize = 0;
@@ -57,35 +65,34 @@ impl<A: Allocator + Copy> Interpreter<A> {
         }
     }
 
-    /// Takes a line of a setup, where this form was settled before it, if any, and gives the reply.
+    /// Takes a line of a setup, where this form was settled before it, if any, and gives what comes of it.
     fn prepare(
         &mut self,
         heading: Option<Form>,
         line: &SetupLine<Name<A>>,
-    ) -> Result<&'static str, AllocError>
-        ensures ok { IfOk result (λ reply. (self.new, reply.now) ≡ prepare self.old heading line.now) }
+    ) -> Result<Prepared, AllocError>
+        ensures ok { IfOk result (λ prepared. (self.new, prepared) ≡ prepare self.old heading line.now) }
         ensures err { OnErr result (self.new ≡ self.old) }
     {
         match &mut self.stage {
             Stage::Setup(setup) => setup.set_up(heading, line),
-            Stage::Serving(_) => Ok(late_line()),
+            Stage::Serving(_) => Ok(Prepared::Late),
         }
     }
 
     /// Answers a line of a setup, where this form was settled before it, if any.
-    fn answer<W: Sink>(
+    fn answer(
         &mut self,
+        numbering: Numbering,
         heading: Option<Form>,
         line: &SetupLine<Name<A>>,
-        output: &mut Output<'_, W, A>,
-    ) -> Result<(), ReplyFault>
-        requires { W.write_failures output.old.sink.now < 2 ^ 62 }
-        ensures state { OnOk result (self.new ≡ (prepare self.old heading line.now).0) }
-        ensures put { Put W.taken W.write_failures output.old output.new (prepare self.old heading line.now).1 result }
-        ensures kept { IfErr result (λ fault. IfMemory (fault_of_reply fault) (self.new ≡ self.old)) }
+    ) -> Result<Said<A>, AllocError>
+        ensures state { IfOk result (λ said. self.new ≡ (prepare self.old heading line.now).0) }
+        ensures said { IfOk result (λ said. said ≡ spoken numbering (Prepares (prepare self.old heading line.now).1)) }
+        ensures err { OnErr result (self.new ≡ self.old) }
     {
-        let reply = self.prepare(heading, line)?;
-        output.put_text(reply)
+        let prepared = self.prepare(heading, line)?;
+        Ok(Said::of_line(ReplyLine::just(told_of(numbering, prepared))))
     }
 
     /// How many entries are published.
@@ -98,17 +105,17 @@ impl<A: Allocator + Copy> Interpreter<A> {
         }
     }
 
-    /// The answer to what is asked, where so many entries were published before the last publish. Where the setup lasts, it is
+    /// What is told of what is asked, where so many entries were published before the last publish. Where the setup lasts, it is
     /// asked of the floor that would open.
     pub(crate) fn tell(&self, before: u64, ask: &Ask<A>) -> Result<String<A>, AllocError>
-        ensures { IfOk result (λ text. IsAnswer (serving_of self.now) before ask.now (string_bytes text)) }
+        ensures { IfOk result (λ text. IsTold (serving_of self.now) before ask.now (string_bytes text)) }
     {
         match &self.stage {
             Stage::Setup(setup) => {
                 let floor = open(self.alloc, setup.copy()?)?;
-                answer(self.alloc, &floor, before, ask)
+                tell(self.alloc, &floor, before, ask)
             }
-            Stage::Serving(floor) => answer(self.alloc, floor, before, ask),
+            Stage::Serving(floor) => tell(self.alloc, floor, before, ask),
         }
     }
 
@@ -127,82 +134,70 @@ impl<A: Allocator + Copy> Interpreter<A> {
     /// alone: so no other line pays for it. The setup is kept until the event has happened.
     #[cold]
     #[inline(never)]
-    fn begin_serving<W: Sink>(
+    fn begin_serving(
         &mut self,
+        numbering: Numbering,
         event: Event<Edit<A>>,
-        output: &mut Output<'_, W, A>,
-    ) -> Result<(), ReplyFault>
-        requires failures { W.write_failures output.old.sink.now < 2 ^ 62 }
+    ) -> Result<Said<A>, AllocError>
         requires setup { IsInSetup self.old }
-        ensures state { OnOk result (self.new ≡ (happen self.old event).0) }
-        ensures put { Put W.taken W.write_failures output.old output.new (happen self.old event).1 result }
-        ensures kept { IfErr result (λ fault. IfMemory (fault_of_reply fault) (self.new ≡ self.old)) }
+        ensures state { IfOk result (λ said. self.new ≡ (happen self.old event).0) }
+        ensures said { IfOk result (λ said. said ≡ spoken numbering (happen self.old event).1) }
+        ensures err { OnErr result (self.new ≡ self.old) }
     {
         let Stage::Setup(setup) = &self.stage else {
             unreachable!();
         };
         let setup = setup.copy()?;
         let mut floor = open(self.alloc, setup)?;
-        happen(self.alloc, &mut floor, event, output)?;
+        let said = happen(self.alloc, numbering, &mut floor, event)?;
         mem::drop(mem::replace(&mut self.stage, Stage::Serving(floor)));
-        Ok(())
+        Ok(said)
     }
 
     /// Answers an event of the session.
-    fn happen<W: Sink>(
-        &mut self,
-        event: Event<Edit<A>>,
-        output: &mut Output<'_, W, A>,
-    ) -> Result<(), ReplyFault>
-        requires { W.write_failures output.old.sink.now < 2 ^ 62 }
-        ensures state { OnOk result (self.new ≡ (happen self.old event).0) }
-        ensures put { Put W.taken W.write_failures output.old output.new (happen self.old event).1 result }
-        ensures kept { IfErr result (λ fault. IfMemory (fault_of_reply fault) (self.new ≡ self.old)) }
+    fn happen(&mut self, numbering: Numbering, event: Event<Edit<A>>) -> Result<Said<A>, AllocError>
+        ensures state { IfOk result (λ said. self.new ≡ (happen self.old event).0) }
+        ensures said { IfOk result (λ said. said ≡ spoken numbering (happen self.old event).1) }
+        ensures err { OnErr result (self.new ≡ self.old) }
     {
         match &mut self.stage {
-            Stage::Setup(_) => self.begin_serving(event, output),
-            Stage::Serving(floor) => happen(self.alloc, floor, event, output),
+            Stage::Setup(_) => self.begin_serving(numbering, event),
+            Stage::Serving(floor) => happen(self.alloc, numbering, floor, event),
         }
     }
 
     /// Answers an edit.
-    fn enter<W: Sink>(
-        &mut self,
-        edit: Edit<A>,
-        output: &mut Output<'_, W, A>,
-    ) -> Result<(), ReplyFault>
-        requires { W.write_failures output.old.sink.now < 2 ^ 62 }
-        ensures state { OnOk result (self.new ≡ (happen self.old (Enter 0 edit)).0) }
-        ensures put { Put W.taken W.write_failures output.old output.new (happen self.old (Enter 0 edit)).1 result }
-        ensures kept { IfErr result (λ fault. IfMemory (fault_of_reply fault) (self.new ≡ self.old)) }
+    fn enter(&mut self, numbering: Numbering, edit: Edit<A>) -> Result<Said<A>, AllocError>
+        ensures state { IfOk result (λ said. self.new ≡ (happen self.old (Enter 0 edit)).0) }
+        ensures said { IfOk result (λ said. said ≡ spoken numbering (happen self.old (Enter 0 edit)).1) }
+        ensures err { OnErr result (self.new ≡ self.old) }
     {
         self.happen(
+            numbering,
             Event::Enter {
                 author: SESSION,
                 edit,
             },
-            output,
         )
     }
 
     /// Answers a command, where this form was settled before it, if any.
-    pub(crate) fn serve<W: Sink>(
+    pub(crate) fn serve(
         &mut self,
+        numbering: Numbering,
         heading: Option<Form>,
         command: Command<A>,
-        output: &mut Output<'_, W, A>,
-    ) -> Result<(), ReplyFault>
-        requires { W.write_failures output.old.sink.now < 2 ^ 62 }
-        ensures stage { OnOk result (self.new ≡ (staged self.old heading (Reads command)).0) }
-        ensures put { Put W.taken W.write_failures output.old output.new (staged self.old heading (Reads command)).1 result }
-        ensures kept { IfErr result (λ fault. IfMemory (fault_of_reply fault) (self.new ≡ self.old)) }
+    ) -> Result<Said<A>, AllocError>
+        ensures stage { IfOk result (λ said. self.new ≡ (staged self.old heading (Reads command)).0) }
+        ensures said { IfOk result (λ said. said ≡ spoken numbering (staged self.old heading (Reads command)).1) }
+        ensures err { OnErr result (self.new ≡ self.old) }
     {
         match command {
-            CommandKind::Blank => Ok(()),
-            CommandKind::Setup(line) => self.answer(heading, &line, output),
-            CommandKind::Edit(edit) => self.enter(edit, output),
-            CommandKind::Publish => self.happen(Event::Publish, output),
-            CommandKind::Show => self.happen(Event::Look { session: SESSION }, output),
+            CommandKind::Blank => Ok(Said::nothing()),
+            CommandKind::Setup(line) => self.answer(numbering, heading, &line),
+            CommandKind::Edit(edit) => self.enter(numbering, edit),
+            CommandKind::Publish => self.happen(numbering, Event::Publish),
+            CommandKind::Show => self.happen(numbering, Event::Look { session: SESSION }),
         }
     }
 }

@@ -2,12 +2,13 @@
 //!
 //! The program uses `run`: what it writes is `specs/Output` of what it reads. `specs/Lines` cuts
 //! a script into lines, `specs/Reading` says what a line is read as, `specs/Machine` what it does and
-//! is answered with, and `specs/Reply` how that reads. `read_script` serves a script, discards the replies, and gives the board that it leaves.
+//! what is told of it, and `specs/Reply` and `specs/Data` how that reads, in words and as JSON. `read_script` serves a script, discards the replies, and gives the board that it leaves.
 //!
 //! Not here: which texts stand for what, and what a post does to a pool; the report on a board; a program's arguments, its
 //! exit status and its messages.
 #![tactic(auto)]
 
+mod data;
 mod discard;
 mod fault;
 mod happening;
@@ -24,6 +25,7 @@ mod output;
 mod playing;
 mod reply;
 mod running;
+mod said;
 mod setup;
 mod stage;
 
@@ -33,7 +35,10 @@ pub use limits::{JOURNAL_LIMIT, POOL_LIMIT};
 pub use living::live;
 pub use numbering::Numbering;
 pub use playing::{Played, read_script};
-pub use reply::{ReplyLine, fault_line, late_line, published_line, reply_line, show_line};
+pub use reply::{
+    Prepared, ReplyLine, fault_line, late_line, prepared_line, published_line, reply_line,
+    show_line,
+};
 pub use running::{first_line, run};
 pub use setup::Setup;
 pub use stage::Stage;

@@ -1,15 +1,17 @@
 //! Lines that are answered one at a time, on and on.
 
-ghost use Rattle.std.specs.Prelude.{◌≡◌, ◌<◌, ◌+◌, ◌^◌, ℕ, List, Some, length, ◌++◌, ◌∷◌, [], OnOk, OnErr, IfErr, IfSome, MatchResult};
+ghost use Rattle.std.specs.Prelude.{◌≡◌, ◌<◌, ◌≤◌, ◌+◌, ◌^◌, ℕ, List, Some, length, ◌++◌, ◌∷◌, [], OnOk, OnErr, IfErr, IfSome, MatchResult};
 ghost use Rattle.cq_report.specs.Lines.{HasNoEnd};
 ghost use Rattle.cq_report.specs.Lines.{lines_of};
 ghost use Rattle.cq_report.specs.Live.{Answered, Leaves, write_failures_of, ReadsFailed};
+ghost use Rattle.cq_report.specs.Steps.Count.{lines_before};
 ghost use Rattle.cq_report.specs.Steps.Living.{Answers, AnswerBreaks, LivesOn, BreaksOn, FailsOnce, EndsLive, LivedOut, LiveFails};
 ghost use Rattle.cq_report.specs.Steps.Serving.{IsSound};
 
 use crate::fault::LiveFault;
 use crate::life::Life;
 use crate::live_line::LiveLine;
+use crate::numbering::Numbering;
 use crate::output::{Output, ROOM};
 use crate::running::first_line;
 use cq_devices::{Failed, MAX_PIECE, Sink, Source};
@@ -23,6 +25,8 @@ fn answer_kept<W: Sink, A: Allocator + Copy>(
     output: &mut Output<'_, W, A>,
 ) -> Result<(), Failed>
     requires failures { W.write_failures output.old.sink.now < 2 ^ 62 }
+    requires lines { lines_before life.old.state < 2 ^ 100 }
+    ensures lines { OnOk result (lines_before life.new.state ≤ lines_before life.old.state + 1) }
     ensures ok { OnOk result (Answers W.taken W.write_failures output.old output.new life.old life.new line.now) }
     ensures sound { OnOk result (IsSound W.write_failures output.old output.new) }
     ensures err { OnErr result (AnswerBreaks W.taken W.write_failures output.old output.new life.old line.now) }
@@ -30,7 +34,7 @@ fn answer_kept<W: Sink, A: Allocator + Copy>(
 {
     match line.bytes() {
         Some(bytes) => life.answer(bytes, output),
-        None => life.refuse(output),
+        None => life.refuse_lost(output),
     }
 }
 
@@ -43,6 +47,8 @@ fn answer_end<W: Sink, A: Allocator + Copy>(
 ) -> Result<(), Failed>
     requires failures { W.write_failures output.old.sink.now < 2 ^ 62 }
     requires last { HasNoEnd last.now }
+    requires lines { lines_before life.old.state < 2 ^ 100 }
+    ensures lines { OnOk result (lines_before life.new.state ≤ lines_before life.old.state + 1) }
     ensures ok { OnOk result (LivesOn W.taken W.write_failures output.old output.new life.old life.new line.old line.new (last.now ++ 10 ∷ [])) }
     ensures sound { OnOk result (IsSound W.write_failures output.old output.new) }
     ensures err { OnErr result ((rest : List ℕ) → BreaksOn W.taken W.write_failures output.old output.new life.old line.old (last.now ++ (10 ∷ rest))) }
@@ -65,6 +71,8 @@ fn feed<W: Sink, A: Allocator + Copy>(
     piece: &[u8],
 ) -> Result<(), Failed>
     requires failures { W.write_failures output.old.sink.now < 2 ^ 62 }
+    requires lines { lines_before life.old.state + length piece.now < 2 ^ 100 }
+    ensures lines { OnOk result (lines_before life.new.state ≤ lines_before life.old.state + length piece.now) }
     ensures ok { OnOk result (LivesOn W.taken W.write_failures output.old output.new life.old life.new line.old line.new piece.now) }
     ensures sound { OnOk result (IsSound W.write_failures output.old output.new) }
     ensures err { OnErr result (BreaksOn W.taken W.write_failures output.old output.new life.old line.old piece.now) }
@@ -86,6 +94,7 @@ fn finish<W: Sink, A: Allocator + Copy>(
     output: &mut Output<'_, W, A>,
 ) -> Result<(), Failed>
     requires failures { W.write_failures output.old.sink.now < 2 ^ 62 }
+    requires lines { lines_before life.old.state < 2 ^ 100 }
     ensures ok { OnOk result (EndsLive W.taken W.write_failures output.old output.new life.old line.now) }
     ensures held { OnOk result (output.new.held.now.items ≡ []) }
     ensures sound { OnOk result (IsSound W.write_failures output.old output.new) }
@@ -111,6 +120,7 @@ fn serve<A: Allocator + Copy, R: Source, W: Sink>(
     reader: &mut R,
     output: &mut Output<'_, W, A>,
 ) -> Result<(), LiveFault>
+    requires lines { lines_before life.old.state ≡ 0 }
     requires line { line.old ≡ Some [] }
     requires piece { length piece.old ≡ MAX_PIECE }
     requires reads { R.reads_made reader.old < 2 ^ 62 }
@@ -146,7 +156,7 @@ fn serve<A: Allocator + Copy, R: Source, W: Sink>(
 /// Answers lines one at a time, as long as there are any.
 ///
 /// A line that [asks](cq_ask::read_ask) is answered of the board that is published, and changes nothing; after `quit` none is read. The others are those of a
-/// script, and are answered as [`run`](crate::run) answers them, without numbers. Each is answered before the next read. A line at which an allocation fails is answered `refused Memory`. It changes nothing, and the lines after it are
+/// script, and are answered as [`run`](crate::run) answers them. Each is answered before the next read. A line at which an allocation fails is answered `refused Memory`. It changes nothing, and the lines after it are
 /// answered as if it had not been.
 ///
 /// # Errors
@@ -154,6 +164,7 @@ fn serve<A: Allocator + Copy, R: Source, W: Sink>(
 /// failed. `NoMemory` says that there was no memory to begin with: nothing was read then.
 pub fn live<A: Allocator + Copy, R: Source, W: Sink>(
     alloc: A,
+    numbering: Numbering,
     reader: &mut R,
     writer: &mut W,
 ) -> Result<(), LiveFault>
@@ -162,19 +173,18 @@ pub fn live<A: Allocator + Copy, R: Source, W: Sink>(
     requires write_failures { W.write_failures writer.old < 2 ^ 62 }
 
     // Where all went well, all lines of the input were answered.
-    ensures answered { OnOk result (IfSome (R.left reader.old) (λ input. Answered (lines_of input) (W.taken writer.old) (W.taken writer.new))) }
+    ensures answered { OnOk result (IfSome (R.left reader.old) (λ input. Answered numbering (lines_of input) (W.taken writer.old) (W.taken writer.new))) }
 
     // And else those that the fault tells of.
-    ensures leaves { IfErr result (λ fault. Leaves fault (R.left reader.old) (R.left reader.new) (W.taken writer.old) (W.taken writer.new)) }
+    ensures leaves { IfErr result (λ fault. Leaves numbering fault (R.left reader.old) (R.left reader.new) (W.taken writer.old) (W.taken writer.new)) }
 
     // Whose fault it was.
     ensures write_failures { MatchResult result (λ _. W.write_failures writer.new ≡ W.write_failures writer.old) (λ fault. W.write_failures writer.new ≡ W.write_failures writer.old + write_failures_of fault) }
     ensures read_failures { MatchResult result (λ _. R.failures_met reader.new ≡ R.failures_met reader.old) (λ fault. ReadsFailed fault (R.reads_made reader.old) (R.reads_made reader.new) (R.failures_met reader.old) (R.failures_met reader.new)) }
 {
     let mut room = Vec::with_capacity(alloc, ROOM)?;
-    let mut lead = None;
-    let mut output = Output::new(writer, &mut room, &mut lead);
-    let mut life = Life::begin(alloc);
+    let mut output = Output::new(writer, &mut room);
+    let mut life = Life::begin(alloc, numbering);
     let mut line = LiveLine::new(alloc);
     let mut piece = [0u8; MAX_PIECE];
     let ended = serve(&mut life, &mut line, &mut piece, reader, &mut output);

@@ -1,44 +1,90 @@
 //! The machine of a script, line by line.
 
-ghost use Rattle.std.specs.Prelude.{◌≡◌, ◌<◌, ◌≤◌, ◌+◌, ◌^◌, ℕ, List, [], Some, None, string_bytes, OnOk, IfOk, IfErr};
+ghost use Rattle.std.specs.Prelude.{◌≡◌, ◌<◌, ◌≤◌, ◌+◌, ◌^◌, List, ℕ, [], string_bytes, OnOk, OnErr, IfOk, IfErr};
 ghost use Rattle.cq_ask.specs.Ask.{asked};
-ghost use Rattle.cq_ask.specs.Answer.{IsAnswer};
+ghost use Rattle.cq_ask.specs.Answer.{IsTold};
 ghost use Rattle.cq_report.specs.Reading.{Reading, Reads, IsReading};
-ghost use Rattle.cq_report.specs.Machine.{begin_state, no_lines, numbered, form_in, served, counted, unnumbered, before_after, next, reply, serving_of};
+ghost use Rattle.cq_report.specs.Reply.{Misread};
+ghost use Rattle.cq_report.specs.Machine.{begin_state, numbered, form_in, served, spoken, one_more, counted, unnumbered, before_after, next, reply, serving_of};
+ghost use Rattle.cq_report.specs.Live.{memory_told, ask_told};
 ghost use Rattle.cq_report.specs.Run.{IfMemory};
+ghost use Rattle.cq_report.specs.Steps.Living.{IsAnswered};
 ghost use Rattle.cq_report.specs.Steps.Replies.{UnlessStarved, fault_of_reply};
 ghost use Rattle.cq_report.specs.Steps.Written.{Puts, Breaks, Fails};
-ghost use Rattle.cq_report.specs.Steps.Put.{Put, led};
 ghost use Rattle.cq_report.specs.Steps.Count.{lines_before};
 
+use crate::data::fault_data;
 use crate::fault::ReplyFault;
 use crate::happening::BoardFloor;
 use crate::heading::{form_of, headed};
 use crate::interpreter::Interpreter;
 use crate::numbering::Numbering;
 use crate::output::Output;
-use crate::reply::fault_line;
-use cq_ask::{Ask, read_ask};
+use crate::reply::{ReplyLine, fault_line, memory_line};
+use crate::said::{Said, Spoken};
+use cq_ask::{Ask, ending, member_told, read_ask};
 use cq_devices::Sink;
-use cq_text::{Command, CommandKind, Form, TextFault, read_command};
+use cq_text::{Command, CommandKind, Form, Kind, TextFault, read_command};
 use std::alloc::{AllocError, Allocator};
 use std::marker::Model;
 
-/// How many lines came before the first, where they are counted.
-fn no_lines(numbering: Numbering) -> Option<u64>
-    ensures { result ≡ no_lines numbering }
+/// How many lines came before, with one line more, where they are counted.
+fn one_more(numbering: Numbering, lines: u128) -> u128
+    requires { lines < 2 ^ 100 }
+    ensures { result ≡ one_more numbering lines }
 {
     match numbering {
-        Numbering::Plain => None,
-        Numbering::Numbered => Some(0),
+        Numbering::Plain => lines,
+        Numbering::Numbered | Numbering::Json => lines + 1,
     }
 }
 
-/// What serves the next line: how many lines came before, where replies are numbered, the form that is settled, if any, what answers commands, and how many entries were published before the last publish. Contracts see the state.
+/// What is told of a line that is no command.
+fn fault_told(numbering: Numbering, kind: Kind, offset: usize) -> ReplyLine
+    ensures { result ≡ spoken numbering (Misread kind offset) }
+{
+    match numbering {
+        Numbering::Json => fault_data(kind, offset),
+        Numbering::Plain | Numbering::Numbered => fault_line(kind, offset),
+    }
+}
+
+/// What is told where an allocation failed.
+fn memory_told(numbering: Numbering) -> ReplyLine
+    ensures { result ≡ memory_told numbering }
+{
+    match numbering {
+        Numbering::Json => ReplyLine::just(",\"refused\":\"Memory\""),
+        Numbering::Plain | Numbering::Numbered => memory_line(),
+    }
+}
+
+/// What is told of what is asked: this text.
+fn ask_told<A: Allocator + Copy>(
+    alloc: A,
+    numbering: Numbering,
+    ask: &Ask<A>,
+    text: String<A>,
+) -> Result<Said<A>, AllocError>
+    ensures { IfOk result (λ said. said ≡ ask_told numbering ask.now.kind (string_bytes text)) }
+{
+    match numbering {
+        Numbering::Json => {
+            let member = member_told(alloc, ask.kind(), text.as_str())?;
+            Ok(Said::of_text("", member, ""))
+        }
+        Numbering::Plain | Numbering::Numbered => {
+            Ok(Said::of_text("", text, ending(ask.kind())))
+        }
+    }
+}
+
+/// What serves the next line: how replies are numbered, and how many lines came before, where they are, the form that is settled, if any, what answers commands, and how many entries were published before the last publish. Contracts see the state.
 #[derive(Drop)]
 pub(crate) struct Machine<A: Allocator + Copy> {
     alloc: A,
-    lines: Option<u64>,
+    numbering: Numbering,
+    lines: u128,
     heading: Option<Form>,
     interpreter: Interpreter<A>,
     before: u64,
@@ -49,7 +95,7 @@ impl<A: Allocator + Copy> Model for Machine<A> {
 
     ghost Value = { State };
 
-    ghost view = { λ m. record { lines = m.lines; heading = m.heading; stage = m.interpreter; before = m.before } };
+    ghost view = { λ m. record { numbering = m.numbering; lines = m.lines; heading = m.heading; stage = m.interpreter; before = m.before } };
 }
 
 impl<A: Allocator + Copy> Machine<A> {
@@ -60,33 +106,20 @@ impl<A: Allocator + Copy> Machine<A> {
     {
         Machine {
             alloc,
-            lines: no_lines(numbering),
+            numbering,
+            lines: 0,
             heading: None,
             interpreter: Interpreter::begin(alloc),
             before: 0,
         }
     }
 
-    /// What stands before the next reply: the number of its line, where replies are numbered.
-    fn lead(&self) -> Result<Option<String<A>>, AllocError>
-        requires { lines_before self.now < 2 ^ 62 }
-        ensures { IfOk result (λ lead. (told : List ℕ) → led lead told ≡ numbered self.now.lines told) }
-    {
-        let Some(before) = self.lines else {
-            return Ok(None);
-        };
-        let number = before + 1;
-        Ok(Some(format!(in self.alloc; "{number}: ")?))
-    }
-
     /// One line more came.
-    fn count(&mut self)
-        requires { lines_before self.old < 2 ^ 62 }
+    pub(crate) fn count(&mut self)
+        requires { lines_before self.old < 2 ^ 100 }
         ensures { self.new ≡ counted self.old }
     {
-        if let Some(before) = self.lines {
-            self.lines = Some(before + 1);
-        }
+        self.lines = one_more(self.numbering, self.lines);
     }
 
     /// The form in which the next line is read.
@@ -114,52 +147,56 @@ impl<A: Allocator + Copy> Machine<A> {
     }
 
     /// Answers a command.
-    fn serve<W: Sink>(
-        &mut self,
-        command: Command<A>,
-        output: &mut Output<'_, W, A>,
-    ) -> Result<(), ReplyFault>
-        requires { W.write_failures output.old.sink.now < 2 ^ 62 }
-        ensures lines { self.new.lines ≡ self.old.lines }
-        ensures state { OnOk result (self.new ≡ served self.old (Reads command)) }
-        ensures put { Put W.taken W.write_failures output.old output.new (unnumbered self.old (Reads command)) result }
-        ensures kept { IfErr result (λ fault. IfMemory (fault_of_reply fault) (self.new ≡ self.old)) }
+    fn serve(&mut self, command: Command<A>) -> Result<Said<A>, AllocError>
+        ensures state { IfOk result (λ said. self.new ≡ served self.old (Reads command)) }
+        ensures said { IfOk result (λ said. said ≡ unnumbered self.old (Reads command)) }
+        ensures err { OnErr result (self.new ≡ self.old) }
     {
         let heading = headed(self.heading, &command);
         let before = self.before_after(&command);
-        self.interpreter.serve(self.heading, command, output)?;
+        let said = self
+            .interpreter
+            .serve(self.numbering, self.heading, command)?;
         self.heading = heading;
         self.before = before;
-        Ok(())
+        Ok(said)
     }
 
-    /// Reads a line, and puts the reply to it, after what stands before it.
-    fn serve_line<W: Sink>(
-        &mut self,
-        line: &[u8],
-        output: &mut Output<'_, W, A>,
-    ) -> Result<(), ReplyFault>
-        requires { W.write_failures output.old.sink.now < 2 ^ 62 }
-        ensures lines { self.new.lines ≡ self.old.lines }
-        ensures read { UnlessStarved result ((reading : Reading) × IsReading (form_in self.old) line.now reading) }
-        ensures ok { OnOk result ((reading : Reading) → IsReading (form_in self.old) line.now reading → (self.new ≡ served self.old reading) × Puts W.taken W.write_failures output.old output.new (led output.old.lead.now (unnumbered self.old reading))) }
-        ensures err { IfErr result (λ fault. (reading : Reading) → IsReading (form_in self.old) line.now reading → Breaks W.taken W.write_failures output.old output.new (led output.old.lead.now (unnumbered self.old reading)) (fault_of_reply fault)) }
-        ensures fails { IfErr result (λ fault. Fails W.write_failures output.old output.new (fault_of_reply fault)) }
-        ensures nothing { IfErr result (λ fault. IfMemory (fault_of_reply fault) (Puts W.taken W.write_failures output.old output.new [])) }
-        ensures kept { IfErr result (λ fault. IfMemory (fault_of_reply fault) (self.new ≡ self.old)) }
+    /// Reads a line, and gives what is told of it.
+    fn serve_line(&mut self, line: &[u8]) -> Result<Said<A>, AllocError>
+        ensures read { OnOk result ((reading : Reading) × IsReading (form_in self.old) line.now reading) }
+        ensures ok { IfOk result (λ said. (reading : Reading) → IsReading (form_in self.old) line.now reading → (self.new ≡ served self.old reading) × (said ≡ unnumbered self.old reading)) }
+        ensures err { OnErr result (self.new ≡ self.old) }
     {
         let form = self.form();
         match read_command(self.alloc, line, form) {
-            Ok(command) => self.serve(command, output),
+            Ok(command) => self.serve(command),
             Err(TextFault::At { kind, offset }) => {
                 self.settle(form);
-                output.put_line(fault_line(kind, offset))
+                Ok(Said::of_line(fault_told(self.numbering, kind, offset)))
             }
-            Err(TextFault::NoMemory) => Err(ReplyFault::NoMemory),
+            Err(TextFault::NoMemory) => Err(AllocError),
         }
     }
 
-    /// Reads a line, and puts the reply to it, after its number where replies are numbered.
+    /// Reads a line, and gives the reply to it.
+    ///
+    /// # Errors
+    /// `AllocError` where an allocation failed: then the machine stays as it was.
+    pub(crate) fn reply(&mut self, line: &[u8]) -> Result<Spoken<A>, AllocError>
+        requires lines { lines_before self.old < 2 ^ 100 }
+        ensures lines { OnOk result (lines_before self.new ≤ lines_before self.old + 1) }
+        ensures read { OnOk result ((reading : Reading) × IsReading (form_in self.old) line.now reading) }
+        ensures ok { IfOk result (λ spoken. (reading : Reading) → IsReading (form_in self.old) line.now reading → (self.new ≡ next self.old reading) × (spoken ≡ reply self.old reading)) }
+        ensures err { OnErr result (self.new ≡ self.old) }
+    {
+        let lines = self.lines;
+        let said = self.serve_line(line)?;
+        self.lines = one_more(self.numbering, lines);
+        Ok(Spoken::numbered(self.numbering, lines, said))
+    }
+
+    /// Reads a line, and puts the reply to it.
     ///
     /// # Errors
     /// `Write` where the writer failed, and a front of the reply may be put then, and the machine is of no use any more;
@@ -170,9 +207,8 @@ impl<A: Allocator + Copy> Machine<A> {
         output: &mut Output<'_, W, A>,
     ) -> Result<(), ReplyFault>
         requires failures { W.write_failures output.old.sink.now < 2 ^ 62 }
-        requires lines { lines_before self.old < 2 ^ 62 }
+        requires lines { lines_before self.old < 2 ^ 100 }
         ensures lines { OnOk result (lines_before self.new ≤ lines_before self.old + 1) }
-        ensures plain { self.old.lines ≡ None → self.new.lines ≡ None }
         ensures read { UnlessStarved result ((reading : Reading) × IsReading (form_in self.old) line.now reading) }
         ensures ok { OnOk result ((reading : Reading) → IsReading (form_in self.old) line.now reading → (self.new ≡ next self.old reading) × Puts W.taken W.write_failures output.old output.new (reply self.old reading)) }
         ensures err { IfErr result (λ fault. (reading : Reading) → IsReading (form_in self.old) line.now reading → Breaks W.taken W.write_failures output.old output.new (reply self.old reading) (fault_of_reply fault)) }
@@ -180,11 +216,18 @@ impl<A: Allocator + Copy> Machine<A> {
         ensures nothing { IfErr result (λ fault. IfMemory (fault_of_reply fault) (Puts W.taken W.write_failures output.old output.new [])) }
         ensures kept { IfErr result (λ fault. IfMemory (fault_of_reply fault) (self.new ≡ self.old)) }
     {
-        let lead = self.lead()?;
-        output.lead_by(lead);
-        self.serve_line(line, output)?;
-        self.count();
+        let spoken = self.reply(line)?;
+        spoken.put(output)?;
         Ok(())
+    }
+
+    /// The reply to a line at which an allocation failed. It takes no memory.
+    pub(crate) fn refuse(&self) -> Spoken<A>
+        requires { lines_before self.now < 2 ^ 100 }
+        ensures { result ≡ numbered self.now.numbering self.now.lines (memory_told self.now.numbering) }
+    {
+        let told = Said::of_line(memory_told(self.numbering));
+        Spoken::numbered(self.numbering, self.lines, told)
     }
 
     /// What a line asks, if it asks.
@@ -194,11 +237,14 @@ impl<A: Allocator + Copy> Machine<A> {
         read_ask(self.alloc, line)
     }
 
-    /// The answer to what is asked, of what is published.
-    pub(crate) fn tell(&self, ask: &Ask<A>) -> Result<String<A>, AllocError>
-        ensures { IfOk result (λ text. IsAnswer (serving_of self.now.stage) self.now.before ask.now (string_bytes text)) }
+    /// The reply to what is asked, of what is published.
+    pub(crate) fn tell(&self, ask: &Ask<A>) -> Result<Spoken<A>, AllocError>
+        requires { lines_before self.now < 2 ^ 100 }
+        ensures { IfOk result (λ spoken. IsAnswered self.now ask.now spoken) }
     {
-        self.interpreter.tell(self.before, ask)
+        let text = self.interpreter.tell(self.before, ask)?;
+        let told = ask_told(self.alloc, self.numbering, ask, text)?;
+        Ok(Spoken::numbered(self.numbering, self.lines, told))
     }
 
     /// The floor, which opens where the setup lasts.

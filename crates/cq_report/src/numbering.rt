@@ -1,10 +1,12 @@
-//! Whether replies have numbers.
+//! How replies are numbered.
 
-/// Whether the replies of a run have the numbers of their lines.
+/// How the replies to lines have the numbers of their lines. Lines count from 1.
 #[derive(Clone, Copy, Debug, PartialEq, Eq)]
 pub enum Numbering {
-    /// Replies stand alone.
+    /// Not at all.
     Plain,
-    /// Before the reply of a line stand the line's number, from 1, and `: `.
+    /// The number and `: ` stand before a reply that is not empty.
     Numbered,
+    /// Number and reply are members of a JSON object, which stands in a line of its own.
+    Json,
 }

@@ -112,8 +112,7 @@ pub fn read_script<A: Allocator + Copy, R: Source>(
 {
     let mut discard = Discard;
     let mut room = Vec::new(alloc);
-    let mut lead = None;
-    let mut output = Output::new(&mut discard, &mut room, &mut lead);
+    let mut output = Output::new(&mut discard, &mut room);
     let mut machine = Machine::begin(alloc, Numbering::Plain);
     let ended = replay(alloc, &mut machine, reader, &mut output);
     left_by(machine, ended)

@@ -1,25 +1,35 @@
 //! Reply lines.
 
-ghost use Rattle.std.specs.Prelude.{◌≡◌, ◌++◌, codes, None, Some, IfOk, string_bytes};
-ghost use Rattle.cq_report.specs.Live.{memory_line};
-ghost use Rattle.cq_report.specs.Machine.{board_line};
-ghost use Rattle.cq_report.specs.Reply.{kind_word, fault_line, ok_line, late_line, catalog_line, part_word, why_words, reply_line, refused_line, published_line, show_line, end_line};
+ghost use Rattle.std.specs.Prelude.{◌≡◌, ◌++◌, codes, decimal, None, Some, IfOk, string_bytes};
+ghost use Rattle.cq_report.specs.Reply.{kind_word, fault_line, late_line, catalog_line, prepared_line, part_word, why_words, reply_line, refused_line, published_line, show_line, end_line};
 ghost use Rattle.cq_report.specs.Steps.Lines.{line_bytes};
 
 use cq_atom::Part;
 use cq_board::Why;
 use cq_desk::Reply;
 use cq_rel::CatalogFault;
-use cq_text::{Form, Kind};
+use cq_text::Kind;
 use std::alloc::{AllocError, Allocator};
 use std::marker::Model;
 
-/// A reply of one line: its words, and the number that ends it, where there is one. Contracts see its bytes, with the LF.
-/// It takes no memory.
+/// What comes of a line of a setup.
+#[derive(Clone, Copy, Debug, PartialEq, Eq)]
+pub enum Prepared {
+    /// It is accepted.
+    Accepted,
+    /// It comes after the setup, or names the form after another line.
+    Late,
+    /// Its relation is not declared.
+    Undeclared(CatalogFault),
+}
+
+/// A reply of one line, or members of a JSON object, by its parts: its words, the number after them, where there is one, and what ends it. Contracts
+/// see its bytes. It takes no memory.
 #[derive(Drop)]
 pub struct ReplyLine {
     words: &'static str,
     number: Option<u64>,
+    end: &'static str,
 }
 
 impl Model for ReplyLine {
@@ -28,35 +38,59 @@ impl Model for ReplyLine {
 
     ghost Value = { List ℕ };
 
-    ghost view = { λ l. line_bytes l.words.now l.number };
+    ghost view = { λ l. line_bytes l.words.now l.number l.end.now };
 }
 
 impl ReplyLine {
     /// A line of words alone.
     fn of_words(words: &'static str) -> ReplyLine
-        ensures { result ≡ line_bytes words.now None }
+        ensures { result ≡ words.now ++ codes "\n" }
     {
         ReplyLine {
             words,
             number: None,
+            end: "\n",
         }
     }
 
     /// A line that ends with a number.
     fn of_number(words: &'static str, number: u64) -> ReplyLine
-        ensures { result ≡ line_bytes words.now (Some number) }
+        ensures { result ≡ words.now ++ decimal number ++ codes "\n" }
     {
         ReplyLine {
             words,
             number: Some(number),
+            end: "\n",
         }
     }
 
-    /// The words, and the number.
-    pub(crate) fn into_parts(self) -> (&'static str, Option<u64>)
-        ensures { line_bytes result.0.now result.1 ≡ self }
+    /// These words, and no more.
+    pub(crate) fn just(words: &'static str) -> ReplyLine
+        ensures { result ≡ words.now }
     {
-        (self.words, self.number)
+        ReplyLine {
+            words,
+            number: None,
+            end: "",
+        }
+    }
+
+    /// These words, and a number after them.
+    pub(crate) fn counting(words: &'static str, number: u64) -> ReplyLine
+        ensures { result ≡ words.now ++ decimal number }
+    {
+        ReplyLine {
+            words,
+            number: Some(number),
+            end: "",
+        }
+    }
+
+    /// The words, the number, and what ends them.
+    pub(crate) fn into_parts(self) -> (&'static str, Option<u64>, &'static str)
+        ensures { line_bytes result.0.now result.1 result.2.now ≡ self }
+    {
+        (self.words, self.number, self.end)
     }
 
     /// The line as a text.
@@ -67,23 +101,25 @@ impl ReplyLine {
         ensures { IfOk result (λ text. string_bytes text ≡ self) }
     {
         let words = self.words;
-        match self.number {
-            None => format!(in alloc; "{words}\n"),
-            Some(number) => format!(in alloc; "{words} {number}\n"),
-        }
+        let mut text = match self.number {
+            None => String::from_str(alloc, words)?,
+            Some(number) => format!(in alloc; "{words}{number}")?,
+        };
+        text.push_str(self.end)?;
+        Ok(text)
     }
 }
 
 fn kind_words(kind: Kind) -> &'static str
-    ensures { result.now ≡ codes "refused " ++ kind_word kind ++ codes " at" }
+    ensures { result.now ≡ codes "refused " ++ kind_word kind ++ codes " at " }
 {
     match kind {
-        Kind::Token => "refused Token at",
-        Kind::Text => "refused Text at",
-        Kind::Number => "refused Number at",
-        Kind::Shape => "refused Shape at",
-        Kind::Limit => "refused Limit at",
-        Kind::Unbound => "refused Unbound at",
+        Kind::Token => "refused Token at ",
+        Kind::Text => "refused Text at ",
+        Kind::Number => "refused Number at ",
+        Kind::Shape => "refused Shape at ",
+        Kind::Limit => "refused Limit at ",
+        Kind::Unbound => "refused Unbound at ",
     }
 }
 
@@ -94,13 +130,6 @@ pub fn fault_line(kind: Kind, offset: usize) -> ReplyLine
     ReplyLine::of_number(kind_words(kind), offset as u64)
 }
 
-/// The reply to what is accepted before the floor serves.
-pub(crate) fn ok_line() -> &'static str
-    ensures { result.now ≡ ok_line }
-{
-    "ok\n"
-}
-
 /// The reply to a line of the setup that comes after it.
 pub fn late_line() -> &'static str
     ensures { result.now ≡ late_line }
@@ -108,18 +137,8 @@ pub fn late_line() -> &'static str
     "refused Late\n"
 }
 
-/// The reply to a line that names the form, where this one was settled before it, if any.
-pub(crate) fn board_line(heading: Option<Form>) -> &'static str
-    ensures { result.now ≡ board_line heading }
-{
-    match heading {
-        None => ok_line(),
-        Some(_form) => late_line(),
-    }
-}
-
 /// The reply to a relation that is not declared. Out of memory has none.
-pub(crate) fn catalog_line(fault: CatalogFault) -> &'static str
+fn catalog_line(fault: CatalogFault) -> &'static str
     ensures { result.now ≡ catalog_line fault }
 {
     match fault {
@@ -131,13 +150,24 @@ pub(crate) fn catalog_line(fault: CatalogFault) -> &'static str
     }
 }
 
+/// The reply to a line of a setup.
+pub fn prepared_line(prepared: Prepared) -> &'static str
+    ensures { result.now ≡ prepared_line prepared }
+{
+    match prepared {
+        Prepared::Accepted => "ok\n",
+        Prepared::Late => late_line(),
+        Prepared::Undeclared(fault) => catalog_line(fault),
+    }
+}
+
 fn answer_words(part: Part) -> &'static str
-    ensures { result.now ≡ codes "refused NotAnswer " ++ part_word part }
+    ensures { result.now ≡ codes "refused NotAnswer " ++ part_word part ++ codes " " }
 {
     match part {
-        Part::Posts => "refused NotAnswer posts",
-        Part::Heads => "refused NotAnswer heads",
-        Part::Body => "refused NotAnswer body",
+        Part::Posts => "refused NotAnswer posts ",
+        Part::Heads => "refused NotAnswer heads ",
+        Part::Body => "refused NotAnswer body ",
     }
 }
 
@@ -150,9 +180,9 @@ fn why_line(reason: Why) -> ReplyLine
         Why::NameTaken => ReplyLine::of_words("refused NameTaken"),
         Why::NotAnswer { part, place } => ReplyLine::of_number(answer_words(part), place as u64),
         Why::UnknownRelation { place } => {
-            ReplyLine::of_number("refused UnknownRelation", place as u64)
+            ReplyLine::of_number("refused UnknownRelation ", place as u64)
         }
-        Why::Arity { place } => ReplyLine::of_number("refused Arity", place as u64),
+        Why::Arity { place } => ReplyLine::of_number("refused Arity ", place as u64),
         Why::NoSuchName => ReplyLine::of_words("refused NoSuchName"),
         Why::RowPresent => ReplyLine::of_words("refused RowPresent"),
         Why::RowAbsent => ReplyLine::of_words("refused RowAbsent"),
@@ -164,7 +194,7 @@ pub fn reply_line(reply: &Reply<Why>) -> ReplyLine
     ensures { result ≡ reply_line reply.now }
 {
     match reply {
-        Reply::Entered(entry) => ReplyLine::of_number("ok", *entry),
+        Reply::Entered(entry) => ReplyLine::of_number("ok ", *entry),
         Reply::JournalFull => ReplyLine::of_words("refused JournalFull"),
         Reply::Not(reason) => why_line(*reason),
     }
@@ -174,21 +204,21 @@ pub fn reply_line(reply: &Reply<Why>) -> ReplyLine
 pub fn published_line(count: u64) -> ReplyLine
     ensures { result ≡ published_line count }
 {
-    ReplyLine::of_number("published", count)
+    ReplyLine::of_number("published ", count)
 }
 
 /// The first line of what is shown.
 pub fn show_line(count: u64) -> ReplyLine
     ensures { result ≡ show_line count }
 {
-    ReplyLine::of_number("show", count)
+    ReplyLine::of_number("show ", count)
 }
 
-/// The reply to a line at which an allocation failed, where lines are answered on and on.
-pub(crate) fn memory_line() -> &'static str
-    ensures { result.now ≡ memory_line }
+/// The reply to a line at which an allocation failed.
+pub(crate) fn memory_line() -> ReplyLine
+    ensures { result ≡ refused_line (codes "Memory") }
 {
-    "refused Memory\n"
+    ReplyLine::of_words("refused Memory")
 }
 
 /// The last line of what is shown.

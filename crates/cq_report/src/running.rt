@@ -236,8 +236,7 @@ pub fn run<A: Allocator + Copy, R: Source, W: Sink>(
     ensures write_failures { MatchResult result (λ _. W.write_failures writer.new ≡ W.write_failures writer.old) (λ fault. W.write_failures writer.new ≡ W.write_failures writer.old + failures_of fault) }
 {
     let mut room = Vec::with_capacity(alloc, ROOM)?;
-    let mut lead = None;
-    let mut output = Output::new(writer, &mut room, &mut lead);
+    let mut output = Output::new(writer, &mut room);
     let mut machine = Machine::begin(alloc, numbering);
     let ended = replay(alloc, &mut machine, reader, &mut output);
     mem::drop(machine);

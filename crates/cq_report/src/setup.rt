@@ -2,16 +2,26 @@
 
 ghost use Rattle.std.specs.Prelude.{◌≡◌, OnErr, IfOk};
 ghost use Rattle.cq_rel.specs.Tables.{declaration, declare_fault};
-ghost use Rattle.cq_report.specs.Machine.{begin_setup, declared, set_up};
+ghost use Rattle.cq_report.specs.Machine.{begin_setup, board_named, declared, set_up};
 
 use crate::limits::{JOURNAL_LIMIT, POOL_LIMIT};
-use crate::reply::{board_line, catalog_line, ok_line};
+use crate::reply::Prepared;
 use cq_atom::Name;
 use cq_board::Limits;
 use cq_rel::{Catalog, CatalogFault};
 use cq_text::{Form, SetupLine};
 use std::alloc::{AllocError, Allocator};
 use std::marker::Model;
+
+/// What comes of a line that names the form, where this one was settled before it, if any.
+fn board_named(heading: Option<Form>) -> Prepared
+    ensures { result ≡ board_named heading }
+{
+    match heading {
+        None => Prepared::Accepted,
+        Some(_form) => Prepared::Late,
+    }
+}
 
 /// The relations that were declared so far, and the latest limits.
 #[derive(Drop)]
@@ -51,15 +61,15 @@ impl<A: Allocator> Setup<A> {
 }
 
 impl<A: Allocator + Clone> Setup<A> {
-    /// Declares a relation, after those that are declared, and gives the reply.
-    fn declare(&mut self, name: &str, arity: usize) -> Result<&'static str, AllocError>
-        ensures ok { IfOk result (λ reply. (self.new, reply.now) ≡ declared (declare_fault self.old.catalog name.now arity) self.old (declaration name.now arity)) }
+    /// Declares a relation, after those that are declared, and gives what comes of it.
+    fn declare(&mut self, name: &str, arity: usize) -> Result<Prepared, AllocError>
+        ensures ok { IfOk result (λ prepared. (self.new, prepared) ≡ declared (declare_fault self.old.catalog name.now arity) self.old (declaration name.now arity)) }
         ensures err { OnErr result (self.new ≡ self.old) }
     {
         match self.catalog.declare(name, arity) {
-            Ok(()) => Ok(ok_line()),
+            Ok(()) => Ok(Prepared::Accepted),
             Err(CatalogFault::NoMemory) => Err(AllocError),
-            Err(fault) => Ok(catalog_line(fault)),
+            Err(fault) => Ok(Prepared::Undeclared(fault)),
         }
     }
 
@@ -76,7 +86,7 @@ impl<A: Allocator + Clone> Setup<A> {
         })
     }
 
-    /// Takes a line of the setup, where this form was settled before it, if any, and gives the reply.
+    /// Takes a line of the setup, where this form was settled before it, if any, and gives what comes of it.
     ///
     /// # Errors
     /// `AllocError` where an allocation failed. The setup stays as it was then.
@@ -84,19 +94,19 @@ impl<A: Allocator + Clone> Setup<A> {
         &mut self,
         heading: Option<Form>,
         line: &SetupLine<Name<A>>,
-    ) -> Result<&'static str, AllocError>
-        ensures ok { IfOk result (λ reply. (self.new, reply.now) ≡ set_up self.old heading line.now) }
+    ) -> Result<Prepared, AllocError>
+        ensures ok { IfOk result (λ prepared. (self.new, prepared) ≡ set_up self.old heading line.now) }
         ensures err { OnErr result (self.new ≡ self.old) }
     {
         match line {
             SetupLine::Relation { name, arity } => self.declare(name.as_str(), *arity),
-            SetupLine::Board { .. } => Ok(board_line(heading)),
+            SetupLine::Board { .. } => Ok(board_named(heading)),
             SetupLine::Limits { pool, journal } => {
                 self.limits = Limits {
                     pool: *pool,
                     journal: *journal,
                 };
-                Ok(ok_line())
+                Ok(Prepared::Accepted)
             }
         }
     }

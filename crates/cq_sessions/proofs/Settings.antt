@@ -16,6 +16,8 @@ use Rattle.cq_report.specs.Reading.{Reading, Reads, Faulty, IsReading, AreReadIn
 use Rattle.cq_report.specs.declared.numbering.Numbering.TheVariants.{Plain}
 use Rattle.cq_report.specs.declared.stage.Stage.TheVariants as stages
 use Rattle.cq_report.specs.Machine.{State, SetupRecord, begin_state, begin_setup, form_of, form_in, headed, declared, set_up, before_after, next, reply}
+use Rattle.cq_report.specs.declared.reply.Prepared.{Prepared}
+use Rattle.cq_report.specs.Reply.{prepared_line}
 use Rattle.cq_report.specs.Output.{AreReadFrom, state_after}
 use Rattle.cq_sessions.specs.Script.{Sheet}
 use Rattle.cq_sessions.specs.Sessions.{is_of_setup, in_setup, IsSetBy, BeginsBoard, setup_sheet, told_or_none}
@@ -127,7 +129,7 @@ fault_known true true free (Some n) e = cc
 fault_known true true true None e = cc
 fault_known true true false None e = cc
 
-told_declared : (fault : Option CatalogFault) (setup : SetupRecord) (relation : Declaration) → (fault ≡ Some NoMemory → ⊥) → told_or_none (declared fault setup relation).1 ≡ Some (declared fault setup relation).1
+told_declared : (fault : Option CatalogFault) (setup : SetupRecord) (relation : Declaration) → (fault ≡ Some NoMemory → ⊥) → told_or_none (prepared_line (declared fault setup relation).1) ≡ Some (prepared_line (declared fault setup relation).1)
 told_declared None setup relation known = refl
 told_declared (Some BadName) setup relation known = refl
 told_declared (Some BadArity) setup relation known = refl
@@ -136,17 +138,17 @@ told_declared (Some CatalogFull) setup relation known = refl
 told_declared (Some NoMemory) setup relation known = absurd (known refl)
 
 -- each line of a setup has a reply
-told_set_up : (setup : SetupRecord) (heading : Option Form) (line : SetupLine (List ℕ)) → told_or_none (set_up setup heading line).1 ≡ Some (set_up setup heading line).1
+told_set_up : (setup : SetupRecord) (heading : Option Form) (line : SetupLine (List ℕ)) → told_or_none (prepared_line (set_up setup heading line).1) ≡ Some (prepared_line (set_up setup heading line).1)
 told_set_up setup heading (Relation name arity) =
     told_declared (declare_fault setup.catalog name arity) setup (declaration name arity) (fault_known _ _ _ _)
 told_set_up setup None (Board form) = refl
 told_set_up setup (Some other) (Board form) = refl
 told_set_up setup heading (Limits pool journal) = refl
 
-pub sets_up : (heading : Option Form) (setup setup' : SetupRecord) (sheet sheet' : SheetRecord) (line : SetupLine (List ℕ)) (told : List ℕ) → (setup', told) ≡ set_up setup heading line
-    → sheet' ≡ record sheet { batch = sheet.batch ++ Told (Some told) ∷ [] } → Sets heading setup sheet setup' sheet' (Reads (commands.Setup line))
-sets_up heading setup setup' sheet sheet' line told is now = record {
+pub sets_up : (heading : Option Form) (setup setup' : SetupRecord) (sheet sheet' : SheetRecord) (line : SetupLine (List ℕ)) (prepared : Prepared) → (setup', prepared) ≡ set_up setup heading line
+    → sheet' ≡ record sheet { batch = sheet.batch ++ Told (Some (prepared_line prepared)) ∷ [] } → Sets heading setup sheet setup' sheet' (Reads (commands.Setup line))
+sets_up heading setup setup' sheet sheet' line prepared is now = record {
   of_setup = refl;
-  stage = ap (λ (p : SetupRecord × List ℕ). stages.Setup p.0) (sym is);
-  told = now ∙ ap (λ (reply : Option (List ℕ)). record sheet { batch = sheet.batch ++ Told reply ∷ [] }) (ap (λ (p : SetupRecord × List ℕ). Some p.1) is ∙ sym (told_set_up setup heading line));
+  stage = ap (λ (p : SetupRecord × Prepared). stages.Setup p.0) (sym is);
+  told = now ∙ ap (λ (reply : Option (List ℕ)). record sheet { batch = sheet.batch ++ Told reply ∷ [] }) (ap (λ (p : SetupRecord × Prepared). Some (prepared_line p.1)) is ∙ sym (told_set_up setup heading line));
 }

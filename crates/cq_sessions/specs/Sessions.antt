@@ -103,7 +103,7 @@ setup_sheet state (line ∷ lines) = told_or_none (reply state line) ∷ setup_s
 
 -- A script in its setup, where this form is settled, if any.
 abbrev pub in_setup : Option Form → SetupRecord → State
-in_setup heading setup = record { lines = None; heading = heading; stage = stages.Setup setup; before = 0 }
+in_setup heading setup = record { numbering = Plain; lines = 0; heading = heading; stage = stages.Setup setup; before = 0 }
 
 -- The state after lines of a setup is that of a replay.
 abbrev pub IsSetBy : State → List Reading → Option Form → SetupRecord → Type 0

@@ -12,7 +12,7 @@ ghost use Rattle.cq_sessions.specs.Steps.Settings.{Sets, Stays, SetsLine, IsBehi
 use crate::fault::ServeFault;
 use crate::sheet::Sheet;
 use cq_atom::Name;
-use cq_report::{Setup, fault_line, first_line, form_of, headed};
+use cq_report::{Setup, fault_line, first_line, form_of, headed, prepared_line};
 use cq_text::{Command, CommandKind, Form, Kind, SetupLine, TextFault, read_command};
 use std::alloc::Allocator;
 
@@ -35,8 +35,8 @@ fn set_up<A: Allocator + Copy>(
 ) -> Result<(), ServeFault>
     ensures { OnOk result (Sets heading setup.old sheet.old setup.new sheet.new (Reads (commands.Setup line.now))) }
 {
-    let reply = setup.set_up(heading, line)?;
-    sheet.tell(Some(String::from_str(alloc, reply)?))
+    let prepared = setup.set_up(heading, line)?;
+    sheet.tell(Some(String::from_str(alloc, prepared_line(prepared))?))
 }
 
 /// Answers a command of the setup, and says whether it was one; another command ends the setup.

@@ -3,7 +3,7 @@
 ghost use Rattle.std.specs.Prelude.{◌≡◌, IfSome};
 ghost use Rattle.cq_ask.specs.Answer.{BeganEmpty};
 
-use cq_ask::{answer, read_ask};
+use cq_ask::{ending, member_told, read_ask, tell};
 use cq_board::{Board, Limits};
 use cq_desk::{Event, Floor};
 use cq_rel::Catalog;
@@ -14,8 +14,13 @@ use std::alloc::{AllocError, Allocator};
 /// A floor over a board.
 type BoardFloor<A> = Floor<Board<A>, A>;
 
-/// A line, and its answer.
-type Asked = (&'static [u8], &'static str);
+/// A line, what is told of it, what ends the answer, and the answer as a member of a JSON object.
+struct Asked {
+    line: &'static [u8],
+    told: &'static str,
+    end: &'static str,
+    member: &'static str,
+}
 
 const LIMITS: Limits = Limits {
     pool: 9,
@@ -26,40 +31,84 @@ const LIMITS: Limits = Limits {
 const POST: &[u8] = b"post a {R(1)} S(2) <-";
 
 const ASKED: &[Asked] = &[
-    (
-        b"count",
-        "queries 1 matched 0 waiting 1 rows 0 entries 1 unpublished 0\n",
-    ),
-    (b" status a\tb\r", "a waiting\nb absent\nend\n"),
-    (
-        b"query a",
-        "query a waiting\n  text {R(1)} S(2) <-\n  post 0 providers 0\n  groundings 1 ()\n    ()\nend\n",
-    ),
-    (
-        b"explain b a",
-        "a waits\n  a: post 0 R(1): no provider\nb is absent\nend\n",
-    ),
-    (b"near b 0", "b is absent\nend\n"),
-    (b"changes", "a came waiting\nend\n"),
-    (
-        b"graph",
-        "digraph board {
-  q0 [label=\"a\\nwaiting\", shape=box, style=dashed];
-  n0_0 [label=\"no provider\", shape=plaintext];
-  n0_0 -> q0 [label=\"post 0 R(1)\", style=dotted];
-}
-end
-",
-    ),
-    (
-        b"json",
-        "{\"entries\":1,\"relations\":[],\"queries\":[{\"name\":\"a\",\"state\":\"waiting\",\"text\":\"{R(1)} S(2) <-\",\"heads\":[{\"relation\":\"S\",\"terms\":[{\"number\":2}]}],\"postconditions\":[{\"relation\":\"R\",\"terms\":[{\"number\":1}],\"providers\":[],\"crowded\":false}],\"body\":[],\"variables\":[],\"groundings\":[[]]}]}\n",
-    ),
-    (b"choice a()", "not coordinating\n"),
-    (b"choose a b", "none\n  a waits\n  b is absent\nend\n"),
-    (b"groups", "end\n"),
-    (b"choice a(", "refused Words\n"),
-    (b"query a b", "refused Words\n"),
+    Asked {
+        line: b"count",
+        told: "queries 1 matched 0 waiting 1 rows 0 entries 1 unpublished 0\n",
+        end: "",
+        member: ",\"answer\":\"queries 1 matched 0 waiting 1 rows 0 entries 1 unpublished 0\\n\"",
+    },
+    Asked {
+        line: b" status a\tb\r",
+        told: "a waiting\nb absent\n",
+        end: "end\n",
+        member: ",\"answer\":\"a waiting\\nb absent\\n\"",
+    },
+    Asked {
+        line: b"query a",
+        told: "query a waiting\n  text {R(1)} S(2) <-\n  post 0 providers 0\n  groundings 1 ()\n    ()\n",
+        end: "end\n",
+        member: ",\"answer\":\"query a waiting\\n  text {R(1)} S(2) <-\\n  post 0 providers 0\\n  groundings 1 ()\\n    ()\\n\"",
+    },
+    Asked {
+        line: b"explain b a",
+        told: "a waits\n  a: post 0 R(1): no provider\nb is absent\n",
+        end: "end\n",
+        member: ",\"answer\":\"a waits\\n  a: post 0 R(1): no provider\\nb is absent\\n\"",
+    },
+    Asked {
+        line: b"near b 0",
+        told: "b is absent\n",
+        end: "end\n",
+        member: ",\"answer\":\"b is absent\\n\"",
+    },
+    Asked {
+        line: b"changes",
+        told: "a came waiting\n",
+        end: "end\n",
+        member: ",\"answer\":\"a came waiting\\n\"",
+    },
+    Asked {
+        line: b"graph",
+        told: "digraph board {\n  q0 [label=\"a\\nwaiting\", shape=box, style=dashed];\n  n0_0 [label=\"no provider\", shape=plaintext];\n  n0_0 -> q0 [label=\"post 0 R(1)\", style=dotted];\n}\n",
+        end: "end\n",
+        member: ",\"answer\":\"digraph board {\\n  q0 [label=\\\"a\\\\nwaiting\\\", shape=box, style=dashed];\\n  n0_0 [label=\\\"no provider\\\", shape=plaintext];\\n  n0_0 -> q0 [label=\\\"post 0 R(1)\\\", style=dotted];\\n}\\n\"",
+    },
+    Asked {
+        line: b"json",
+        told: "{\"entries\":1,\"relations\":[],\"queries\":[{\"name\":\"a\",\"state\":\"waiting\",\"text\":\"{R(1)} S(2) <-\",\"heads\":[{\"relation\":\"S\",\"terms\":[{\"number\":2}]}],\"postconditions\":[{\"relation\":\"R\",\"terms\":[{\"number\":1}],\"providers\":[],\"crowded\":false}],\"body\":[],\"variables\":[],\"groundings\":[[]]}]}",
+        end: "\n",
+        member: ",\"board\":{\"entries\":1,\"relations\":[],\"queries\":[{\"name\":\"a\",\"state\":\"waiting\",\"text\":\"{R(1)} S(2) <-\",\"heads\":[{\"relation\":\"S\",\"terms\":[{\"number\":2}]}],\"postconditions\":[{\"relation\":\"R\",\"terms\":[{\"number\":1}],\"providers\":[],\"crowded\":false}],\"body\":[],\"variables\":[],\"groundings\":[[]]}]}",
+    },
+    Asked {
+        line: b"choice a()",
+        told: "not coordinating\n",
+        end: "",
+        member: ",\"answer\":\"not coordinating\\n\"",
+    },
+    Asked {
+        line: b"choose a b",
+        told: "none\n  a waits\n  b is absent\n",
+        end: "end\n",
+        member: ",\"answer\":\"none\\n  a waits\\n  b is absent\\n\"",
+    },
+    Asked {
+        line: b"groups",
+        told: "",
+        end: "end\n",
+        member: ",\"answer\":\"\"",
+    },
+    Asked {
+        line: b"choice a(",
+        told: "refused Words\n",
+        end: "",
+        member: ",\"refused\":\"Words\"",
+    },
+    Asked {
+        line: b"query a b",
+        told: "refused Words\n",
+        end: "",
+        member: ",\"refused\":\"Words\"",
+    },
 ];
 
 /// A floor at which nothing has happened, where there was memory for that.
@@ -104,24 +153,28 @@ fn floor_of<A: Allocator + Copy>(alloc: A) -> Option<BoardFloor<A>>
 fn is_answered<A: Allocator + Copy>(
     alloc: A,
     floor: &BoardFloor<A>,
-    line: &[u8],
-    wanted: &str,
+    asked: &Asked,
 ) -> Result<bool, AllocError>
     requires { BeganEmpty floor.now }
 {
-    let Some(ask) = read_ask(alloc, line)? else {
+    let Some(ask) = read_ask(alloc, asked.line)? else {
         return Ok(false);
     };
-    let text = answer(alloc, floor, 0, &ask)?;
-    Ok(text.as_str() == wanted)
+    let told = tell(alloc, floor, 0, &ask)?;
+    let member = member_told(alloc, ask.kind(), told.as_str())?;
+    Ok(
+        told.as_str() == asked.told
+            && member.as_str() == asked.member
+            && ending(ask.kind()) == asked.end,
+    )
 }
 
 fn answered<A: Allocator + Copy>(alloc: A, floor: &BoardFloor<A>, asked: &Asked) -> Outcome
     requires { BeganEmpty floor.now }
 {
-    match is_answered(alloc, floor, asked.0, asked.1) {
+    match is_answered(alloc, floor, asked) {
         Ok(right) => Outcome::done_if(right),
-        Err(_) => Outcome::refused_if(is_answered(alloc, floor, asked.0, asked.1) == Ok(true)),
+        Err(_) => Outcome::refused_if(is_answered(alloc, floor, asked) == Ok(true)),
     }
 }
 

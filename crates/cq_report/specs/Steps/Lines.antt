@@ -1,10 +1,16 @@
--- A reply of one line, by its parts.
-use Rattle.std.specs.Prelude.{ℕ, List, ◌++◌, Option, None, Some, codes, decimal}
+-- A reply by its parts.
+use Rattle.std.specs.Prelude.{ℕ, List, [], ◌++◌, Option, None, Some, decimal, String, string_bytes}
 
--- What ends the line: a number, if there is one, and an LF.
-abbrev pub end_bytes : Option ℕ → List ℕ
-end_bytes None = codes "\n"
-end_bytes (Some number) = codes " " ++ decimal number ++ codes "\n"
+-- A number, if there is one.
+abbrev pub number_bytes : Option ℕ → List ℕ
+number_bytes None = []
+number_bytes (Some number) = decimal number
 
-abbrev pub line_bytes : List ℕ → Option ℕ → List ℕ
-line_bytes words number = words ++ end_bytes number
+-- Words, a number, if there is one, and what ends them.
+abbrev pub line_bytes : List ℕ → Option ℕ → List ℕ → List ℕ
+line_bytes words number end = words ++ number_bytes number ++ end
+
+-- A text, if there is one.
+abbrev pub text_bytes : {A : Type 0} → Option (String A) → List ℕ
+text_bytes None = []
+text_bytes (Some text) = string_bytes text

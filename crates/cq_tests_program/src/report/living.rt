@@ -2,7 +2,7 @@
 
 use crate::devices::OneLine;
 use cq_devices::Counted;
-use cq_report::live;
+use cq_report::{Numbering, live};
 use cq_tests_allocations::{ENOUGH, Refusing};
 use std::alloc::{Allocator, Global};
 use std::io::{self, ErrorKind, Write};
@@ -24,6 +24,15 @@ const ANSWERS: [&[u8]; TEXTS] = [
     b"ok\nok 1\nok 2\npublished 2\nrefused Memory\n",
 ];
 
+/// The same as JSON objects.
+const OBJECTS: [&[u8]; TEXTS] = [
+    b"{\"line\":1,\"ok\":true}\n{\"line\":2,\"ok\":1}\n{\"line\":3,\"ok\":2}\n{\"line\":4,\"published\":2}\n{\"line\":5,\"board\":{\"entries\":2,\"relations\":[{\"name\":\"T\",\"arity\":1,\"rows\":1}],\"queries\":[{\"name\":\"a\",\"state\":\"matched\",\"text\":\"{} R(x) <- T(x)\",\"heads\":[{\"relation\":\"R\",\"terms\":[{\"variable\":\"x\"}]}],\"postconditions\":[],\"body\":[{\"relation\":\"T\",\"terms\":[{\"variable\":\"x\"}]}],\"variables\":[\"x\"],\"groundings\":[[1]]}]}}\n",
+    b"{\"line\":1,\"refused\":\"Memory\"}\n{\"line\":2,\"refused\":\"UnknownRelation\",\"place\":0}\n{\"line\":3,\"refused\":\"UnknownRelation\",\"place\":0}\n{\"line\":4,\"published\":0}\n{\"line\":5,\"board\":{\"entries\":0,\"relations\":[],\"queries\":[]}}\n",
+    b"{\"line\":1,\"ok\":true}\n{\"line\":2,\"refused\":\"Memory\"}\n{\"line\":3,\"ok\":1}\n{\"line\":4,\"published\":1}\n{\"line\":5,\"board\":{\"entries\":1,\"relations\":[{\"name\":\"T\",\"arity\":1,\"rows\":0}],\"queries\":[{\"name\":\"a\",\"state\":\"waiting\",\"text\":\"{} R(x) <- T(x)\",\"heads\":[{\"relation\":\"R\",\"terms\":[{\"variable\":\"x\"}]}],\"postconditions\":[],\"body\":[{\"relation\":\"T\",\"terms\":[{\"variable\":\"x\"}]}],\"variables\":[\"x\"],\"groundings\":[]}]}}\n",
+    b"{\"line\":1,\"ok\":true}\n{\"line\":2,\"ok\":1}\n{\"line\":3,\"refused\":\"Memory\"}\n{\"line\":4,\"published\":1}\n{\"line\":5,\"board\":{\"entries\":1,\"relations\":[{\"name\":\"T\",\"arity\":1,\"rows\":1}],\"queries\":[]}}\n",
+    b"{\"line\":1,\"ok\":true}\n{\"line\":2,\"ok\":1}\n{\"line\":3,\"ok\":2}\n{\"line\":4,\"published\":2}\n{\"line\":5,\"refused\":\"Memory\"}\n",
+];
+
 /// Takes the bytes of any of the texts, and fails at others. It takes no memory.
 #[derive(Drop)]
 struct AnyOf {
@@ -31,10 +40,10 @@ struct AnyOf {
 }
 
 impl AnyOf {
-    fn new() -> AnyOf {
+    fn new(texts: [&'static [u8]; TEXTS]) -> AnyOf {
         let mut rests = [None; TEXTS];
         for text in 0..TEXTS {
-            rests[text] = Some(ANSWERS[text]);
+            rests[text] = Some(texts[text]);
         }
         AnyOf { rests }
     }
@@ -72,21 +81,29 @@ impl Write for AnyOf {
 }
 
 /// Which of the texts the lines are answered with; none where there was no memory to begin with, or they are answered otherwise.
-fn answered<A: Allocator + Copy>(alloc: A) -> Option<usize> {
+fn answered<A: Allocator + Copy>(
+    alloc: A,
+    numbering: Numbering,
+    texts: [&'static [u8]; TEXTS],
+) -> Option<usize> {
     let mut reader = Counted::new(OneLine(LINES));
-    let mut writer = Counted::new(AnyOf::new());
-    match live(alloc, &mut reader, &mut writer) {
+    let mut writer = Counted::new(AnyOf::new(texts));
+    match live(alloc, numbering, &mut reader, &mut writer) {
         Ok(()) => writer.into_inner().whole(),
         Err(_) => None,
     }
 }
 
 /// Which of the texts are met while each allocation is refused in turn, but for the first one, without which nothing begins.
-fn met(alloc: Global) -> Option<[bool; TEXTS]> {
+fn met(
+    alloc: Global,
+    numbering: Numbering,
+    texts: [&'static [u8]; TEXTS],
+) -> Option<[bool; TEXTS]> {
     let mut met = [false; TEXTS];
     for left in 1..ENOUGH {
         let heap = Refusing::new(alloc, left);
-        let text = answered(&heap)?;
+        let text = answered(&heap, numbering, texts)?;
         if text < TEXTS {
             met[text] = true;
         }
@@ -100,6 +117,7 @@ fn met(alloc: Global) -> Option<[bool; TEXTS]> {
 // A failed allocation is answered, and changes nothing: the lines after it are answered as if its line had not been.
 #[test]
 fn failed_allocation_in_live(rt: HostRuntime) {
-    assert!(rt; met(rt.alloc()) == Some([true; TEXTS]));
-    assert!(rt; answered(&Refusing::new(rt.alloc(), 0)).is_none());
+    assert!(rt; met(rt.alloc(), Numbering::Plain, ANSWERS) == Some([true; TEXTS]));
+    assert!(rt; met(rt.alloc(), Numbering::Json, OBJECTS) == Some([true; TEXTS]));
+    assert!(rt; answered(&Refusing::new(rt.alloc(), 0), Numbering::Json, OBJECTS).is_none());
 }

@@ -10,6 +10,7 @@ loop-last-init g c = record {
   done = [];
   cut = refl;
   on = LivesOn-nothing _ _ _ _ _;
+  counted = omega arith;
   sound = IsSound-nothing g.W.Sink.taken _ _;
 }
 
@@ -37,10 +38,13 @@ loop-last-smaller g c =
 pub loop-last-preserved : goal.loop-last-preserved
 loop-last-preserved g c =
     let i = c.loop-last.invariant in
+    let parts = ap length c.in-Some.ensures.cut in
+    let both = length-append c.in-Some.last.now (10 ∷ c.in-Some.after.now) in
     record {
       done = i.done ++ (c.in-Some.last.now ++ 10 ∷ []);
       cut = cut_past i.done c.loop-last.rest.now c.in-Some.last.now c.in-Some.after.now c.args.piece.now i.cut c.in-Some.ensures.cut;
       on = LivesOn-then _ _ _ _ _ _ _ _ _ _ _ i.done (c.in-Some.last.now ++ 10 ∷ []) i.on c.in_ok-answer_end.ensures.ok;
+      counted = omega (arith, parts, both, i.counted, c.in_ok-answer_end.ensures.lines);
       sound = IsSound-then g.W.Sink.taken _ _ _ _ i.sound c.in_ok-answer_end.ensures.sound;
     }
 

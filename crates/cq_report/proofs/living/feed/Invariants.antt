@@ -1,4 +1,5 @@
-use Rattle.std.proofs.Common.{◌≡◌, ◌++◌, ℕ, List, length}
+use Rattle.std.proofs.Common.{◌≡◌, ◌+◌, ◌≤◌, ◌++◌, ℕ, List, length}
+use Rattle.cq_report.specs.Steps.Count.{lines_before}
 use Rattle.cq_report.specs.Steps.Living.{LivesOn}
 use Rattle.cq_report.specs.Steps.Serving.{IsSound}
 use Rattle.cq_report.proofs.living.feed.Given as goal
@@ -9,6 +10,7 @@ invariant-loop-last g l = record {
   done : List ℕ;
   cut : done ++ l.rest ≡ l.piece;
   on : LivesOn g.W.Sink.taken g.W.Sink.write_failures l.fn.output l.output l.fn.life l.life l.fn.line l.line done;
+  counted : lines_before l.life.state + length l.rest ≤ lines_before l.fn.life.state + length l.piece;
   sound : IsSound g.W.Sink.write_failures l.fn.output l.output;
 }
 

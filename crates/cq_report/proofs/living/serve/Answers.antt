@@ -1,5 +1,7 @@
-use Rattle.std.proofs.Common.{◌++◌, [], ◌∙◌, arith, take, refl, sym, inl, inr}
+use Rattle.cq_devices.specs.declared.limits.TheConstants.{MAX_PIECE}
+use Rattle.std.proofs.Common.{◌≡◌, ◌++◌, [], ◌∙◌, arith, take, refl, sym, inl, inr}
 use Rattle.std.proofs.KnownBytes.{Consumes-nil, Consumes-trans, Consumes-kept}
+use Rattle.std.proofs.lemmas.List.{length-take}
 use Rattle.std.proofs.lemmas.Result.{err_from_is_err_and}
 use Rattle.cq_report.proofs.Ending.{Consumes-none}
 use Rattle.cq_report.proofs.Served.{IsSound-nothing, IsSound-then, IsSound-puts}
@@ -11,6 +13,7 @@ loop-i-init g c = record {
   bytes = [];
   read = Consumes-nil _;
   lived = rw c.requires.line (Lived-nothing _ _ _ _);
+  lines = omega (arith, c.requires.lines);
   sound = IsSound-nothing g.W.Sink.taken _ _;
   held = c.requires.held;
   reads = omega arith;
@@ -100,9 +103,12 @@ pub loop-i-preserved : goal.loop-i-preserved
 loop-i-preserved g c =
     let i = c.loop-i.invariant in
     let piece = take c.in-Ok.len c.read.new.buf in
+    let long = length-take c.in-Ok.len c.read.new.buf in
+    let size : MAX_PIECE ≡ 4096 = refl in
     record {
       bytes = i.bytes ++ piece;
       read = Consumes-trans _ _ _ i.bytes piece i.read c.in-Ok.ensures.bytes.0;
+      lines = omega (arith, i.lines, c.in_ok-feed.ensures.lines, long, i.room, c.requires.piece, size);
       lived = Lived-passed _ _ _ _ _ _ _ _ _ (c.in_ok-feed.ensures.ok _ _ _ i.lived) c.in_ok-write_out.ensures.ok;
       sound = IsSound-then g.W.Sink.taken _ _ _ _ (IsSound-then g.W.Sink.taken _ _ _ _ i.sound c.in_ok-feed.ensures.sound) (IsSound-puts _ _ _ _ _ c.in_ok-write_out.ensures.ok);
       held = c.in_ok-write_out.ensures.held;

@@ -1,4 +1,5 @@
-use Rattle.std.proofs.Common.{◌≡◌, ◌+◌, ℕ, List, length, []}
+use Rattle.std.proofs.Common.{◌≡◌, ◌+◌, ◌*◌, ◌≤◌, ℕ, List, length, []}
+use Rattle.cq_report.specs.Steps.Count.{lines_before}
 use Rattle.std.specs.Io.KnownBytes.{Consumes}
 use Rattle.cq_report.specs.Steps.Living.{Lived}
 use Rattle.cq_report.specs.Steps.Serving.{IsSound}
@@ -9,6 +10,7 @@ invariant-loop-i g l = record {
   bytes : List ℕ;
   read : Consumes (g.R.Source.left l.fn.reader) (g.R.Source.left l.reader) bytes;
   lived : Lived g.W.Sink.taken g.W.Sink.write_failures l.fn.output l.fn.life l.output l.life l.line bytes;
+  lines : lines_before l.life.state ≤ l.i * 4096;
   sound : IsSound g.W.Sink.write_failures l.fn.output l.output;
   held : l.output.held.now.items ≡ [];
   reads : g.R.Source.reads_made l.reader ≡ g.R.Source.reads_made l.fn.reader + l.i;

@@ -1,10 +1,10 @@
 use Rattle.std.proofs.Common.{◌∙◌, sym, subst, ap}
 use Rattle.std.specs.Prelude.{string_bytes, IfOk}
-use Rattle.cq_ask.specs.Answer.{FloorRecord, IsAnswer}
+use Rattle.cq_ask.specs.Answer.{FloorRecord, IsTold}
 use Rattle.cq_report.specs.Machine.{serving_of, opened}
 use Rattle.cq_report.proofs.interpreter.Interpreter.tell.Goals as goal
 
 pub returns-in_ok-floor-in-Setup : goal.returns-in_ok-floor-in-Setup
 returns-in_ok-floor-in-Setup g c =
     let opens = c.in_ok-floor-in-Setup.ensures ∙ ap opened c.in_ok-copy-in-Setup.ensures ∙ ap serving_of (sym c.in-Setup.is ∙ c.self.view_is) in
-    subst (λ (floor : FloorRecord). IfOk c.answer.result (λ text. IsAnswer floor c.args.before c.args.ask.now (string_bytes text))) opens c.answer.ensures
+    subst (λ (floor : FloorRecord). IfOk c.tell.result (λ text. IsTold floor c.args.before c.args.ask.now (string_bytes text))) opens c.tell.ensures

@@ -1,0 +1,42 @@
+use Rattle.std.proofs.Common.{ℕ, List, subst}
+use Rattle.std.proofs.lemmas.Result.{err_from_is_err_and}
+use Rattle.cq_report.specs.declared.fault.RunFault.TheVariants.{Write}
+use Rattle.cq_report.specs.Steps.Written.{Puts, Breaks}
+use Rattle.cq_report.specs.Steps.Writing.{Puts-nothing}
+use Rattle.cq_report.proofs.Answering.{starved}
+use Rattle.cq_report.proofs.machine.Machine.answer.Goals as goal
+
+pub returns-in_err-spoken-clause-err : goal.returns-in_err-spoken-clause-err
+returns-in_err-spoken-clause-err g c =
+    let p = err_from_is_err_and c.from_residual.result c.from_residual.ensures.1 in
+    rw (p.1, p.2) (λ reading is. starved _ _ c.args.output.now _)
+
+pub returns-in_err-spoken-clause-nothing : goal.returns-in_err-spoken-clause-nothing
+returns-in_err-spoken-clause-nothing g c =
+    let p = err_from_is_err_and c.from_residual.result c.from_residual.ensures.1 in
+    rw (p.1, p.2) (Puts-nothing _ _ c.args.output.now)
+
+pub returns-in_err-put-clause-read : goal.returns-in_err-put-clause-read
+returns-in_err-put-clause-read g c =
+    let p = err_from_is_err_and c.from_residual-in_err-put.result c.from_residual-in_err-put.ensures.1 in
+    rw (p.1, p.2) c.in_ok-spoken.ensures.read
+
+pub returns-in_err-put-clause-err : goal.returns-in_err-put-clause-err
+returns-in_err-put-clause-err g c =
+    let p = err_from_is_err_and c.from_residual-in_err-put.result c.from_residual-in_err-put.ensures.1 in
+    rw (p.1, p.2)
+    (λ reading is. subst (λ (bytes : List ℕ). Breaks g.W.Sink.taken g.W.Sink.write_failures c.args.output.now c.put.new.output bytes Write) (c.in_ok-spoken.ensures.ok reading is).1 c.in_err-put.ensures.err)
+
+pub returns-in_err-put-clause-fails : goal.returns-in_err-put-clause-fails
+returns-in_err-put-clause-fails g c =
+    let p = err_from_is_err_and c.from_residual-in_err-put.result c.from_residual-in_err-put.ensures.1 in
+    let breaks = c.in_err-put.ensures.err in
+    rw (p.1, p.2) (record { writer = breaks.writer; failed = breaks.failed })
+
+pub returns-clause-read : goal.returns-clause-read
+returns-clause-read g c = c.in_ok-spoken.ensures.read
+
+pub returns-clause-ok : goal.returns-clause-ok
+returns-clause-ok g c = λ reading is.
+    let told = c.in_ok-spoken.ensures.ok reading is in
+    (told.0, subst (Puts g.W.Sink.taken g.W.Sink.write_failures c.args.output.now c.put.new.output) told.1 c.in_ok-put.ensures.ok)
