@@ -1,6 +1,6 @@
 -- Texts of values, one after another.
-use Rattle.std.proofs.Common.{◌≡◌, refl, Bool, true, false, Bor, ◌≢◌, inl, inr, ℕ, ◌+◌, ◌<◌, ◌≤◌, arith, zero, suc, List, [], ◌∷◌, ◌++◌, length, take, drop, get_or, map, sym, ap, subst, ◌∙◌, append_assoc, append-nil}
-use Rattle.std.specs.Prelude.{◌==◌, codes, if◌then◌else◌, ◌&&◌, IsTrue, Option, Some, None, Ok, Err, MatchOption}
+use Rattle.std.proofs.Common.{◌≡◌, refl, Bool, true, false, inl, inr, ℕ, ◌+◌, ◌<◌, ◌≤◌, arith, zero, suc, List, [], ◌∷◌, ◌++◌, length, take, drop, get_or, map, sym, ap, subst, ◌∙◌, append_assoc, append-nil}
+use Rattle.std.specs.Prelude.{◌==◌, codes, if◌then◌else◌, ◌&&◌, IsTrue, Some, None, Ok, Err}
 use Rattle.std.specs.List.{flat_map, join_by, list_all, prefix_len}
 use Rattle.std.proofs.lemmas.List.{append_cancel_right, get_or-map, map-append, take_more, drop_more}
 use Rattle.std.proofs.lemmas.Bool.{eqb-true}

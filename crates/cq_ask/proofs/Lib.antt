@@ -5,4 +5,5 @@ pub mod Splitting
 pub mod Chosen
 pub mod Words
 pub mod Told
+pub mod Members
 pub mod CallerLemmas

@@ -1,22 +1,20 @@
--- What is told of words that stand for choices, or for none.
-use Rattle.std.proofs.Common.{◌≡◌, ℕ, List, [], ◌∷◌, length, map, refl, inl, inr}
-use Rattle.std.specs.Prelude.{◌⊎◌, codes}
+-- The verdict on words that stand for choices, or for none.
+use Rattle.std.proofs.Common.{◌≡◌, ℕ, Bool, true, false, List, [], ◌∷◌, length, map, refl, inl, arith, Some, None}
+use Rattle.std.specs.Prelude.{◌↔◌}
 use Rattle.cq_board.specs.Choice.{ChoiceRecord, IsCoordinating}
 use Rattle.cq_board.specs.Pool.{PoolRecord}
-use Rattle.cq_render.specs.Report.{line}
-use Rattle.cq_ask.specs.Answer.{unfit_line, IsChoiceTold}
-use Rattle.cq_ask.specs.Choices.{StandForChoices, StandForNone}
+use Rattle.cq_ask.specs.Answer.{IsVerdict}
+use Rattle.cq_ask.specs.Choices.{StandForChoices}
 
 module _ {X : Type 0} (read : X → List ℕ) (pool : PoolRecord) where
-  -- words that stand for no choices
-  pub told_none : (words : List X) → (length words ≡ 0 → ⊥) → StandForNone (map read words) → IsChoiceTold pool (map read words) unfit_line
-  told_none [] some none = absurd (some refl)
-  told_none (word ∷ words) some none = inr (inr (none, refl))
+  -- words of which there are none
+  pub verdict_none : (words : List X) → length words ≡ 0 → IsVerdict pool (map read words) None
+  verdict_none [] none = inl refl
+  verdict_none (word ∷ words) none = absurd (omega (arith, none))
 
   -- words that stand for choices
-  pub told_choices : (words : List X) (choices : List ChoiceRecord) (text : List ℕ) → (length words ≡ 0 → ⊥) → StandForChoices (map read words) choices
-      → (text ≡ codes "coordinating\n" → IsCoordinating pool choices) → (text ≡ codes "not coordinating\n" → IsCoordinating pool choices → ⊥)
-      → (text ≡ codes "coordinating\n") ⊎ (text ≡ codes "not coordinating\n") → IsChoiceTold pool (map read words) text
-  told_choices [] choices text some stand so not_so either = absurd (some refl)
-  told_choices (word ∷ words) choices text some stand so not_so (inl e) = inl ((choices, stand, so e), e)
-  told_choices (word ∷ words) choices text some stand so not_so (inr e) = inr (inl ((choices, stand, not_so e), e))
+  pub verdict_on : (words : List X) (choices : List ChoiceRecord) (coordinates : Bool) → (length words ≡ 0 → ⊥) → StandForChoices (map read words) choices
+      → (coordinates ≡ true) ↔ IsCoordinating pool choices → IsVerdict pool (map read words) (Some coordinates)
+  verdict_on [] choices coordinates some stand so = absurd (some refl)
+  verdict_on (word ∷ words) choices true some stand so = (omega arith, (choices, stand, so.0 refl))
+  verdict_on (word ∷ words) choices false some stand so = (omega arith, (choices, stand, λ is. let never : false ≡ true = so.1 is in cc))

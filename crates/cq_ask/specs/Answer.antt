@@ -1,10 +1,8 @@
 -- What is answered to lines that ask. (this project's profile)
-use Rattle.std.specs.Prelude.{◌≡◌, ◌⊎◌, ℕ, ◌+◌, ◌-◌, Bool, true, false, map, List, [], ◌∷◌, ◌++◌, length, fold, codes, decimal, Option, Some, None, if◌then◌else◌}
+use Rattle.std.specs.Prelude.{◌≡◌, ◌<◌, ◌⊎◌, ℕ, ◌+◌, ◌-◌, Bool, true, false, map, List, [], ◌++◌, length, fold, codes, decimal, Option, Some, None}
 use Rattle.std.specs.List.{flat_map}
-use Rattle.std.specs.Str.{bytes_eq}
 use Rattle.json.specs.Tree.{json_tokens}
 use Rattle.json.specs.Print.{print}
-use Rattle.json.specs.Token.{string}
 use Rattle.cq_atom.specs.Edit.{Edit}
 use Rattle.cq_rel.specs.Tables.{TablesRecord, rows_in}
 use Rattle.cq_board.specs.Pool.{PoolRecord, name_of, opening_pool}
@@ -12,7 +10,8 @@ use Rattle.cq_board.specs.Edits.{pool_after}
 use Rattle.cq_board.specs.Named.{matched_named, matched_names}
 use Rattle.cq_desk.specs.Machine.{published_content}
 use Rattle.cq_desk.specs.Standing.{StandingRecord}
-use Rattle.cq_render.specs.Report.{line, state_word, block_of}
+use Rattle.cq_render.specs.Report.{line, block_of}
+use Rattle.cq_render.specs.Data.{standing_word}
 use Rattle.cq_render.specs.Explain.{ArePieces, IsExplained, IsNearTold}
 use Rattle.cq_render.specs.Graph.{graph}
 use Rattle.cq_render.specs.Json.{json_of}
@@ -57,11 +56,6 @@ count_line floor =
     line (pool_counts (published_pool floor) ++ codes " entries " ++ decimal floor.machine.published ++ codes " unpublished " ++ decimal (length floor.machine.journal - floor.machine.published))
 
 -- ---- names
-
--- A pending query is matched, or it waits; under another name there is none.
-abbrev pub standing_word : Option Bool → List ℕ
-standing_word None = codes "absent"
-standing_word (Some matched) = state_word matched
 
 abbrev pub status_line : PoolRecord → List ℕ → List ℕ
 status_line pool name = line (name ++ codes " " ++ standing_word (matched_named name pool))
@@ -127,12 +121,20 @@ pub record IsNearAnswer (pool : PoolRecord) (post : ℕ) (names : List (List ℕ
 abbrev pub unfit_line : List ℕ
 unfit_line = line (codes "refused Words")
 
--- Whether the words stand for choices that coordinate; words that stand for none do not fit, nor does it fit that there are no words.
+-- Whether the words, of which there are some, stand for choices that coordinate. Words that stand for none do not fit, nor does it fit that there are no words.
+abbrev pub IsVerdict : PoolRecord → List (List ℕ) → Option Bool → Type 0
+IsVerdict pool words (Some true) = (0 < length words) × AreCoordinating pool words
+IsVerdict pool words (Some false) = (0 < length words) × AreNotCoordinating pool words
+IsVerdict pool words None = (words ≡ []) ⊎ StandForNone words
+
+abbrev pub verdict_line : Option Bool → List ℕ
+verdict_line (Some true) = line (codes "coordinating")
+verdict_line (Some false) = line (codes "not coordinating")
+verdict_line None = unfit_line
+
+-- The verdict on choices, in a line.
 abbrev pub IsChoiceTold : PoolRecord → List (List ℕ) → List ℕ → Type 0
-IsChoiceTold pool [] text = text ≡ unfit_line
-IsChoiceTold pool words text =
-    (AreCoordinating pool words × (text ≡ line (codes "coordinating")))
-    ⊎ ((AreNotCoordinating pool words × (text ≡ line (codes "not coordinating"))) ⊎ (StandForNone words × (text ≡ unfit_line)))
+IsChoiceTold pool words text = (verdict : Option Bool) × IsVerdict pool words verdict × (text ≡ verdict_line verdict)
 
 -- What is told of a coordinating choice that has these queries.
 pub record IsSoughtAnswer (pool : PoolRecord) (names : List (List ℕ)) (text : List ℕ) : Type 0 where
@@ -156,12 +158,11 @@ IsToldOf floor pool before Help names choices text = text ≡ help_text
 IsToldOf floor pool before Quit names choices text = text ≡ []
 IsToldOf floor pool before Unfit names choices text = text ≡ unfit_line
 
+-- The text tells what is asked of the floor, of the pool that it publishes.
 abbrev pub IsTold : FloorRecord → ℕ → AskRecord → List ℕ → Type 0
 IsTold floor before ask text = IsToldOf floor (published_pool floor) before ask.kind ask.names ask.text text
 
--- ---- how it is written
-
--- What ends an answer: the line `end` where it may have several lines, and the end of the line of a board as JSON.
+-- What ends an answer in lines: the line `end` where it may have several, and the end of the line of a board as JSON.
 abbrev pub ending : AskKind → List ℕ
 ending Count = []
 ending Choice = []
@@ -169,12 +170,3 @@ ending Json = codes "\n"
 ending Quit = []
 ending Unfit = []
 ending _ = end_line
-
--- A text as JSON.
-abbrev pub quoted : List ℕ → List ℕ
-quoted text = print (string text ∷ [])
-
--- An answer as a member of a JSON object, after others: the board is one, words that do not fit are refused, and all else is a text.
-abbrev pub member_told : AskKind → List ℕ → List ℕ
-member_told Json text = codes ",\"board\":" ++ text
-member_told _ text = if bytes_eq text unfit_line then codes ",\"refused\":\"Words\"" else codes ",\"answer\":" ++ quoted text

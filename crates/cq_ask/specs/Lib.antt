@@ -1,4 +1,5 @@
 pub mod Ask
 pub mod Answer
+pub mod Data
 pub mod Choices
 pub mod Steps

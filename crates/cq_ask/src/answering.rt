@@ -1,25 +1,24 @@
 //! Answers lines that ask, of the board that a floor publishes.
 
-ghost use Rattle.std.specs.Prelude.{◌≡◌, ◌⊎◌, ◌++◌, ◌-◌, ◌≤◌, ◌*◌, ◌^◌, [], codes, decimal, length, map, string_bytes, IfOk, OnOk};
+ghost use Rattle.std.specs.Prelude.{◌≡◌, ◌++◌, ◌-◌, ◌≤◌, ◌*◌, ◌^◌, [], codes, decimal, length, map, string_bytes, IfOk, OnOk};
 ghost use Rattle.std.specs.List.{flat_map};
 ghost use Rattle.cq_board.specs.Named.{matched_named, matched_names};
 ghost use Rattle.cq_rel.specs.Tables.{rows_in};
 ghost use Rattle.cq_render.specs.Report.{block_of};
 ghost use Rattle.cq_render.specs.Explain.{ArePieces, IsNearTold};
-ghost use Rattle.cq_ask.specs.Answer.{BeganEmpty, floor_at, published_pool, changes, row_count, pool_counts, count_line, standing_word, status_line, absent_line, absent_lines, help_text, unfit_line, IsWhyTold, IsNearAnswer, IsChoiceTold, IsSoughtAnswer, IsTold, ending, quoted, member_told};
-ghost use Rattle.cq_board.specs.Choice.{IsCoordinating};
+ghost use Rattle.cq_render.specs.Data.{standing_word};
+ghost use Rattle.cq_ask.specs.Answer.{BeganEmpty, floor_at, published_pool, changes, row_count, pool_counts, count_line, status_line, absent_line, absent_lines, help_text, IsWhyTold, IsNearAnswer, IsVerdict, verdict_line, IsChoiceTold, IsSoughtAnswer, IsTold, ending};
 ghost use Rattle.cq_ask.specs.Choices.{choice_words};
 
 use crate::ask::{Ask, AskKind};
 use crate::changing::put_last_changes;
 use crate::choices::{ChoiceFault, choice_words, read_choices};
 use cq_atom::Name;
-use cq_board::{Board, Choice};
+use cq_board::Board;
 use cq_desk::Floor;
 use cq_going::{MOST_STEPS, groups, tell_choice};
 use cq_rel::Tables;
 use cq_render::{explain_these, graph, json, near, put_block};
-use json::Writer;
 use std::alloc::{AllocError, Allocator};
 
 /// A floor over a board.
@@ -36,7 +35,7 @@ fn rows_of<A: Allocator>(tables: &Tables<A>, relation: &str) -> usize
 }
 
 /// How many rows all relations have.
-fn row_count<A: Allocator>(tables: &Tables<A>) -> u128
+pub(crate) fn row_count<A: Allocator>(tables: &Tables<A>) -> u128
     ensures { result ≡ row_count tables.now }
 {
     let catalog = tables.catalog();
@@ -79,7 +78,7 @@ fn count_line<A: Allocator + Copy>(alloc: A, floor: &BoardFloor<A>) -> Result<St
     Ok(page)
 }
 
-fn standing_word(matched: Option<bool>) -> &'static str
+pub(crate) fn standing_word(matched: Option<bool>) -> &'static str
     ensures { result.now ≡ standing_word matched }
 {
     match matched {
@@ -239,34 +238,31 @@ fn near_text<A: Allocator + Copy>(
     Ok(page)
 }
 
-/// Says whether the choices coordinate.
-fn coordination<A: Allocator + Copy>(board: &Board<A>, choices: &[Choice<A>]) -> &'static str
-    ensures so { result.now ≡ codes "coordinating\n" → IsCoordinating board.now choices.now }
-    ensures not_so { result.now ≡ codes "not coordinating\n" → IsCoordinating board.now choices.now → ⊥ }
-    ensures either { (result.now ≡ codes "coordinating\n") ⊎ (result.now ≡ codes "not coordinating\n") }
-{
-    if board.check_choice(choices) {
-        "coordinating\n"
-    } else {
-        "not coordinating\n"
-    }
-}
-
-/// Says whether the words stand for choices that coordinate.
-fn said_of<A: Allocator + Copy>(
+/// Whether the words stand for choices that coordinate; nothing where they stand for none.
+pub(crate) fn verdict<A: Allocator + Copy>(
     alloc: A,
     board: &Board<A>,
     words: &[&[u8]],
-) -> Result<&'static str, AllocError>
-    ensures { IfOk result (λ text. IsChoiceTold board.now (map (λ word. word.now) words.now) text.now) }
+) -> Result<Option<bool>, AllocError>
+    ensures { IfOk result (λ verdict. IsVerdict board.now (map (λ word. word.now) words.now) verdict) }
 {
     if words.is_empty() {
-        return Ok(UNFIT);
+        return Ok(None);
     }
     match read_choices(alloc, words) {
-        Ok(choices) => Ok(coordination(board, &choices)),
-        Err(ChoiceFault::Bad { place: _ }) => Ok(UNFIT),
+        Ok(choices) => Ok(Some(board.check_choice(&choices))),
+        Err(ChoiceFault::Bad { place: _ }) => Ok(None),
         Err(ChoiceFault::NoMemory) => Err(AllocError),
+    }
+}
+
+fn verdict_line(verdict: Option<bool>) -> &'static str
+    ensures { result.now ≡ verdict_line verdict }
+{
+    match verdict {
+        Some(true) => "coordinating\n",
+        Some(false) => "not coordinating\n",
+        None => UNFIT,
     }
 }
 
@@ -278,8 +274,8 @@ fn choice_text<A: Allocator + Copy>(
     ensures { IfOk result (λ text. IsChoiceTold board.now (choice_words choices.now) (string_bytes text)) }
 {
     let words = choice_words(alloc, choices)?;
-    let said = said_of(alloc, board, &words)?;
-    String::from_str(alloc, said)
+    let verdict = verdict(alloc, board, &words)?;
+    String::from_str(alloc, verdict_line(verdict))
 }
 
 /// What is told of a coordinating choice that has these queries.
@@ -308,7 +304,7 @@ fn changes_text<A: Allocator + Copy>(
 }
 
 /// Which lines ask.
-fn help() -> &'static str
+pub(crate) fn help() -> &'static str
     ensures { result.now ≡ help_text }
 {
     "count                queries, rows and entries\nstatus NAME..        whether queries are matched, waiting or absent\nquery NAME           its block of the report\nexplain [NAME..]     why queries wait\nnear NAME POST       which heads nearly supply a postcondition\nchoice CHOICE..      whether a choice coordinates, as in choice a(1) b(1)\nchoose [NAME..]      a coordinating choice that has the queries\ngroups               groups of queries, and whether each can go\nchanges              queries that came, went or turned at the last publish\ngraph                who can supply whom, for Graphviz\njson                 the board as JSON\nhelp                 these lines\nquit                 ends; no later line is answered\nAll other lines are those of a script.\n"
@@ -366,38 +362,4 @@ pub fn tell<A: Allocator + Copy>(
         AskKind::Quit => Ok(String::new(alloc)),
         AskKind::Unfit => Ok(String::from_str(alloc, UNFIT)?),
     }
-}
-
-/// A text as JSON.
-fn quoted<A: Allocator>(alloc: A, text: &str) -> Result<String<A>, AllocError>
-    ensures { IfOk result (λ page. string_bytes page ≡ quoted text.now) }
-{
-    let mut writer = Writer::new(Vec::new(alloc));
-    writer.string(text)?;
-    match String::from_utf8(writer.into_inner()) {
-        Ok(page) => Ok(page),
-        // What a writer writes is UTF-8.
-        Err(_) => unreachable!(),
-    }
-}
-
-/// What is told of what is asked, as a member of a JSON object that has others before it.
-///
-/// # Errors
-/// `AllocError` where an allocation failed.
-pub fn member_told<A: Allocator + Copy>(
-    alloc: A,
-    kind: AskKind,
-    text: &str,
-) -> Result<String<A>, AllocError>
-    ensures { IfOk result (λ member. string_bytes member ≡ member_told kind text.now) }
-{
-    if matches!(kind, AskKind::Json) {
-        return format!(in alloc; ",\"board\":{text}");
-    }
-    if text == UNFIT {
-        return String::from_str(alloc, ",\"refused\":\"Words\"");
-    }
-    let quoted = quoted(alloc, text)?;
-    format!(in alloc; ",\"answer\":{quoted}")
 }

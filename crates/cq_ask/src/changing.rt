@@ -110,8 +110,8 @@ fn play<A: Allocator + Copy>(
     Ok(())
 }
 
-/// The board that was published when so many entries were.
-fn board_at<A: Allocator + Copy>(
+/// The board that was published when so many entries were. Its time is that of taking the edits of these entries once more.
+pub(crate) fn board_at<A: Allocator + Copy>(
     alloc: A,
     floor: &Floor<Board<A>, A>,
     count: u64,

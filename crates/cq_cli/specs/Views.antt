@@ -4,6 +4,7 @@ use Rattle.std.specs.Io.KnownBytes.{Appends}
 use Rattle.json.specs.Print.{print}
 use Rattle.json.specs.Tree.{json_tokens}
 use Rattle.cq_board.specs.Pool.{PoolRecord}
+use Rattle.cq_render.specs.Report.{line}
 use Rattle.cq_render.specs.Graph.{graph}
 use Rattle.cq_render.specs.Json.{json_of}
 use Rattle.cq_going.specs.declared.telling.Outcome.{Outcome}
@@ -22,10 +23,10 @@ pub record IsSoughtSeen (pool : PoolRecord) (names : List (List ℕ)) (status : 
   pub ends : status ≡ status_of_outcome outcome
   pub told : IsSoughtTold pool names outcome text
 
--- What is reported about a floor, of the pool that it shows: the graph; what the library for JSON prints of it and of how many entries it is; its groups; or a coordinating choice that has the names.
+-- What is reported about a floor, of the pool that it shows: the graph; what the library for JSON prints of it and of how many entries it is, in a line; its groups; or a coordinating choice that has the names.
 abbrev pub IsViewed : View → List (List ℕ) → ServingRecord → Status → List ℕ → Type 0
 IsViewed Graph names floor status text = (status ≡ Done) × (text ≡ graph (shown floor))
-IsViewed Json names floor status text = (status ≡ Done) × (text ≡ print (json_tokens (json_of floor.machine.published (shown floor))))
+IsViewed Json names floor status text = (status ≡ Done) × (text ≡ line (print (json_tokens (json_of floor.machine.published (shown floor)))))
 IsViewed (Groups steps) names floor status text = (status ≡ Done) × AreGroupsTold (shown floor) text
 IsViewed (Choose steps) names floor status text = IsSoughtSeen (shown floor) names status text
 

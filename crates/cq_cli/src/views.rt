@@ -5,6 +5,10 @@ ghost use Rattle.std.specs.List.{list_all};
 ghost use Rattle.std.specs.Io.KnownBytes.{Appends};
 ghost use Rattle.cq_atom.specs.Text.{is_name};
 ghost use Rattle.cq_board.specs.Choice.{IsCoordinating};
+ghost use Rattle.json.specs.Print.{print};
+ghost use Rattle.json.specs.Tree.{json_tokens};
+ghost use Rattle.cq_render.specs.Report.{line};
+ghost use Rattle.cq_render.specs.Json.{json_of};
 ghost use Rattle.cq_report.specs.Lines.{lines_of};
 ghost use Rattle.cq_report.specs.Reading.{Reading};
 ghost use Rattle.cq_report.specs.Output.{AreReadings, floor_left, pool_left};
@@ -75,6 +79,19 @@ fn sought<A: Allocator + Copy>(
     })
 }
 
+/// The board as JSON, in a line.
+fn json_line<A: Allocator + Copy>(
+    heap: A,
+    entries: u64,
+    board: &Board<A>,
+) -> Result<String<A>, AllocError>
+    ensures { IfOk result (λ text. string_bytes text ≡ line (print (json_tokens (json_of entries board.now)))) }
+{
+    let mut text = json(heap, entries, board)?;
+    text.push('\n')?;
+    Ok(text)
+}
+
 /// What is reported about a board.
 fn look_at<A: Allocator + Copy>(
     heap: A,
@@ -88,7 +105,7 @@ fn look_at<A: Allocator + Copy>(
     let board = script.board();
     match view {
         View::Graph => Ok(done(graph(heap, board)?)),
-        View::Json => Ok(done(json(heap, script.entries(), board)?)),
+        View::Json => Ok(done(json_line(heap, script.entries(), board)?)),
         View::Groups { steps } => Ok(done(groups(heap, board, steps)?)),
         View::Choose { steps } => sought(heap, board, names, steps),
     }

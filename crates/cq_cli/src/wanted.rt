@@ -65,7 +65,8 @@ Beside these, a line may ask about the published board: `count`, `status NAME..`
 several lines ends with `end`. `quit` ends the board, as the end of the input does.
 
 With --json each line, blank ones too, is answered by one JSON object with its number, in a line of its own: {\"line\":7,\"ok\":5},
-{\"line\":9,\"refused\":\"Shape\",\"at\":57}.
+{\"line\":9,\"refused\":\"Shape\",\"at\":57}. What a line asks is answered by data:
+{\"line\":11,\"status\":[{\"name\":\"kramer\",\"state\":\"matched\"}]}.
 
 A line that needs more memory than there is, or than --memory allows, is answered `refused Memory`. It changes nothing, and the
 board goes on.

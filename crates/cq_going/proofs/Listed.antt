@@ -55,16 +55,16 @@ read_mapped f (y ∷ xs) zero x got = let same : y ≡ x = cc in ap (λ z. Some 
 read_mapped f (y ∷ xs) (suc i) x got = read_mapped f xs i x got
 
 -- one more number, and what is told of it
-pub numbers_step : {X : Type 0} (T : ℕ → List ℕ → Type 0) (xs : List X) (i : ℕ) (text next piece : List ℕ) → i < length xs
+pub numbers_step : {X Y : Type 0} (T : ℕ → List Y → Type 0) (xs : List X) (i : ℕ) (text next piece : List Y) → i < length xs
     → ArePieces (λ p. T p.0) (take i (enumerate_from 0 xs)) text → T i piece → next ≡ text ++ piece → ArePieces (λ p. T p.0) (take (i + 1) (enumerate_from 0 xs)) next
 numbers_step T [] i text next piece low so_far one is = absurd (omega arith)
-numbers_step {X} T (x ∷ xs) i text next piece low so_far one is =
+numbers_step {X} {Y} T (x ∷ xs) i text next piece low so_far one is =
     let long = length_enumerated 0 (x ∷ xs) in
     pieces_step (λ (p : ℕ × X). T p.0) (enumerate_from 0 (x ∷ xs)) i (0 + i, x) text next piece (omega (arith, long, low)) so_far
     (subst (λ (p : ℕ × X). T p.0 piece) (sym (get_enumerated 0 (x ∷ xs) i x low)) (let at : i ≡ 0 + i = omega arith in subst (λ (n : ℕ). T n piece) at one)) is
 
 -- what is told of numbers is told of those of another list that is as long
-pub numbers_alike : {X Y : Type 0} (T : ℕ → List ℕ → Type 0) (n : ℕ) (xs : List X) (ys : List Y) (text : List ℕ) → length xs ≡ length ys
+pub numbers_alike : {X Y Z : Type 0} (T : ℕ → List Z → Type 0) (n : ℕ) (xs : List X) (ys : List Y) (text : List Z) → length xs ≡ length ys
     → ArePieces (λ p. T p.0) (enumerate_from n xs) text → ArePieces (λ p. T p.0) (enumerate_from n ys) text
 numbers_alike T n [] [] text same told = told
 numbers_alike T n [] (y ∷ ys) text same told = cc

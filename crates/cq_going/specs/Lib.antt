@@ -1,4 +1,5 @@
 pub mod Reasons
 pub mod Going
 pub mod Grouping
+pub mod Data
 pub mod Steps

@@ -19,13 +19,14 @@ use std::alloc::{AllocError, Allocator};
 
 /// What is known of the pending queries, by their places in posting order.
 #[derive(Drop)]
-struct Grouped<'b, A: Allocator> {
-    names: Vec<&'b Name<A>, A>,
-    matched: Vec<bool, A>,
-    labels: Vec<usize, A>,
+pub(crate) struct Grouped<'b, A: Allocator> {
+    pub(crate) names: Vec<&'b Name<A>, A>,
+    pub(crate) matched: Vec<bool, A>,
+    pub(crate) labels: Vec<usize, A>,
 }
 
-fn is_matched<A: Allocator + Copy>(board: &Board<A>, name: &Name<A>) -> bool
+/// Whether a query of that name is pending and matched.
+pub(crate) fn is_matched<A: Allocator + Copy>(board: &Board<A>, name: &Name<A>) -> bool
     ensures { result ≡ is_yes (matched_named name.now board.now) }
 {
     match board.is_matched(name) {
@@ -102,7 +103,7 @@ fn add_name<A: Allocator + Copy>(
 }
 
 /// The names of the queries of a group.
-fn names_labelled<A: Allocator + Copy>(
+pub(crate) fn names_labelled<A: Allocator + Copy>(
     alloc: A,
     grouped: &Grouped<'_, A>,
     label: usize,
@@ -117,7 +118,7 @@ fn names_labelled<A: Allocator + Copy>(
 }
 
 /// Whether some coordinating choice has all of the queries, in words.
-fn verdict<A: Allocator + Copy>(
+pub(crate) fn verdict<A: Allocator + Copy>(
     alloc: A,
     board: &Board<A>,
     names: &[Name<A>],
@@ -184,7 +185,10 @@ fn put_groups<A: Allocator + Copy>(
 }
 
 /// The pending queries, with the label of the group of each.
-fn group_all<A: Allocator + Copy>(alloc: A, board: &Board<A>) -> Result<Grouped<'_, A>, AllocError>
+pub(crate) fn group_all<A: Allocator + Copy>(
+    alloc: A,
+    board: &Board<A>,
+) -> Result<Grouped<'_, A>, AllocError>
     ensures names { IfOk result (λ grouped. map (λ name. name.now) grouped.names.items ≡ map name_of board.now.pending) }
     ensures matched { IfOk result (λ grouped. grouped.matched.items ≡ matched_flags board.now) }
     ensures labels { IfOk result (λ grouped. AreLabels (links_between (matched_flags board.now) (edges_of board.now.pending)) (length board.now.pending) grouped.labels.items) }

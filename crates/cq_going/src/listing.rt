@@ -13,14 +13,14 @@ use cq_text::push_values;
 use std::alloc::{AllocError, Allocator};
 
 /// The query that is chosen for.
-fn name_of<A: Allocator>(choice: &Choice<A>) -> &Name<A>
+pub(crate) fn name_of<A: Allocator>(choice: &Choice<A>) -> &Name<A>
     ensures { result.now ≡ choice.now.name }
 {
     &choice.name
 }
 
 /// The values that are chosen.
-fn values_of<A: Allocator>(choice: &Choice<A>) -> &[Value<A>]
+pub(crate) fn values_of<A: Allocator>(choice: &Choice<A>) -> &[Value<A>]
     ensures { result.now ≡ choice.now.values }
 {
     choice.values.as_slice()

@@ -48,7 +48,7 @@ fn put_value<A: Allocator>(page: &mut String<A>, value: &Value<A>) -> Result<(),
 }
 
 /// The value of the variable of that name, where it has one.
-fn value_of<'a, A: Allocator>(
+pub(crate) fn value_of<'a, A: Allocator>(
     query: &Query<A>,
     values: &'a [Value<A>],
     name: &str,

@@ -47,7 +47,7 @@ pub(crate) fn put_all_barred<A: Allocator + Copy>(
 }
 
 /// Whether the link leads from a matched query to that postcondition of the query of that name.
-fn leads_there<A: Allocator + Copy>(
+pub(crate) fn leads_there<A: Allocator + Copy>(
     board: &Board<A>,
     name: &Name<A>,
     post: usize,
@@ -76,14 +76,14 @@ fn put_if_there<A: Allocator>(
 }
 
 /// The head of that number.
-fn head_of<'a, A: Allocator>(query: &'a Query<A>, head: u8) -> Option<&'a Atom<A>>
+pub(crate) fn head_of<'a, A: Allocator>(query: &'a Query<A>, head: u8) -> Option<&'a Atom<A>>
     ensures { option_copied result ≡ slice_get query.now.heads head }
 {
     query.heads().get(usize::from(head))
 }
 
 /// The postcondition of that number.
-fn post_of<'a, A: Allocator>(query: &'a Query<A>, post: usize) -> Option<&'a Atom<A>>
+pub(crate) fn post_of<'a, A: Allocator>(query: &'a Query<A>, post: usize) -> Option<&'a Atom<A>>
     ensures { option_copied result ≡ slice_get query.now.posts post }
 {
     query.posts().get(post)

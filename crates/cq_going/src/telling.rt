@@ -36,7 +36,7 @@ pub struct Told<A: Allocator = Global> {
 }
 
 /// Looks for a coordinating choice that has the queries of these names; where there is none of them, for one that has as many as are reached.
-fn sought_for<A: Allocator + Copy>(
+pub(crate) fn sought_for<A: Allocator + Copy>(
     alloc: A,
     board: &Board<A>,
     names: &[Name<A>],

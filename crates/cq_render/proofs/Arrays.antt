@@ -18,6 +18,10 @@ listed_at f xs i x got = ap (listed f) (ahead xs i x got)
 pub listed_of : {X Y : Type 0} (f : Y → Json) (h : X → Y) (xs : List X) (i : ℕ) (x : X) → slice_get xs i ≡ Some x → listed f (map h (drop i xs)) ≡ json_tokens (f (h x)) ++ listed f (map h (drop (i + 1) xs))
 listed_of f h xs i x got = ap (λ ys. listed f (map h ys)) (ahead xs i x got)
 
+-- the same of an element as it is read from the list
+pub listed_next : {X Y : Type 0} (f : Y → Json) (h : X → Y) (xs : List X) (i : ℕ) (d : X) → i < length xs → listed f (map h (drop i xs)) ≡ json_tokens (f (h (get_or xs i d))) ++ listed f (map h (drop (i + 1) xs))
+listed_next f h xs i d low = listed_of f h xs i (get_or xs i d) (got_at xs i d low)
+
 pub listed_numbered : {X : Type 0} (f : ℕ × X → Json) (xs : List X) (i : ℕ) (x : X) → slice_get xs i ≡ Some x
     → listed f (enumerate_from i (drop i xs)) ≡ json_tokens (f (i, x)) ++ listed f (enumerate_from (i + 1) (drop (i + 1) xs))
 listed_numbered f xs i x got = ap (λ ys. listed f (enumerate_from i ys)) (ahead xs i x got)

@@ -9,24 +9,24 @@ use Rattle.cq_board.specs.Pool.{PendingQuery, PoolRecord}
 use Rattle.cq_render.specs.Explain.{ArePieces, near_words, missing_words, IsExplanation, IsToldBy}
 use Rattle.cq_render.proofs.Pieces.{by_bool}
 
-pieces_more : {X : Type 0} (tells : X → List ℕ → Type 0) (xs : List X) (x : X) (text piece : List ℕ) → ArePieces tells xs text → tells x piece → ArePieces tells (xs ++ x ∷ []) (text ++ piece)
-pieces_more tells [] x text piece h k = (piece, [], k, refl, ap (λ (z : List ℕ). z ++ piece) h ∙ sym (append-nil piece))
+pieces_more : {X Y : Type 0} (tells : X → List Y → Type 0) (xs : List X) (x : X) (text piece : List Y) → ArePieces tells xs text → tells x piece → ArePieces tells (xs ++ x ∷ []) (text ++ piece)
+pieces_more tells [] x text piece h k = (piece, [], k, refl, ap (λ z. z ++ piece) h ∙ sym (append-nil piece))
 pieces_more tells (y ∷ xs) x text piece h k =
-    (h.0, h.1 ++ piece, h.2, pieces_more tells xs x h.1 piece h.3 k, ap (λ (z : List ℕ). z ++ piece) h.4 ∙ append_assoc h.0 h.1 piece)
+    (h.0, h.1 ++ piece, h.2, pieces_more tells xs x h.1 piece h.3 k, ap (λ z. z ++ piece) h.4 ∙ append_assoc h.0 h.1 piece)
 
 -- one more piece
-pub pieces_step : {X : Type 0} (tells : X → List ℕ → Type 0) (xs : List X) (i : ℕ) (d : X) (text next piece : List ℕ) → i < length xs
+pub pieces_step : {X Y : Type 0} (tells : X → List Y → Type 0) (xs : List X) (i : ℕ) (d : X) (text next piece : List Y) → i < length xs
     → ArePieces tells (take i xs) text → tells (get_or xs i d) piece → next ≡ text ++ piece → ArePieces tells (take (i + 1) xs) next
-pieces_step {X} tells xs i d text next piece low so_far one is =
-    subst (λ (t : List ℕ). ArePieces tells (take (i + 1) xs) t) (sym is)
+pieces_step {X} {Y} tells xs i d text next piece low so_far one is =
+    subst (λ (t : List Y). ArePieces tells (take (i + 1) xs) t) (sym is)
     (subst (λ (ys : List X). ArePieces tells ys (text ++ piece)) (sym (take_more xs i d low)) (pieces_more tells (take i xs) (get_or xs i d) text piece so_far one))
 
 -- the same of elements as they are read
-pub pieces_at : {X Y : Type 0} (tells : Y → List ℕ → Type 0) (read : X → Y) (xs : List X) (i : ℕ) (d : X) (text next piece : List ℕ) → i < length xs
+pub pieces_at : {X Y Z : Type 0} (tells : Y → List Z → Type 0) (read : X → Y) (xs : List X) (i : ℕ) (d : X) (text next piece : List Z) → i < length xs
     → ArePieces tells (map read (take i xs)) text → tells (read (get_or xs i d)) piece → next ≡ text ++ piece → ArePieces tells (map read (take (i + 1) xs)) next
-pieces_at {X} {Y} tells read xs i d text next piece low so_far one is =
+pieces_at {X} {Y} {Z} tells read xs i d text next piece low so_far one is =
     let split : map read (take (i + 1) xs) ≡ map read (take i xs) ++ read (get_or xs i d) ∷ [] = ap (map read) (take_more xs i d low) ∙ map-append read (take i xs) (get_or xs i d ∷ []) in
-    subst (λ (t : List ℕ). ArePieces tells (map read (take (i + 1) xs)) t) (sym is)
+    subst (λ (t : List Z). ArePieces tells (map read (take (i + 1) xs)) t) (sym is)
     (subst (λ (ys : List Y). ArePieces tells ys (text ++ piece)) (sym split) (pieces_more tells (map read (take i xs)) (read (get_or xs i d)) text piece so_far one))
 
 -- edges that pass two tests one after the other pass both

@@ -19,10 +19,10 @@ use Rattle.cq_board.specs.Near.{post_named, misses_named, miss_named, AreNearest
 use Rattle.cq_board.specs.Waiting.{is_waiting, IsReasonPart}
 use Rattle.cq_render.specs.Report.{line}
 
--- A text is made of pieces, one for each element of a list, in its order, which tells that element.
-abbrev pub ArePieces : {X : Type 0} → (X → List ℕ → Type 0) → List X → List ℕ → Type 0
+-- A text, or another list, is made of pieces, one for each element of a list, in its order, which tells that element.
+abbrev pub ArePieces : {X Y : Type 0} → (X → List Y → Type 0) → List X → List Y → Type 0
 ArePieces tells [] text = text ≡ []
-ArePieces tells (x ∷ xs) text = (piece : List ℕ) × (rest : List ℕ) × tells x piece × ArePieces tells xs rest × (text ≡ piece ++ rest)
+ArePieces {X} {Y} tells (x ∷ xs) text = (piece : List Y) × (rest : List Y) × tells x piece × ArePieces tells xs rest × (text ≡ piece ++ rest)
 
 -- The atom in its printed form, or nothing where there is none.
 abbrev pub atom_or_none : Option AtomRecord → List ℕ

@@ -3,4 +3,5 @@ pub mod Report
 pub mod Explain
 pub mod Graph
 pub mod Json
+pub mod Data
 pub mod Steps

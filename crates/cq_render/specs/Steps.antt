@@ -2,3 +2,4 @@
 pub mod Falls
 pub mod Walking
 pub mod Numbering
+pub mod Telling

@@ -37,6 +37,7 @@ fn put_number<A: Allocator>(sheet: &mut JsonText<A>, number: i64) -> Result<(), 
     }
 }
 
+/// Puts a value: a number where all readers keep it, and else a text.
 fn put_value<A: Allocator>(sheet: &mut JsonText<A>, value: &Value<A>) -> Result<(), AllocError>
     ensures { OnOk result (sheet.new ≡ sheet.old ++ json_tokens (value_json value.now)) }
 {
@@ -49,7 +50,11 @@ fn put_value<A: Allocator>(sheet: &mut JsonText<A>, value: &Value<A>) -> Result<
     }
 }
 
-fn put_variable<A: Allocator>(sheet: &mut JsonText<A>, name: &str) -> Result<(), AllocError>
+/// Puts a term that is a variable, by its name.
+///
+/// # Errors
+/// `AllocError` where an allocation failed. The sheet may then have a part of it.
+pub fn put_variable<A: Allocator>(sheet: &mut JsonText<A>, name: &str) -> Result<(), AllocError>
     ensures { OnOk result (sheet.new ≡ sheet.old ++ json_tokens (term_json (Variable name.now))) }
 {
     sheet.begin_object()?;
@@ -67,7 +72,14 @@ fn constant_word<A: Allocator>(value: &Value<A>) -> &'static str
     }
 }
 
-fn put_constant<A: Allocator>(sheet: &mut JsonText<A>, value: &Value<A>) -> Result<(), AllocError>
+/// Puts a term that is a constant, by what it is.
+///
+/// # Errors
+/// `AllocError` where an allocation failed. The sheet may then have a part of it.
+pub fn put_constant<A: Allocator>(
+    sheet: &mut JsonText<A>,
+    value: &Value<A>,
+) -> Result<(), AllocError>
     ensures { OnOk result (sheet.new ≡ sheet.old ++ json_tokens (term_json (Constant value.now))) }
 {
     sheet.begin_object()?;
@@ -99,16 +111,27 @@ fn put_terms<A: Allocator>(sheet: &mut JsonText<A>, terms: &[Term<A>]) -> Result
     sheet.end_array()
 }
 
-/// Puts the beginning of an object: the members that an atom has.
-fn begin_atom<A: Allocator>(sheet: &mut JsonText<A>, atom: &Atom<A>) -> Result<(), AllocError>
-    ensures { OnOk result (sheet.new ≡ sheet.old ++ begin_object ∷ key (codes "relation") ∷ string atom.now.relation ∷ key (codes "terms") ∷ json_tokens (array_of (map term_json atom.now.terms))) }
+/// Puts the members that an atom has.
+pub(crate) fn put_atom_members<A: Allocator>(
+    sheet: &mut JsonText<A>,
+    atom: &Atom<A>,
+) -> Result<(), AllocError>
+    ensures { OnOk result (sheet.new ≡ sheet.old ++ key (codes "relation") ∷ string atom.now.relation ∷ key (codes "terms") ∷ json_tokens (array_of (map term_json atom.now.terms))) }
 {
-    sheet.begin_object()?;
     sheet.text_member("relation", atom.relation())?;
     sheet.key("terms")?;
     put_terms(sheet, atom.terms())
 }
 
+/// Puts the beginning of an object: the members that an atom has.
+fn begin_atom<A: Allocator>(sheet: &mut JsonText<A>, atom: &Atom<A>) -> Result<(), AllocError>
+    ensures { OnOk result (sheet.new ≡ sheet.old ++ begin_object ∷ key (codes "relation") ∷ string atom.now.relation ∷ key (codes "terms") ∷ json_tokens (array_of (map term_json atom.now.terms))) }
+{
+    sheet.begin_object()?;
+    put_atom_members(sheet, atom)
+}
+
+/// Puts an atom: its relation, and its terms in order.
 fn put_atom<A: Allocator>(sheet: &mut JsonText<A>, atom: &Atom<A>) -> Result<(), AllocError>
     ensures { OnOk result (sheet.new ≡ sheet.old ++ json_tokens (atom_json atom.now)) }
 {
@@ -249,8 +272,14 @@ fn put_variables<A: Allocator>(
     sheet.end_array()
 }
 
-/// Puts the values of a grounding.
-fn put_values<A: Allocator>(sheet: &mut JsonText<A>, values: &[Value<A>]) -> Result<(), AllocError>
+/// Puts values in an array, as of a grounding: each number that all readers keep is one, and all else a text.
+///
+/// # Errors
+/// `AllocError` where an allocation failed. The sheet may then have a part of it.
+pub fn put_values<A: Allocator>(
+    sheet: &mut JsonText<A>,
+    values: &[Value<A>],
+) -> Result<(), AllocError>
     ensures { OnOk result (sheet.new ≡ sheet.old ++ json_tokens (grounding_json values.now)) }
 {
     sheet.begin_array()?;
@@ -307,7 +336,7 @@ fn put_grounded<A: Allocator>(
 }
 
 /// Puts the query.
-fn put_query<A: Allocator + Copy>(
+pub(crate) fn put_query<A: Allocator + Copy>(
     alloc: A,
     sheet: &mut JsonText<A>,
     listing: &Listing<'_, A>,

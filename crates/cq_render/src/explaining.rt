@@ -26,14 +26,74 @@ use std::alloc::{AllocError, Allocator};
 /// What a board lists, the heads by relation and arity, the number of each name, and the parts of the falls of the queries that
 /// wait.
 #[derive(Drop)]
-struct Fallen<'l, 'b, A: Allocator> {
-    listing: &'l Listing<'b, A>,
-    heads: &'l Heads<'b, A>,
+pub(crate) struct Fallen<'l, 'b, A: Allocator> {
+    pub(crate) listing: &'l Listing<'b, A>,
+    pub(crate) heads: &'l Heads<'b, A>,
     numbers: &'l Numbers<'b, A>,
-    parts: &'l Parts<'l, A>,
+    pub(crate) parts: &'l Parts<'l, A>,
     ghost offered: { heads.now ≡ listing.now.board.now },
     ghost numbered: { (name : List ℕ) → get_by (λ k. bytes_eq name k.now) numbers.now ≡ place_of name listing.now.board.now.pending },
     ghost linked: { parts.now.edges ≡ edges_of listing.now.board.now.pending },
+}
+
+/// What a board is looked at for once, before it is told why its queries wait: what it lists, the heads by relation and arity, all
+/// falls, and the number of each name.
+#[derive(Drop)]
+pub(crate) struct Looked<'b, A: Allocator> {
+    listing: Listing<'b, A>,
+    heads: Heads<'b, A>,
+    falls: Vec<Fall, A>,
+    numbers: Numbers<'b, A>,
+    ghost offered: { heads ≡ listing.board.now },
+    ghost numbered: { (name : List ℕ) → get_by (λ k. bytes_eq name k.now) numbers ≡ place_of name listing.board.now.pending },
+}
+
+/// Looks at a board.
+pub(crate) fn look<'b, A: Allocator + Copy>(
+    alloc: A,
+    board: &'b Board<A>,
+) -> Result<Looked<'b, A>, AllocError>
+    ensures listing { IfOk result (λ looked. looked.listing.board.now ≡ board.now) }
+    ensures fell { IfOk result (λ looked. AreFalls looked.listing.board.now looked.falls.items) }
+{
+    let listing = walk(alloc, board)?;
+    let heads = board.heads()?;
+    let falls = board.falls()?;
+    let numbers = numbers_of(alloc, &listing)?;
+    Ok(Looked {
+        listing,
+        heads,
+        falls,
+        numbers,
+    })
+}
+
+impl<'b, A: Allocator + Copy> Looked<'b, A> {
+    /// The parts of the falls.
+    pub(crate) fn parts<'l>(&'l self, alloc: A) -> Result<Parts<'l, A>, AllocError>
+        requires { AreFalls self.now.listing.board.now self.now.falls.items }
+        ensures edges { IfOk result (λ parts. parts.edges ≡ edges_of self.now.listing.board.now.pending) }
+        ensures falls { IfOk result (λ parts. parts.falls ≡ self.now.falls.items) }
+    {
+        Parts::begin(alloc, &self.listing.edges, &self.falls)
+    }
+}
+
+/// What was looked at, with the parts of the falls.
+pub(crate) fn fallen_of<'l, 'b, A: Allocator>(
+    looked: &'l Looked<'b, A>,
+    parts: &'l Parts<'l, A>,
+) -> Fallen<'l, 'b, A>
+    requires { parts.now.edges ≡ edges_of looked.now.listing.board.now.pending }
+    ensures board { result.listing.now.board.now ≡ looked.now.listing.board.now }
+    ensures parts { result.parts.now ≡ parts.now }
+{
+    Fallen {
+        listing: &looked.listing,
+        heads: &looked.heads,
+        numbers: &looked.numbers,
+        parts,
+    }
 }
 
 /// The atom in its printed form; nothing where there is none.
@@ -50,7 +110,7 @@ fn atom_words<A: Allocator + Copy>(
 }
 
 /// The head of the pending query of that name, counted from 0.
-fn head_of<'a, A: Allocator + Copy>(
+pub(crate) fn head_of<'a, A: Allocator + Copy>(
     board: &'a Board<A>,
     name: &Name<A>,
     head: u8,
@@ -62,7 +122,7 @@ fn head_of<'a, A: Allocator + Copy>(
 }
 
 /// The postcondition of the pending query of that name, counted from 0.
-fn post_of<'a, A: Allocator + Copy>(
+pub(crate) fn post_of<'a, A: Allocator + Copy>(
     board: &'a Board<A>,
     name: &Name<A>,
     post: u8,
@@ -172,7 +232,7 @@ fn senders<A: Allocator>(alloc: A, edges: &[Edge]) -> Result<Vec<usize, A>, Allo
 }
 
 /// The numbers of the providers of a postcondition, each once.
-fn providers_of<A: Allocator + Copy>(
+pub(crate) fn providers_of<A: Allocator + Copy>(
     alloc: A,
     fallen: &Fallen<'_, '_, A>,
     waiter: usize,
@@ -187,7 +247,7 @@ fn providers_of<A: Allocator + Copy>(
 }
 
 /// The names of the queries of these numbers.
-fn names_of<'a, A: Allocator>(
+pub(crate) fn names_of<'a, A: Allocator>(
     alloc: A,
     listing: &Listing<'a, A>,
     numbers: &[usize],
@@ -311,7 +371,7 @@ fn put_steps<A: Allocator + Copy>(
 }
 
 /// The part of the falls that tells why the query of that number waits.
-fn part_of<A: Allocator + Copy>(
+pub(crate) fn part_of<A: Allocator + Copy>(
     fallen: &Fallen<'_, '_, A>,
     number: usize,
 ) -> Result<Vec<Fall, A>, AllocError>
@@ -343,7 +403,7 @@ fn waiting_words<A: Allocator + Copy>(
     format!(in alloc; "{name} waits\n{steps}")
 }
 
-fn is_waiting<A: Allocator + Copy>(board: &Board<A>, name: &Name<A>) -> bool
+pub(crate) fn is_waiting<A: Allocator + Copy>(board: &Board<A>, name: &Name<A>) -> bool
     ensures { result ≡ is_waiting name.now board.now }
 {
     match board.is_matched(name) {
@@ -368,7 +428,7 @@ fn settled_words<A: Allocator + Copy>(
 }
 
 /// The number of the query of that name.
-fn number_of<A: Allocator>(fallen: &Fallen<'_, '_, A>, wanted: &Name<A>) -> Option<usize>
+pub(crate) fn number_of<A: Allocator>(fallen: &Fallen<'_, '_, A>, wanted: &Name<A>) -> Option<usize>
     ensures { result ≡ place_of wanted.now fallen.now.listing.now.board.now.pending }
 {
     fallen.numbers.get(wanted.as_str()).copied()
@@ -432,35 +492,52 @@ fn put_words<A: Allocator + Copy>(
 ) -> Result<(), AllocError>
     ensures { string_bytes page.old ≡ [] → OnOk result (ArePieces (IsTold board.now) (map (λ word. word.now) words.now) (string_bytes page.new)) }
 {
-    let listing = walk(alloc, board)?;
-    let heads = board.heads()?;
-    let falls = board.falls()?;
-    let numbers = numbers_of(alloc, &listing)?;
-    let parts = Parts::begin(alloc, &listing.edges, &falls)?;
-    let fallen = Fallen {
-        listing: &listing,
-        heads: &heads,
-        numbers: &numbers,
-        parts: &parts,
-    };
-    put_told(alloc, &fallen, words, page)
+    let looked = look(alloc, board)?;
+    let parts = looked.parts(alloc)?;
+    put_told(alloc, &fallen_of(&looked, &parts), words, page)
 }
 
 /// Those of the names under which queries wait.
-fn waiting<'a, A: Allocator + Copy>(
+pub(crate) fn waiting<'a, A: Allocator + Copy>(
     alloc: A,
     board: &Board<A>,
     names: &[&'a Name<A>],
-) -> Result<Vec<&'a str, A>, AllocError>
+) -> Result<Vec<&'a Name<A>, A>, AllocError>
     ensures { IfOk result (λ waiting. map (λ name. name.now) waiting.items ≡ filter (λ name. is_waiting name board.now) (map (λ name. name.now) names.now)) }
 {
     let mut waiting = Vec::new(alloc);
     for name in names {
         if is_waiting(board, name) {
-            waiting.push(name.as_str())?;
+            waiting.push(*name)?;
         }
     }
     Ok(waiting)
+}
+
+/// The names as words.
+fn words_of<'a, A: Allocator>(
+    alloc: A,
+    names: &[&'a Name<A>],
+) -> Result<Vec<&'a str, A>, AllocError>
+    ensures { IfOk result (λ words. map (λ word. word.now) words.items ≡ map (λ name. name.now) names.now) }
+{
+    let mut words = Vec::with_capacity(alloc, names.len())?;
+    for name in names {
+        words.push(name.as_str())?;
+    }
+    Ok(words)
+}
+
+/// Why the queries of these names wait.
+fn explain_each<A: Allocator + Copy>(
+    alloc: A,
+    board: &Board<A>,
+    names: &[&Name<A>],
+) -> Result<String<A>, AllocError>
+    ensures { IfOk result (λ text. ArePieces (IsTold board.now) (map (λ name. name.now) names.now) (string_bytes text)) }
+{
+    let words = words_of(alloc, names)?;
+    explain_named(alloc, board, &words)
 }
 
 /// Why queries of a board wait, told of each of the words in their order. Of a name under which a query waits it is a line
@@ -491,7 +568,7 @@ pub fn explain<A: Allocator + Copy>(alloc: A, board: &Board<A>) -> Result<String
 {
     let names = board.names()?;
     let waiting = waiting(alloc, board, &names)?;
-    explain_named(alloc, board, &waiting)
+    explain_each(alloc, board, &waiting)
 }
 
 /// Why the queries of these names wait; where there is no name, all that wait.

@@ -3,15 +3,20 @@
 ghost use Rattle.std.specs.Prelude.{◌≡◌, ◌++◌, ◌∷◌, [], codes, decimal, string_bytes, IfOk, OnOk};
 ghost use Rattle.std.specs.Fmt.{signed_decimal};
 ghost use Rattle.json.specs.Print.{print};
-ghost use Rattle.json.specs.Token.{begin_object, end_object, begin_array, end_array, key, string, number, boolean};
+ghost use Rattle.json.specs.Token.{begin_object, end_object, begin_array, end_array, key, string, number, boolean, null};
+ghost use Rattle.json.specs.Tree.{json_tokens};
+ghost use Rattle.cq_render.specs.Data.{total};
 
+use crate::limits::MOST_KEPT;
+use itoa::Buffer;
 use json::Writer;
 use std::alloc::{AllocError, Allocator};
 use std::marker::Model;
 
-/// JSON so far. Contracts see its tokens.
+/// JSON so far, without spaces and ends of lines. Contracts see its tokens. What puts something after it answers `AllocError` where
+/// an allocation failed; the text may then have a part of it.
 #[derive(Drop)]
-pub(crate) struct JsonText<A: Allocator> {
+pub struct JsonText<A: Allocator> {
     writer: Writer<A>,
 }
 
@@ -29,7 +34,8 @@ impl<A: Allocator> Model for JsonText<A> {
 }
 
 impl<A: Allocator> JsonText<A> {
-    pub(crate) fn begin(alloc: A) -> JsonText<A>
+    /// Nothing yet. This takes no memory.
+    pub fn begin(alloc: A) -> JsonText<A>
         ensures { result ≡ [] }
     {
         JsonText {
@@ -38,7 +44,7 @@ impl<A: Allocator> JsonText<A> {
     }
 
     /// The text.
-    pub(crate) fn into_text(self) -> String<A>
+    pub fn into_text(self) -> String<A>
         ensures { string_bytes result ≡ print self }
     {
         let JsonText { writer } = self;
@@ -49,37 +55,43 @@ impl<A: Allocator> JsonText<A> {
         }
     }
 
-    pub(crate) fn begin_object(&mut self) -> Result<(), AllocError>
+    /// Puts the bracket that opens an object. Its members follow, each a key and a value, and [`JsonText::end_object`].
+    pub fn begin_object(&mut self) -> Result<(), AllocError>
         ensures { OnOk result (self.new ≡ self.old ++ begin_object ∷ []) }
     {
         self.writer.begin_object()
     }
 
-    pub(crate) fn end_object(&mut self) -> Result<(), AllocError>
+    /// Puts the bracket that closes an object.
+    pub fn end_object(&mut self) -> Result<(), AllocError>
         ensures { OnOk result (self.new ≡ self.old ++ end_object ∷ []) }
     {
         self.writer.end_object()
     }
 
-    pub(crate) fn begin_array(&mut self) -> Result<(), AllocError>
+    /// Puts the bracket that opens an array. Its values follow, and [`JsonText::end_array`].
+    pub fn begin_array(&mut self) -> Result<(), AllocError>
         ensures { OnOk result (self.new ≡ self.old ++ begin_array ∷ []) }
     {
         self.writer.begin_array()
     }
 
-    pub(crate) fn end_array(&mut self) -> Result<(), AllocError>
+    /// Puts the bracket that closes an array.
+    pub fn end_array(&mut self) -> Result<(), AllocError>
         ensures { OnOk result (self.new ≡ self.old ++ end_array ∷ []) }
     {
         self.writer.end_array()
     }
 
-    pub(crate) fn key(&mut self, name: &str) -> Result<(), AllocError>
+    /// Puts the key of a member. Its value follows.
+    pub fn key(&mut self, name: &str) -> Result<(), AllocError>
         ensures { OnOk result (self.new ≡ self.old ++ key name.now ∷ []) }
     {
         self.writer.key(name)
     }
 
-    pub(crate) fn string(&mut self, text: &str) -> Result<(), AllocError>
+    /// Puts a text as a value.
+    pub fn string(&mut self, text: &str) -> Result<(), AllocError>
         ensures { OnOk result (self.new ≡ self.old ++ string text.now ∷ []) }
     {
         self.writer.string(text)
@@ -92,7 +104,7 @@ impl<A: Allocator> JsonText<A> {
         self.writer.u64(count as u64)
     }
 
-    /// Puts a member that says how many entries.
+    /// Puts the member that says how many entries of a journal it is of.
     pub(crate) fn entries_member(&mut self, entries: u64) -> Result<(), AllocError>
         ensures { OnOk result (self.new ≡ self.old ++ key (codes "entries") ∷ number (decimal entries) ∷ []) }
     {
@@ -100,6 +112,26 @@ impl<A: Allocator> JsonText<A> {
         self.writer.u64(entries)
     }
 
+    /// Puts how many as a text.
+    fn quoted_total(&mut self, count: u128) -> Result<(), AllocError>
+        ensures { OnOk result (self.new ≡ self.old ++ string (decimal count) ∷ []) }
+    {
+        let mut digits = Buffer::new();
+        self.string(digits.format(count))
+    }
+
+    /// Puts how many, where that may be more than all readers keep: then it is a text.
+    pub fn total(&mut self, count: u128) -> Result<(), AllocError>
+        ensures { OnOk result (self.new ≡ self.old ++ json_tokens (total count)) }
+    {
+        if count <= u128::from(MOST_KEPT) {
+            self.writer.u64(count as u64)
+        } else {
+            self.quoted_total(count)
+        }
+    }
+
+    /// Puts a number, whether all readers keep it or not.
     pub(crate) fn number(&mut self, n: i64) -> Result<(), AllocError>
         ensures { OnOk result (self.new ≡ self.old ++ number (signed_decimal n) ∷ []) }
     {
@@ -113,14 +145,22 @@ impl<A: Allocator> JsonText<A> {
         self.writer.quoted_i64(n)
     }
 
-    pub(crate) fn boolean(&mut self, holds: bool) -> Result<(), AllocError>
+    /// Puts whether something holds.
+    pub fn boolean(&mut self, holds: bool) -> Result<(), AllocError>
         ensures { OnOk result (self.new ≡ self.old ++ boolean holds ∷ []) }
     {
         self.writer.boolean(holds)
     }
 
+    /// Puts that there is no value.
+    pub fn null(&mut self) -> Result<(), AllocError>
+        ensures { OnOk result (self.new ≡ self.old ++ null ∷ []) }
+    {
+        self.writer.null()
+    }
+
     /// Puts a member that is a text.
-    pub(crate) fn text_member(&mut self, name: &str, text: &str) -> Result<(), AllocError>
+    pub fn text_member(&mut self, name: &str, text: &str) -> Result<(), AllocError>
         ensures { OnOk result (self.new ≡ self.old ++ key name.now ∷ string text.now ∷ []) }
     {
         self.key(name)?;
@@ -128,7 +168,7 @@ impl<A: Allocator> JsonText<A> {
     }
 
     /// Puts a member that says how many.
-    pub(crate) fn count_member(&mut self, name: &str, count: usize) -> Result<(), AllocError>
+    pub fn count_member(&mut self, name: &str, count: usize) -> Result<(), AllocError>
         ensures { OnOk result (self.new ≡ self.old ++ key name.now ∷ number (decimal count) ∷ []) }
     {
         self.key(name)?;

@@ -34,14 +34,17 @@ catalog_word catalogs.Declared = codes "Declared"
 catalog_word catalogs.CatalogFull = codes "CatalogFull"
 catalog_word catalogs.NoMemory = codes "Memory"
 
+-- What came of a line of a setup.
 abbrev pub prepared_data : Prepared → List ℕ
 prepared_data Accepted = codes ",\"ok\":true"
 prepared_data Late = refused (codes "Late")
 prepared_data (Undeclared fault) = refused (catalog_word fault)
 
+-- A line is no command: the fault, and the byte at which it was found.
 abbrev pub fault_data : Kind → ℕ → List ℕ
 fault_data kind offset = refused (kind_word kind) ++ codes ",\"at\":" ++ decimal offset
 
+-- Why an edit is refused.
 abbrev pub why_data : Why → List ℕ
 why_data PoolFull = refused (codes "PoolFull")
 why_data NameTaken = refused (codes "NameTaken")
@@ -65,6 +68,7 @@ answer_data shown (Published p) = codes ",\"published\":" ++ decimal p
 answer_data shown (Looked p) = codes ",\"board\":" ++ print (json_tokens (json_of p shown))
 answer_data shown (Heard p) = []
 
+-- What came of an event; nothing where it has no answer.
 abbrev pub event_data : PoolRecord → Result (Answer Why) StepFault → List ℕ
 event_data shown (Ok answer) = answer_data shown answer
 event_data shown (Err fault) = []

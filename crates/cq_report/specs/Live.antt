@@ -10,8 +10,8 @@ use Rattle.cq_report.specs.Reply.{refused_line}
 use Rattle.cq_report.specs.Data.{refused}
 use Rattle.cq_report.specs.Machine.{State, form_in, next, counted, numbered, reply, begin_state, serving_of}
 use Rattle.cq_ask.specs.Ask.{AskRecord, asked, is_quit}
-use Rattle.cq_ask.specs.declared.ask.AskKind.{AskKind}
-use Rattle.cq_ask.specs.Answer.{IsTold, ending, member_told}
+use Rattle.cq_ask.specs.Answer.{FloorRecord, IsTold, ending}
+use Rattle.cq_ask.specs.Data.{IsMember}
 use Rattle.cq_report.specs.declared.numbering.Numbering.{Numbering}
 use Rattle.cq_report.specs.declared.numbering.Numbering.TheVariants.{Plain, Numbered, Json}
 
@@ -33,16 +33,20 @@ memory_told Plain = refused_line (codes "Memory")
 memory_told Numbered = refused_line (codes "Memory")
 memory_told Json = refused (codes "Memory")
 
--- What is told of what is asked, in lines, or as a member of a JSON object.
-abbrev pub ask_told : Numbering → AskKind → List ℕ → List ℕ
-ask_told Plain kind told = told ++ ending kind
-ask_told Numbered kind told = told ++ ending kind
-ask_told Json kind told = member_told kind told
+-- What is asked is answered in lines.
+abbrev pub IsAnswer : FloorRecord → ℕ → AskRecord → List ℕ → Type 0
+IsAnswer floor before ask told = (text : List ℕ) × IsTold floor before ask text × (told ≡ text ++ ending ask.kind)
+
+-- What is asked is answered, in lines, or by a member of a JSON object.
+abbrev pub IsAskTold : Numbering → FloorRecord → ℕ → AskRecord → List ℕ → Type 0
+IsAskTold Plain floor before ask told = IsAnswer floor before ask told
+IsAskTold Numbered floor before ask told = IsAnswer floor before ask told
+IsAskTold Json floor before ask told = IsMember floor before ask told
 
 -- A line that does not ask is served as it is read in this state; one that asks has an answer of what is published. An allocation may fail at any line.
 abbrev pub IsTurn : Life → List ℕ → Turn → Type 0
 IsTurn life line (Served reading) = (life.is_over ≡ false) × (asked line ≡ None) × IsReading (form_in life.state) line reading
-IsTurn life line (Asked ask told) = (life.is_over ≡ false) × (asked line ≡ Some ask) × IsTold (serving_of life.state.stage) life.state.before ask told
+IsTurn life line (Asked ask told) = (life.is_over ≡ false) × (asked line ≡ Some ask) × IsAskTold life.state.numbering (serving_of life.state.stage) life.state.before ask told
 IsTurn life line OutOfMemory = life.is_over ≡ false
 IsTurn life line Unheard = life.is_over ≡ true
 
@@ -56,7 +60,7 @@ turned life Unheard = life
 -- The reply to a line.
 abbrev pub turn_reply : Life → Turn → List ℕ
 turn_reply life (Served reading) = reply life.state reading
-turn_reply life (Asked ask told) = numbered life.state.numbering life.state.lines (ask_told life.state.numbering ask.kind told)
+turn_reply life (Asked ask told) = numbered life.state.numbering life.state.lines told
 turn_reply life OutOfMemory = numbered life.state.numbering life.state.lines (memory_told life.state.numbering)
 turn_reply life Unheard = []
 

@@ -55,6 +55,7 @@ begin_setup = record { catalog = []; limits = record { pool = pool_limit; journa
 abbrev pub begin_stage : Staged
 begin_stage = Setup begin_setup
 
+-- Before the first line.
 abbrev pub begin_state : Numbering → State
 begin_state numbering = record { numbering = numbering; lines = 0; heading = None; stage = begin_stage; before = 0 }
 
@@ -175,6 +176,7 @@ one_more Plain lines = lines
 one_more Numbered lines = lines + 1
 one_more Json lines = lines + 1
 
+-- A line was counted, where lines are.
 abbrev pub counted : State → State
 counted state = record state { lines = one_more state.numbering state.lines }
 

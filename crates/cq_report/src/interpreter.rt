@@ -2,6 +2,7 @@
 
 ghost use Rattle.std.specs.Prelude.{◌≡◌, string_bytes, OnErr, IfOk};
 ghost use Rattle.cq_ask.specs.Answer.{IsTold};
+ghost use Rattle.cq_ask.specs.Data.{IsMember};
 ghost use Rattle.cq_desk.specs.declared.event.Event.TheVariants.{Enter};
 ghost use Rattle.cq_report.specs.Reading.{Reads};
 ghost use Rattle.cq_report.specs.Reply.{Prepares};
@@ -15,7 +16,7 @@ use crate::reply::{Prepared, ReplyLine, prepared_line};
 use crate::said::Said;
 use crate::setup::Setup;
 use crate::stage::Stage;
-use cq_ask::{Ask, tell};
+use cq_ask::{Ask, tell, tell_data};
 use cq_atom::{Edit, Name};
 use cq_desk::Event;
 use cq_text::{Command, CommandKind, Form, SetupLine};
@@ -116,6 +117,19 @@ impl<A: Allocator + Copy> Interpreter<A> {
                 tell(self.alloc, &floor, before, ask)
             }
             Stage::Serving(floor) => tell(self.alloc, floor, before, ask),
+        }
+    }
+
+    /// The same, as a member of a JSON object.
+    pub(crate) fn tell_data(&self, before: u64, ask: &Ask<A>) -> Result<String<A>, AllocError>
+        ensures { IfOk result (λ text. IsMember (serving_of self.now) before ask.now (string_bytes text)) }
+    {
+        match &self.stage {
+            Stage::Setup(setup) => {
+                let floor = open(self.alloc, setup.copy()?)?;
+                tell_data(self.alloc, &floor, before, ask)
+            }
+            Stage::Serving(floor) => tell_data(self.alloc, floor, before, ask),
         }
     }
 

@@ -2,11 +2,11 @@
 
 ghost use Rattle.std.specs.Prelude.{◌≡◌, ◌<◌, ◌≤◌, ◌+◌, ◌^◌, List, ℕ, [], string_bytes, OnOk, OnErr, IfOk, IfErr};
 ghost use Rattle.cq_ask.specs.Ask.{asked};
-ghost use Rattle.cq_ask.specs.Answer.{IsTold};
+ghost use Rattle.cq_ask.specs.Data.{IsMember};
 ghost use Rattle.cq_report.specs.Reading.{Reading, Reads, IsReading};
 ghost use Rattle.cq_report.specs.Reply.{Misread};
 ghost use Rattle.cq_report.specs.Machine.{begin_state, numbered, form_in, served, spoken, one_more, counted, unnumbered, before_after, next, reply, serving_of};
-ghost use Rattle.cq_report.specs.Live.{memory_told, ask_told};
+ghost use Rattle.cq_report.specs.Live.{memory_told, IsAnswer, IsAskTold};
 ghost use Rattle.cq_report.specs.Run.{IfMemory};
 ghost use Rattle.cq_report.specs.Steps.Living.{IsAnswered};
 ghost use Rattle.cq_report.specs.Steps.Replies.{UnlessStarved, fault_of_reply};
@@ -22,7 +22,7 @@ use crate::numbering::Numbering;
 use crate::output::Output;
 use crate::reply::{ReplyLine, fault_line, memory_line};
 use crate::said::{Said, Spoken};
-use cq_ask::{Ask, ending, member_told, read_ask};
+use cq_ask::{Ask, ending, read_ask};
 use cq_devices::Sink;
 use cq_text::{Command, CommandKind, Form, Kind, TextFault, read_command};
 use std::alloc::{AllocError, Allocator};
@@ -56,26 +56,6 @@ fn memory_told(numbering: Numbering) -> ReplyLine
     match numbering {
         Numbering::Json => ReplyLine::just(",\"refused\":\"Memory\""),
         Numbering::Plain | Numbering::Numbered => memory_line(),
-    }
-}
-
-/// What is told of what is asked: this text.
-fn ask_told<A: Allocator + Copy>(
-    alloc: A,
-    numbering: Numbering,
-    ask: &Ask<A>,
-    text: String<A>,
-) -> Result<Said<A>, AllocError>
-    ensures { IfOk result (λ said. said ≡ ask_told numbering ask.now.kind (string_bytes text)) }
-{
-    match numbering {
-        Numbering::Json => {
-            let member = member_told(alloc, ask.kind(), text.as_str())?;
-            Ok(Said::of_text("", member, ""))
-        }
-        Numbering::Plain | Numbering::Numbered => {
-            Ok(Said::of_text("", text, ending(ask.kind())))
-        }
     }
 }
 
@@ -237,13 +217,38 @@ impl<A: Allocator + Copy> Machine<A> {
         read_ask(self.alloc, line)
     }
 
+    /// The answer to what is asked, of what is published, in lines.
+    fn tell_lines(&self, ask: &Ask<A>) -> Result<Said<A>, AllocError>
+        ensures { IfOk result (λ said. IsAnswer (serving_of self.now.stage) self.now.before ask.now said) }
+    {
+        let text = self.interpreter.tell(self.before, ask)?;
+        Ok(Said::of_text("", text, ending(ask.kind())))
+    }
+
+    /// The same, as a member of a JSON object.
+    fn tell_data(&self, ask: &Ask<A>) -> Result<Said<A>, AllocError>
+        ensures { IfOk result (λ said. IsMember (serving_of self.now.stage) self.now.before ask.now said) }
+    {
+        let text = self.interpreter.tell_data(self.before, ask)?;
+        Ok(Said::of_text("", text, ""))
+    }
+
+    /// The answer to what is asked, of what is published.
+    fn tell_either(&self, ask: &Ask<A>) -> Result<Said<A>, AllocError>
+        ensures { IfOk result (λ said. IsAskTold self.now.numbering (serving_of self.now.stage) self.now.before ask.now said) }
+    {
+        match self.numbering {
+            Numbering::Json => self.tell_data(ask),
+            Numbering::Plain | Numbering::Numbered => self.tell_lines(ask),
+        }
+    }
+
     /// The reply to what is asked, of what is published.
     pub(crate) fn tell(&self, ask: &Ask<A>) -> Result<Spoken<A>, AllocError>
         requires { lines_before self.now < 2 ^ 100 }
         ensures { IfOk result (λ spoken. IsAnswered self.now ask.now spoken) }
     {
-        let text = self.interpreter.tell(self.before, ask)?;
-        let told = ask_told(self.alloc, self.numbering, ask, text)?;
+        let told = self.tell_either(ask)?;
         Ok(Spoken::numbered(self.numbering, self.lines, told))
     }
 

@@ -3,7 +3,7 @@
 ghost use Rattle.std.specs.Prelude.{◌≡◌, IfSome};
 ghost use Rattle.cq_ask.specs.Answer.{BeganEmpty};
 
-use cq_ask::{ending, member_told, read_ask, tell};
+use cq_ask::{ending, read_ask, tell, tell_data};
 use cq_board::{Board, Limits};
 use cq_desk::{Event, Floor};
 use cq_rel::Catalog;
@@ -35,43 +35,43 @@ const ASKED: &[Asked] = &[
         line: b"count",
         told: "queries 1 matched 0 waiting 1 rows 0 entries 1 unpublished 0\n",
         end: "",
-        member: ",\"answer\":\"queries 1 matched 0 waiting 1 rows 0 entries 1 unpublished 0\\n\"",
+        member: ",\"count\":{\"queries\":1,\"matched\":0,\"waiting\":1,\"rows\":0,\"entries\":1,\"unpublished\":0}",
     },
     Asked {
         line: b" status a\tb\r",
         told: "a waiting\nb absent\n",
         end: "end\n",
-        member: ",\"answer\":\"a waiting\\nb absent\\n\"",
+        member: ",\"status\":[{\"name\":\"a\",\"state\":\"waiting\"},{\"name\":\"b\",\"state\":\"absent\"}]",
     },
     Asked {
         line: b"query a",
         told: "query a waiting\n  text {R(1)} S(2) <-\n  post 0 providers 0\n  groundings 1 ()\n    ()\n",
         end: "end\n",
-        member: ",\"answer\":\"query a waiting\\n  text {R(1)} S(2) <-\\n  post 0 providers 0\\n  groundings 1 ()\\n    ()\\n\"",
+        member: ",\"query\":[{\"name\":\"a\",\"state\":\"waiting\",\"text\":\"{R(1)} S(2) <-\",\"heads\":[{\"relation\":\"S\",\"terms\":[{\"number\":2}]}],\"postconditions\":[{\"relation\":\"R\",\"terms\":[{\"number\":1}],\"providers\":[],\"crowded\":false}],\"body\":[],\"variables\":[],\"groundings\":[[]]}]",
     },
     Asked {
         line: b"explain b a",
         told: "a waits\n  a: post 0 R(1): no provider\nb is absent\n",
         end: "end\n",
-        member: ",\"answer\":\"a waits\\n  a: post 0 R(1): no provider\\nb is absent\\n\"",
+        member: ",\"explain\":[{\"name\":\"b\",\"state\":\"absent\"},{\"name\":\"a\",\"state\":\"waiting\",\"steps\":[{\"query\":\"a\",\"reason\":\"unmet\",\"post\":0,\"relation\":\"R\",\"terms\":[{\"number\":1}],\"providers\":[],\"near\":[]}]}]",
     },
     Asked {
         line: b"near b 0",
         told: "b is absent\n",
         end: "end\n",
-        member: ",\"answer\":\"b is absent\\n\"",
+        member: ",\"near\":[{\"name\":\"b\",\"state\":\"absent\",\"heads\":[]}]",
     },
     Asked {
         line: b"changes",
         told: "a came waiting\n",
         end: "end\n",
-        member: ",\"answer\":\"a came waiting\\n\"",
+        member: ",\"changes\":[{\"name\":\"a\",\"state\":\"waiting\",\"change\":\"came\"}]",
     },
     Asked {
         line: b"graph",
         told: "digraph board {\n  q0 [label=\"a\\nwaiting\", shape=box, style=dashed];\n  n0_0 [label=\"no provider\", shape=plaintext];\n  n0_0 -> q0 [label=\"post 0 R(1)\", style=dotted];\n}\n",
         end: "end\n",
-        member: ",\"answer\":\"digraph board {\\n  q0 [label=\\\"a\\\\nwaiting\\\", shape=box, style=dashed];\\n  n0_0 [label=\\\"no provider\\\", shape=plaintext];\\n  n0_0 -> q0 [label=\\\"post 0 R(1)\\\", style=dotted];\\n}\\n\"",
+        member: ",\"graph\":\"digraph board {\\n  q0 [label=\\\"a\\\\nwaiting\\\", shape=box, style=dashed];\\n  n0_0 [label=\\\"no provider\\\", shape=plaintext];\\n  n0_0 -> q0 [label=\\\"post 0 R(1)\\\", style=dotted];\\n}\\n\"",
     },
     Asked {
         line: b"json",
@@ -83,19 +83,19 @@ const ASKED: &[Asked] = &[
         line: b"choice a()",
         told: "not coordinating\n",
         end: "",
-        member: ",\"answer\":\"not coordinating\\n\"",
+        member: ",\"coordinating\":false",
     },
     Asked {
         line: b"choose a b",
         told: "none\n  a waits\n  b is absent\n",
         end: "end\n",
-        member: ",\"answer\":\"none\\n  a waits\\n  b is absent\\n\"",
+        member: ",\"choose\":{\"outcome\":\"none\",\"barred\":[{\"name\":\"a\",\"state\":\"waiting\"},{\"name\":\"b\",\"state\":\"absent\"}],\"lack\":null}",
     },
     Asked {
         line: b"groups",
         told: "",
         end: "end\n",
-        member: ",\"answer\":\"\"",
+        member: ",\"groups\":[]",
     },
     Asked {
         line: b"choice a(",
@@ -161,7 +161,7 @@ fn is_answered<A: Allocator + Copy>(
         return Ok(false);
     };
     let told = tell(alloc, floor, 0, &ask)?;
-    let member = member_told(alloc, ask.kind(), told.as_str())?;
+    let member = tell_data(alloc, floor, 0, &ask)?;
     Ok(
         told.as_str() == asked.told
             && member.as_str() == asked.member

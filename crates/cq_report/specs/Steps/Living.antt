@@ -7,9 +7,8 @@ use Rattle.cq_report.specs.declared.fault.LiveFault.{LiveFault}
 use Rattle.cq_report.specs.declared.fault.LiveFault.TheVariants as faults
 use Rattle.cq_report.specs.Lines.{lines_of, HasNoEnd}
 use Rattle.cq_ask.specs.Ask.{AskRecord}
-use Rattle.cq_ask.specs.Answer.{IsTold}
 use Rattle.cq_report.specs.Machine.{State, serving_of, numbered}
-use Rattle.cq_report.specs.Live.{Life, Turn, IsTurn, AreTurns, ask_told, turned, turn_reply, life_turned, replies_to}
+use Rattle.cq_report.specs.Live.{Life, Turn, IsTurn, AreTurns, IsAskTold, turned, turn_reply, life_turned, replies_to}
 use Rattle.cq_report.specs.Steps.Written.{Puts, Breaks}
 use Rattle.cq_report.specs.Steps.Kept.{kept}
 use Rattle.cq_report.specs.Steps.Serving.{HaveNoEnd, ended}
@@ -21,8 +20,8 @@ heard state = record { state = state; is_over = false }
 -- What is asked in a state has this reply.
 pub record IsAnswered (state : State) (ask : AskRecord) (reply : List ℕ) : Type 0 where
   pub told : List ℕ
-  pub is_told : IsTold (serving_of state.stage) state.before ask told
-  pub is : reply ≡ numbered state.numbering state.lines (ask_told state.numbering ask.kind told)
+  pub is_told : IsAskTold state.numbering (serving_of state.stage) state.before ask told
+  pub is : reply ≡ numbered state.numbering state.lines told
 
 -- A line has this reply, and leaves this board.
 pub record Replies (state state' : Life) (line reply : List ℕ) : Type 0 where

@@ -1,4 +1,4 @@
-use Rattle.std.proofs.Common.{◌≡◌, ◌+◌, ℕ, List, true, false, length, map, get_or, refl, sym, ap, ◌∙◌, arith}
+use Rattle.std.proofs.Common.{◌≡◌, ℕ, true, false, length, map, get_or, refl, sym, ap, ◌∙◌, arith}
 use Rattle.std.specs.List.{between}
 use Rattle.cq_ask.specs.Choices.{is_gap}
 use Rattle.cq_ask.proofs.Words.{begun-none, begun-part, begun-word, begun-all}

@@ -1,21 +1,13 @@
-use Rattle.std.proofs.Common.{◌≡◌, ◌++◌, ◌∷◌, [], ℕ, List, map, subst}
-use Rattle.std.specs.Prelude.{codes, OnOk}
+use Rattle.std.proofs.Common.{◌∷◌, [], map}
+use Rattle.std.specs.Prelude.{codes}
 use Rattle.json.specs.Token.{begin_object, key, string}
 use Rattle.json.specs.Tree.{json_tokens}
-use Rattle.cq_atom.specs.Atom.{TermContent}
 use Rattle.cq_render.specs.Json.{array_of, term_json}
-use Rattle.cq_render.proofs.Pages.{put_both, put_then}
+use Rattle.cq_render.proofs.Pages.{put_then}
 use Rattle.cq_render.proofs.data.begin_atom.Goals as goal
 
 pub returns : goal.returns
 returns g c =
-    let old = c.args.sheet.now in
     let atom = c.args.atom.now in
-    let one = begin_object ∷ [] in
-    let two = key (codes "relation") ∷ string atom.relation ∷ [] in
-    let three = key (codes "terms") ∷ [] in
-    let named = subst (λ (name : List ℕ). c.text_member.new.self ≡ c.begin_object.new.self ++ key (codes "relation") ∷ string name ∷ []) c.relation.ensures.value c.in_ok-text_member.ensures in
-    put_then old c.key.new.self c.put_terms.new.sheet ((one ++ two) ++ three) (json_tokens (array_of (map term_json atom.terms))) c.put_terms.result
-    (put_both old c.text_member.new.self c.key.new.self (one ++ two) three
-    (put_both old c.begin_object.new.self c.text_member.new.self one two c.in_ok-begin_object.ensures named) c.in_ok-key.ensures)
-    (subst (λ (terms : List TermContent). OnOk c.put_terms.result (c.put_terms.new.sheet ≡ c.key.new.self ++ json_tokens (array_of (map term_json terms)))) c.terms.ensures.value c.put_terms.ensures)
+    put_then c.args.sheet.now c.begin_object.new.self c.put_atom_members.new.sheet (begin_object ∷ []) (key (codes "relation") ∷ string atom.relation ∷ key (codes "terms") ∷ json_tokens (array_of (map term_json atom.terms)))
+    c.put_atom_members.result c.in_ok-begin_object.ensures c.put_atom_members.ensures

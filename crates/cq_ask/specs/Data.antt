@@ -1,0 +1,94 @@
+-- What is answered to lines that ask, as JSON. (this project's profile)
+use Rattle.std.specs.Prelude.{◌≡◌, ℕ, ◌-◌, Bool, true, false, map, List, [], ◌∷◌, ◌++◌, length, codes, Option, Some, None}
+use Rattle.std.specs.List.{flat_map}
+use Rattle.json.specs.Json.{Json, boolean, string}
+use Rattle.json.specs.Tree.{json_tokens}
+use Rattle.json.specs.Print.{print}
+use Rattle.cq_board.specs.Pool.{PoolRecord, name_of}
+use Rattle.cq_board.specs.Named.{matched_named, matched_names}
+use Rattle.cq_render.specs.Graph.{graph}
+use Rattle.cq_render.specs.Json.{array_of, object_of, json_of}
+use Rattle.cq_render.specs.Data.{IsArray, IsNearOf, AreReasonsJson, total, standing_members, standing_json, named_json}
+use Rattle.cq_going.specs.Data.{IsSoughtJson, AreGroupsJson}
+use Rattle.cq_ask.specs.declared.ask.AskKind.{AskKind}
+use Rattle.cq_ask.specs.declared.ask.AskKind.TheVariants.{Count, Status, Query, Explain, Near, Choice, Choose, Groups, Changes, Graph, Json as AsJson, Help, Quit, Unfit}
+use Rattle.cq_ask.specs.Ask.{AskRecord}
+use Rattle.cq_ask.specs.Answer.{FloorRecord, published_pool, floor_at, row_count, help_text, IsVerdict}
+use Rattle.cq_ask.specs.Choices.{choice_words}
+
+-- The queries, those that are matched, the others, and the rows of the published pool; the entries that are published, and those that are not yet.
+abbrev pub count_json : FloorRecord → Json
+count_json floor =
+    let pool = published_pool floor in
+    object_of (
+    (codes "queries", total (length pool.pending))
+    ∷ (codes "matched", total (length (matched_names pool)))
+    ∷ (codes "waiting", total (length pool.pending - length (matched_names pool)))
+    ∷ (codes "rows", total (row_count pool.tables))
+    ∷ (codes "entries", total floor.machine.published)
+    ∷ (codes "unpublished", total (length floor.machine.journal - floor.machine.published))
+    ∷ [])
+
+-- ---- changes
+
+-- A name, what became of it, and how that came.
+abbrev pub change_json : PoolRecord → List ℕ → List ℕ → Json
+change_json now name word = object_of (standing_members now name ++ (codes "change", string word) ∷ [])
+
+-- A query went, if none is pending under its name.
+abbrev pub went_json : PoolRecord → List ℕ → Option Bool → List Json
+went_json now name None = change_json now name (codes "went") ∷ []
+went_json now name (Some matched) = []
+
+-- How a query that is pending changed, by whether it was pending and matched before, and whether it is matched.
+abbrev pub change_word : Option Bool → Option Bool → Option (List ℕ)
+change_word None (Some matched) = Some (codes "came")
+change_word (Some true) (Some false) = Some (codes "turned")
+change_word (Some false) (Some true) = Some (codes "turned")
+change_word before now = None
+
+abbrev pub changed_json : PoolRecord → List ℕ → Option (List ℕ) → List Json
+changed_json now name None = []
+changed_json now name (Some word) = change_json now name word ∷ []
+
+-- The queries of the pool before that went, and then those that came or turned, each in posting order.
+abbrev pub changes_json : PoolRecord → PoolRecord → Json
+changes_json before now = array_of (
+    flat_map (λ name. went_json now name (matched_named name now)) (map name_of before.pending)
+    ++ flat_map (λ name. changed_json now name (change_word (matched_named name before) (matched_named name now))) (map name_of now.pending))
+
+-- ---- what is told
+
+-- The verdict on choices: whether they coordinate; or the words do not fit.
+abbrev pub verdict_json : Option Bool → List ℕ × Json
+verdict_json (Some coordinates) = (codes "coordinating", boolean coordinates)
+verdict_json None = (codes "refused", string (codes "Words"))
+
+-- The member, a name and a value, tells what is asked of the floor and its pool; before the last publish so many entries were published.
+abbrev pub IsMemberOf : FloorRecord → PoolRecord → ℕ → AskKind → List (List ℕ) → List ℕ → List ℕ × Json → Type 0
+IsMemberOf floor pool before Count names choices told = told ≡ (codes "count", count_json floor)
+IsMemberOf floor pool before Status names choices told = told ≡ (codes "status", array_of (map (standing_json pool) names))
+IsMemberOf floor pool before Query names choices told = told ≡ (codes "query", array_of (map (named_json pool) names))
+IsMemberOf floor pool before Explain names choices told = (reasons : Json) × AreReasonsJson pool names reasons × (told ≡ (codes "explain", reasons))
+IsMemberOf floor pool before (Near post) names choices told = (near : Json) × IsArray (IsNearOf pool post) names near × (told ≡ (codes "near", near))
+IsMemberOf floor pool before Choice names choices told = (verdict : Option Bool) × IsVerdict pool (choice_words choices) verdict × (told ≡ verdict_json verdict)
+IsMemberOf floor pool before Choose names choices told = (sought : Json) × IsSoughtJson pool names sought × (told ≡ (codes "choose", sought))
+IsMemberOf floor pool before Groups names choices told = (groups : Json) × AreGroupsJson pool groups × (told ≡ (codes "groups", groups))
+IsMemberOf floor pool before Changes names choices told = told ≡ (codes "changes", changes_json (published_pool (floor_at floor before)) pool)
+IsMemberOf floor pool before Graph names choices told = told ≡ (codes "graph", string (graph pool))
+IsMemberOf floor pool before AsJson names choices told = told ≡ (codes "board", json_of floor.machine.published pool)
+IsMemberOf floor pool before Help names choices told = told ≡ (codes "help", string help_text)
+IsMemberOf floor pool before Quit names choices told = told ≡ (codes "quit", boolean true)
+IsMemberOf floor pool before Unfit names choices told = told ≡ verdict_json None
+
+-- A member of an object that has others before it.
+abbrev pub member_text : List ℕ × Json → List ℕ
+member_text member = codes ",\"" ++ member.0 ++ codes "\":" ++ print (json_tokens member.1)
+
+-- The text is a member that is so.
+abbrev pub IsToldAs : (List ℕ × Json → Type 0) → List ℕ → Type 0
+IsToldAs is_so text = (told : List ℕ × Json) × is_so told × (text ≡ member_text told)
+
+-- The text is a member that tells what is asked, of the pool that the floor publishes.
+abbrev pub IsMember : FloorRecord → ℕ → AskRecord → List ℕ → Type 0
+IsMember floor before ask text = IsToldAs (IsMemberOf floor (published_pool floor) before ask.kind ask.names ask.text) text
