@@ -3,10 +3,18 @@
 #![tactic(auto)]
 
 #[cfg(test)]
+mod allocations;
+#[cfg(test)]
+mod calls;
+#[cfg(test)]
 mod desk;
 #[cfg(test)]
 mod lines;
 #[cfg(test)]
+mod met;
+#[cfg(test)]
 mod room;
+#[cfg(test)]
+mod states;
 #[cfg(test)]
 mod tally;

@@ -1,8 +1,7 @@
 //! Boards, and edits that are read from lines.
 
-use cq_atom::{Edit, Value};
-use cq_board::{Board, Limits, Why};
-use cq_desk::Live;
+use cq_atom::Edit;
+use cq_board::{Board, Limits};
 use cq_rel::Catalog;
 use cq_text::{CommandKind, Form, read_command};
 use std::alloc::{AllocError, Allocator};
@@ -18,6 +17,8 @@ pub enum Line {
     OneWay,
     /// Posts a query that waits for [`Line::OneWay`].
     OtherWay,
+    /// Posts the query `c`, which waits for nobody.
+    Third,
     /// A flight to Paris comes.
     Paris,
     /// Posts the query `k` for such a flight.
@@ -39,18 +40,16 @@ impl Line {
             Line::Other => "post b {} R(1) <-",
             Line::OneWay => "post a {R(2)} R(1) <-",
             Line::OtherWay => "post b {R(1)} R(2) <-",
+            Line::Third => "post c {} R(3) <-",
             Line::Paris => "insert Flights(122, Paris)",
             Line::Asked => "post k {} R(x) <- Flights(x, Paris)",
             Line::NoParis => "delete Flights(122, Paris)",
             Line::Rome => "insert Flights(122, Rome)",
-            Line::RowOne => "insert R(1)",
-            Line::RowTwo => "insert R(2)",
+            Line::RowOne => "insert T(1)",
+            Line::RowTwo => "insert T(2)",
         }
     }
 }
-
-/// The relations of a board of flights, each with its arity.
-pub const FLIGHTS: [(&str, usize); 1] = [("Flights", 2)];
 
 /// The edit that a line of a script asks for; a line of no edit counts as out of memory.
 pub fn edit<A: Allocator + Copy>(alloc: A, line: Line) -> Result<Edit<A>, AllocError> {
@@ -60,36 +59,21 @@ pub fn edit<A: Allocator + Copy>(alloc: A, line: Line) -> Result<Edit<A>, AllocE
     }
 }
 
-/// The edits of the lines.
-pub fn edits<A: Allocator + Copy>(alloc: A, lines: &[Line]) -> Result<Vec<Edit<A>, A>, AllocError> {
-    let mut edits = Vec::new(alloc);
-    for line in lines {
-        edits.push(edit(alloc, *line)?)?;
-    }
-    Ok(edits)
-}
-
-/// The catalog of the relations; a refused one counts as out of memory.
-fn catalog<A: Allocator + Copy>(
-    alloc: A,
-    relations: &[(&str, usize)],
-) -> Result<Catalog<A>, AllocError> {
+/// The catalog of the relations that have rows.
+fn catalog<A: Allocator + Copy>(alloc: A) -> Result<Catalog<A>, AllocError> {
     let mut catalog = Catalog::empty(alloc);
-    for (relation, arity) in relations {
-        if catalog.declare(relation, *arity).is_err() {
+    for (relation, arity) in [("Flights", 2), ("T", 1)] {
+        // A refused one counts as out of memory.
+        if catalog.declare(relation, arity).is_err() {
             return Err(AllocError);
         }
     }
     Ok(catalog)
 }
 
-/// A board with these relations, without rows and queries, for so many queries.
-pub fn board<A: Allocator + Copy>(
-    alloc: A,
-    relations: &[(&str, usize)],
-    pool: usize,
-) -> Result<Board<A>, AllocError> {
-    let catalog = catalog(alloc, relations)?;
+/// A board without rows and queries, for so many queries.
+pub fn board<A: Allocator + Copy>(alloc: A, pool: usize) -> Result<Board<A>, AllocError> {
+    let catalog = catalog(alloc)?;
     Board::begin(alloc, catalog, Limits { pool, journal: 9 })
 }
 
@@ -112,44 +96,17 @@ pub fn stands_at<A: Allocator + Copy>(
         }
 }
 
-/// Whether no grounding of the first query is another than the flight 122.
-fn are_of_flight<A: Allocator + Copy>(board: &Board<A>) -> Option<bool> {
-    for values in board.groundings(board.name_at(0)?)?.list() {
-        match values.as_slice() {
-            [value] if value.as_num() == Some(122) => {}
-            _ => return Some(false),
-        }
+/// Whether the first grounding of the first query is the flight 122.
+fn is_flight<A: Allocator + Copy>(board: &Board<A>) -> Option<bool> {
+    let values = board.groundings(board.name_at(0)?)?.list().next()?;
+    match values.as_slice() {
+        [value] => Some(value.as_num() == Some(122)),
+        _ => None,
     }
-    Some(true)
 }
 
 /// Whether the query [`Line::Asked`] is matched, with the flight 122 as its one grounding, or waits, with none.
 pub fn is_grounded<A: Allocator + Copy>(board: &Board<A>, grounded: bool) -> bool {
-    stands_at(board, 0, "k", grounded, usize::from(grounded)) && are_of_flight(board) == Some(true)
-}
-
-/// Whether the first query has the flight 122 among its groundings.
-fn has_flight(board: &Board) -> Option<bool> {
-    let found = board.groundings(board.name_at(0)?)?;
-    Some(found.has(&[Value::num(122)]))
-}
-
-/// What is asked of a board. What drives a desk or a floor over one is generic in the state, since what is known of a desk
-/// over boards themselves would be too much.
-pub trait BoardLike: Live<Edit = Edit, Why = Why> {
-    /// How many rows the relation has.
-    fn rows(&self, relation: &str) -> Option<usize>;
-
-    /// Whether the query [`Line::Asked`] is matched, with the flight 122 as its one grounding, or waits, with none.
-    fn is_grounded(&self, grounded: bool) -> bool;
-}
-
-impl BoardLike for Board {
-    fn rows(&self, relation: &str) -> Option<usize> {
-        self.tables().count(relation)
-    }
-
-    fn is_grounded(&self, grounded: bool) -> bool {
-        is_grounded(self, grounded) && has_flight(self) == Some(grounded)
-    }
+    let flight = is_flight(board) == Some(true);
+    stands_at(board, 0, "k", grounded, usize::from(grounded)) && flight == grounded
 }

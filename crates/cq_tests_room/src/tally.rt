@@ -6,13 +6,13 @@ ghost use Rattle.cq_tests_room.specs.Tally.{full_of, pushed, full_keeps};
 use cq_desk::{Live, NoMemory};
 use std::alloc::{Allocator, Global};
 
-/// At most three bytes. An edit is a byte that comes after them.
+/// At most four bytes. An edit is a byte that comes after them.
 #[derive(Drop)]
 pub struct Tally<A: Allocator = Global> {
     bytes: Vec<u8, A>,
 }
 
-/// There are three bytes.
+/// There are four bytes.
 #[derive(Clone, Copy, PartialEq, Eq)]
 pub struct Full;
 
@@ -44,7 +44,7 @@ impl<A: Allocator + Copy> Live for Tally<A> {
     ghost after = { pushed };
 
     fn admit(&mut self, edit: &u8) -> Result<Option<Full>, NoMemory> {
-        if self.bytes.len() >= 3 {
+        if self.bytes.len() >= 4 {
             return Ok(Some(Full));
         }
         self.bytes.push(*edit)?;
@@ -61,11 +61,4 @@ impl<A: Allocator + Copy> Live for Tally<A> {
     }
 
     ghost refused = { full_keeps (record {}) };
-}
-
-/// A list of these bytes.
-pub fn list<A: Allocator + Copy>(alloc: A, bytes: &[u8]) -> Result<Vec<u8, A>, NoMemory> {
-    let mut list = Vec::new(alloc);
-    list.extend_from_slice(bytes)?;
-    Ok(list)
 }

@@ -1,6 +1,6 @@
-//! Tests of `cq_index`: the worked row, each public call once with ample memory, and each allocation refused in turn.
-//! Nothing but tests is here, and no crate stands on this one.
+//! Tests of `cq_index`: its calls, and tables of them.
 
-mod allocations;
 mod calls;
 mod rows;
+
+pub use rows::{CASES, TRIALS};

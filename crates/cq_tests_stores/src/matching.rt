@@ -1,11 +1,8 @@
 //! Tests of `cq_match`: worked graphs by calls, who falls and why, a ring and a chain of ten thousand nodes, and each allocation
-//! refused in turn. A matcher is tested after one that looks by itself whether a call is allowed
-//! (`guarded`), and beside plain lists of what it must have (`twin`, `listed`). Larger graphs are boards, which stand in
-//! the cases. Nothing but tests is here, and no crate stands on this one.
+//! refused in turn. A matcher is tested after one that looks by itself whether a call is allowed (`guarded`). Larger
+//! graphs are boards, which stand in the cases.
 
-mod allocations;
 mod calls;
-mod edges;
 mod graphs;
 mod guarded;
 mod large;
@@ -13,4 +10,7 @@ mod listed;
 mod parts;
 mod reasons;
 mod rows;
-mod twin;
+
+pub use graphs::{ASKED, GRAPHS, Scratch};
+pub use guarded::Guarded;
+pub use rows::{CASES, TRIALS};

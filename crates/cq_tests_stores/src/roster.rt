@@ -1,6 +1,6 @@
-//! Tests of `cq_roster`: each public call once with ample memory, and each allocation refused in turn.
-//! Nothing but tests is here, and no crate stands on this one.
+//! Tests of `cq_roster`: its calls, and tables of them.
 
-mod allocations;
 mod calls;
-mod orders;
+mod rows;
+
+pub use rows::{CASES, TRIALS};

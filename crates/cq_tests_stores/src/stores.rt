@@ -1,7 +1,9 @@
 //! Stores that tables of calls drive. What drives them is generic in the store, since what is known of a store that is
 //! owned would be too much.
 
+use crate::texts::command;
 use cq_tests_allocations::Outcome;
+use cq_text::Command;
 use std::alloc::{AllocError, Allocator};
 use std::mem::{drop, replace};
 
@@ -9,22 +11,15 @@ use std::mem::{drop, replace};
 pub trait Store<A: Allocator + Copy>: Drop {
     /// A call as a table has it, with what it is to show.
     type Call;
-    /// What a call is made with.
-    type Given: Drop;
 
     /// The store before the first call.
     fn begin(alloc: A) -> Result<Self, AllocError>;
 
-    /// What the call is made with.
-    fn given(alloc: A, call: &Self::Call) -> Result<Self::Given, AllocError>;
+    /// The text of the command that the call is made with, empty where there is none.
+    fn text(call: &Self::Call) -> &'static str;
 
-    /// Makes the call, and answers whether it is allowed and shows what it is to show.
-    fn make(
-        &mut self,
-        alloc: A,
-        call: &Self::Call,
-        given: &Self::Given,
-    ) -> Result<bool, AllocError>;
+    /// Makes the call with the command, and answers whether it is allowed and shows what it is to show.
+    fn make(&mut self, alloc: A, call: &Self::Call, given: &Command<A>) -> Result<bool, AllocError>;
 }
 
 /// What can be copied.
@@ -44,7 +39,7 @@ fn is_right<A: Allocator + Copy, S: Store<A>>(
     store: &mut S,
     call: &S::Call,
 ) -> Result<bool, AllocError> {
-    let given = S::given(alloc, call)?;
+    let given = command(alloc, S::text(call))?;
     store.make(alloc, call, &given)
 }
 
@@ -77,7 +72,7 @@ fn other_call<A: Allocator + Copy, S: Store<A>>(
 }
 
 /// The same of a store that begins.
-pub fn other_of<A: Allocator + Copy, S: Store<A>>(
+fn other_of<A: Allocator + Copy, S: Store<A>>(
     alloc: A,
     parts: &[&[S::Call]],
 ) -> Result<Option<(usize, usize)>, AllocError> {
@@ -85,14 +80,14 @@ pub fn other_of<A: Allocator + Copy, S: Store<A>>(
     other_call(alloc, &mut store, parts)
 }
 
-/// The same of cases, for each of which a store begins: the place of the case, and that in it.
+/// The same of cases, for each of which a store begins: the place of the case, that of the part, and that in it.
 pub fn other_case<A: Allocator + Copy, S: Store<A>>(
     alloc: A,
-    cases: &[&[S::Call]],
-) -> Result<Option<(usize, usize)>, AllocError> {
+    cases: &[&[&[S::Call]]],
+) -> Result<Option<(usize, usize, usize)>, AllocError> {
     for (place, case) in cases.iter().enumerate() {
-        if let Some((_, call)) = other_of::<A, S>(alloc, &[case])? {
-            return Ok(Some((place, call)));
+        if let Some((part, call)) = other_of::<A, S>(alloc, case)? {
+            return Ok(Some((place, part, call)));
         }
     }
     Ok(None)
@@ -112,7 +107,7 @@ fn outcome<A: Allocator + Copy, S: Store<A>>(
     alloc: A,
     store: &mut S,
     trial: &Trial<S::Call>,
-    given: &S::Given,
+    given: &Command<A>,
 ) -> Outcome {
     match store.make(alloc, &trial.tried, given) {
         Ok(right) => Outcome::done_if(
@@ -126,17 +121,27 @@ fn outcome<A: Allocator + Copy, S: Store<A>>(
     }
 }
 
+/// Whether the calls before it, and those that show what stands, are right.
+fn is_ready<A: Allocator + Copy, S: Store<A>>(
+    alloc: A,
+    store: &mut S,
+    trial: &Trial<S::Call>,
+) -> Result<bool, AllocError> {
+    Ok(
+        other_call(alloc, store, trial.before)?.is_none()
+            && other_call(alloc, store, trial.shown)?.is_none(),
+    )
+}
+
 fn tried_behind<A: Allocator + Copy, S: Store<A>>(
     alloc: A,
     store: &mut S,
     trial: &Trial<S::Call>,
 ) -> Result<Outcome, AllocError> {
-    if other_call(alloc, store, trial.before)?.is_some()
-        || other_call(alloc, store, trial.shown)?.is_some()
-    {
+    if !is_ready(alloc, store, trial)? {
         return Ok(Outcome::Wrong);
     }
-    let given = S::given(alloc, &trial.tried)?;
+    let given = command(alloc, S::text(&trial.tried))?;
     Ok(outcome(alloc, store, trial, &given))
 }
 

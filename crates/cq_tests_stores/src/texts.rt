@@ -1,63 +1,45 @@
-//! Queries, rows, names and atoms of texts, for calls that are made with them. A text of none counts as out of memory.
+//! What calls are made with: commands, which are read from texts.
 
-use cq_atom::{Atom, Bad, Name, Query, Row, Term, Value};
-use cq_text::{Form, read_ground_atom, read_query};
-use std::alloc::{AllocError, Allocator, Global};
+use cq_atom::{Atom, EditKind, Name, Query, Row};
+use cq_text::{Command, CommandKind, Form, read_command};
+use std::alloc::{AllocError, Allocator};
 
-/// What a call is made with.
-#[derive(Drop)]
-pub enum Given<A: Allocator = Global> {
-    Query(Query<A>),
-    Row(Row<A>),
-    Name(Name<A>),
-    Atom(Atom<A>),
-    Nothing,
-}
-
-pub fn query<A: Allocator + Copy>(alloc: A, text: &str) -> Result<Given<A>, AllocError> {
-    match read_query(alloc, text.as_bytes(), Form::One) {
-        Ok(query) => Ok(Given::Query(query)),
+/// The command of the text; a text of none counts as out of memory.
+pub fn command<A: Allocator + Copy>(alloc: A, text: &str) -> Result<Command<A>, AllocError> {
+    match read_command(alloc, text.as_bytes(), Form::One) {
+        Ok(command) => Ok(command),
         Err(_) => Err(AllocError),
     }
 }
 
-pub fn row<A: Allocator + Copy>(alloc: A, text: &str) -> Result<Given<A>, AllocError> {
-    match read_ground_atom(alloc, text.as_bytes(), Form::One) {
-        Ok(row) => Ok(Given::Row(row)),
-        Err(_) => Err(AllocError),
+/// The query that is posted.
+pub fn query_of<A: Allocator>(command: &Command<A>) -> Option<&Query<A>> {
+    match command {
+        CommandKind::Edit(EditKind::Post { query, .. }) => Some(query),
+        _ => None,
     }
 }
 
-pub fn name<A: Allocator + Copy>(alloc: A, text: &str) -> Result<Given<A>, AllocError> {
-    match Name::new(alloc, text) {
-        Ok(name) => Ok(Given::Name(name)),
-        Err(_) => Err(AllocError),
+/// The first atom of the body of the query that is posted.
+pub fn atom_of<A: Allocator>(command: &Command<A>) -> Option<&Atom<A>> {
+    match query_of(command) {
+        Some(query) => query.body().first(),
+        None => None,
     }
 }
 
-/// A number as a constant, any other word as a variable.
-fn term<A: Allocator + Copy>(alloc: A, word: &str) -> Result<Term<A>, Bad> {
-    match word.parse::<i64>() {
-        Ok(number) => Ok(Term::constant(Value::num(number))),
-        Err(_) => Term::variable(alloc, word),
+/// The row that is inserted.
+pub fn row_of<A: Allocator>(command: &Command<A>) -> Option<&Row<A>> {
+    match command {
+        CommandKind::Edit(EditKind::Insert { row }) => Some(row),
+        _ => None,
     }
 }
 
-fn terms<A: Allocator + Copy>(alloc: A, words: &[&str]) -> Result<Vec<Term<A>, A>, Bad> {
-    let mut terms = Vec::new(alloc);
-    for word in words {
-        terms.push(term(alloc, word)?)?;
-    }
-    Ok(terms)
-}
-
-/// The atom of `R` over the words.
-pub fn atom<A: Allocator + Copy>(alloc: A, words: &[&str]) -> Result<Given<A>, AllocError> {
-    let Ok(terms) = terms(alloc, words) else {
-        return Err(AllocError);
-    };
-    match Atom::new(alloc, "R", terms) {
-        Ok(atom) => Ok(Given::Atom(atom)),
-        Err(_) => Err(AllocError),
+/// The name whose query is withdrawn.
+pub fn name_of<A: Allocator>(command: &Command<A>) -> Option<&Name<A>> {
+    match command {
+        CommandKind::Edit(EditKind::Withdraw { name }) => Some(name),
+        _ => None,
     }
 }

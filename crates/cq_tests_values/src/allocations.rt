@@ -2,202 +2,60 @@
 //!
 //! Names and texts of up to 22 bytes take no memory, and so longer ones stand here.
 
-use crate::samples::{ONE, Sample, X, Y, atom, query, row};
-use cq_atom::{Atom, Bad, Name, Query, Row, Term, Valuation, Value};
+use crate::queries::has;
+use crate::samples::{ONE, Sample, query, row};
+use cq_atom::{Atom, Bad, Edit, EditKind, Name, Query, Row, Term, Valuation, Value};
 use cq_tests_allocations::{Outcome, Tried, refusals};
 use std::alloc::{AllocError, Allocator};
 
-fn is_good<A: Allocator>(made: Result<Query<A>, Bad>) -> bool {
-    match made {
-        Ok(query) => query.variables().len() == 2,
-        Err(_) => false,
-    }
-}
-
-/// A query made of its parts.
-struct Making;
-
-impl Tried for Making {
-    fn tried<A: Allocator + Copy>(alloc: A) -> Outcome {
-        match query(alloc, 1, 2, 2) {
-            Ok(made) => Outcome::done_if(made.variables().len() == 2),
-            Err(bad) => Outcome::refused_if(bad == Bad::NoMemory && is_good(query(alloc, 1, 2, 2))),
-        }
-    }
-}
-
-#[test]
-fn failed_allocation_in_constructors(rt: HostRuntime) {
-    assert!(rt; matches!(refusals::<Making>(rt.alloc()), Ok(11..)));
-}
-
-/// A copy of a query.
-struct Copying;
-
-fn copied<A: Allocator + Copy>(query: &Query<A>) -> Outcome {
-    match query.copy() {
-        Ok(copy) => Outcome::done_if(copy.variables().len() == 2),
-        Err(_) => Outcome::refused_if(query.copy().is_ok()),
-    }
-}
-
-impl Tried for Copying {
-    fn tried<A: Allocator + Copy>(alloc: A) -> Outcome {
-        match query(alloc, 1, 2, 2) {
-            Ok(made) => copied(&made),
-            Err(_) => Outcome::Unready,
-        }
-    }
-}
-
-#[test]
-fn failed_allocation_in_copies(rt: HostRuntime) {
-    // A copy shares what the query holds.
-    assert!(rt; refusals::<Copying>(rt.alloc()) == Ok(0));
-}
-
-/// A name, a text and a row made.
-struct MakingRow;
-
 const CITY: &str = "Rome, the city on seven hills";
 
-const ROME: Sample = Sample::Text(CITY);
-
 const LONG_NAME: &str = "kramer_who_flies_to_Rome_1";
+
+const ROME_AND_ONE: [Sample; 2] = [Sample::Text(CITY), ONE];
+
+/// What some calls told: whether each came out right, or why it was refused. How many were refused memory, where the
+/// others came out right.
+fn refused(told: &[Result<bool, Bad>]) -> Option<u8> {
+    let mut count = 0u8;
+    for one in told {
+        match one {
+            Ok(true) => {}
+            Err(Bad::NoMemory) => count = count.saturating_add(1),
+            _ => return None,
+        }
+    }
+    Some(count)
+}
+
+/// A name, a row and a query made, and a variable bound.
+struct Making;
+
+fn makes_name<A: Allocator + Copy>(alloc: A) -> Result<bool, Bad> {
+    Ok(Name::new(alloc, LONG_NAME)?.as_str() == LONG_NAME)
+}
+
+fn is_rome<A: Allocator>(value: &Value<A>) -> bool {
+    value.as_text() == Some(CITY)
+}
 
 /// Whether the values are Rome and 1.
 fn are_rome<A: Allocator>(values: &[Value<A>]) -> bool {
     match values {
-        [city, number] => city.as_text() == Some(CITY) && number.as_num() == Some(1),
+        [city, number] => is_rome(city) && number.as_num() == Some(1),
         _ => false,
     }
 }
 
 fn makes_row<A: Allocator + Copy>(alloc: A) -> Result<bool, Bad> {
-    let name = Name::new(alloc, LONG_NAME)?;
-    let made = row(alloc, "T", [ROME, ONE].as_slice())?;
-    Ok(name.as_str() == LONG_NAME && are_rome(made.values()))
+    let made = row(alloc, "T", ROME_AND_ONE.as_slice())?;
+    Ok(are_rome(made.values()))
 }
 
-impl Tried for MakingRow {
-    fn tried<A: Allocator + Copy>(alloc: A) -> Outcome {
-        match makes_row(alloc) {
-            Ok(right) => Outcome::done_if(right),
-            Err(bad) => Outcome::refused_if(bad == Bad::NoMemory && makes_row(alloc) == Ok(true)),
-        }
-    }
+fn makes_query<A: Allocator + Copy>(alloc: A) -> Result<bool, Bad> {
+    let made = query(alloc, 1, 2, 2)?;
+    Ok(has(&made, 1, 2, 2))
 }
-
-#[test]
-fn failed_allocation_in_rows(rt: HostRuntime) {
-    assert!(rt; matches!(refusals::<MakingRow>(rt.alloc()), Ok(4..)));
-}
-
-/// Copies of a name, a row, its first value and an atom.
-struct CopyingRow;
-
-fn copies_value<A: Allocator + Clone>(values: &[Value<A>]) -> Result<bool, AllocError> {
-    match values {
-        [city, _] => Ok(city.copy()?.as_text() == Some(CITY)),
-        _ => Ok(false),
-    }
-}
-
-fn copies<A: Allocator + Clone>(
-    name: &Name<A>,
-    row: &Row<A>,
-    atom: &Atom<A>,
-) -> Result<bool, AllocError> {
-    let name_copy = name.copy()?;
-    let row_copy = row.copy()?;
-    let atom_copy = atom.copy()?;
-    Ok(
-        name_copy.as_str() == LONG_NAME
-            && are_rome(row_copy.values())
-            && atom_copy.terms().len() == 2
-            && copies_value(row.values())?,
-    )
-}
-
-impl Tried for CopyingRow {
-    fn tried<A: Allocator + Copy>(alloc: A) -> Outcome {
-        let (Ok(name), Ok(row), Ok(atom)) = (
-            Name::new(alloc, LONG_NAME),
-            row(alloc, "T", [ROME, ONE].as_slice()),
-            atom(alloc, "R", [X, Y].as_slice()),
-        ) else {
-            return Outcome::Unready;
-        };
-        match copies(&name, &row, &atom) {
-            Ok(right) => Outcome::done_if(right),
-            Err(_) => Outcome::refused_if(copies(&name, &row, &atom) == Ok(true)),
-        }
-    }
-}
-
-#[test]
-fn failed_allocation_in_copies_of_rows(rt: HostRuntime) {
-    // The name and the first value take memory, the row and the atom share what they hold.
-    assert!(rt; refusals::<CopyingRow>(rt.alloc()) == Ok(2));
-}
-
-/// An atom under a valuation.
-struct UnderRome;
-
-fn is_rome<A: Allocator>(term: &Term<A>) -> bool {
-    match term.as_constant() {
-        Some(value) => value.as_text() == Some(CITY),
-        None => false,
-    }
-}
-
-/// Whether the atom is `R(x, y)` where `x` is Rome.
-fn is_under<A: Allocator>(atom: &Atom<A>) -> bool {
-    match atom.terms() {
-        [first, second] => {
-            atom.relation() == "R" && is_rome(first) && second.as_variable() == Some("y")
-        }
-        _ => false,
-    }
-}
-
-fn is_put_under<A: Allocator + Copy>(
-    atom: &Atom<A>,
-    valuation: &Valuation<A>,
-) -> Result<bool, AllocError> {
-    let made = atom.under(valuation)?;
-    Ok(is_under(&made))
-}
-
-fn atom_under<A: Allocator + Copy>(atom: &Atom<A>, valuation: &Valuation<A>) -> Outcome {
-    match is_put_under(atom, valuation) {
-        Ok(right) => Outcome::done_if(right),
-        Err(_) => Outcome::refused_if(is_put_under(atom, valuation) == Ok(true)),
-    }
-}
-
-fn rome<A: Allocator + Copy>(alloc: A) -> Result<Valuation<A>, Bad> {
-    let mut valuation = Valuation::empty(alloc);
-    valuation.bind("x", Value::text(alloc, CITY)?)?;
-    Ok(valuation)
-}
-
-impl Tried for UnderRome {
-    fn tried<A: Allocator + Copy>(alloc: A) -> Outcome {
-        match (atom(alloc, "R", [X, Y].as_slice()), rome(alloc)) {
-            (Ok(atom), Ok(valuation)) => atom_under(&atom, &valuation),
-            _ => Outcome::Unready,
-        }
-    }
-}
-
-#[test]
-fn failed_allocation_in_under(rt: HostRuntime) {
-    assert!(rt; matches!(refusals::<UnderRome>(rt.alloc()), Ok(3..)));
-}
-
-/// A value for a variable that has none.
-struct Binding;
 
 const VARIABLE: &str = "where_kramer_flies_to_in_May";
 
@@ -212,22 +70,170 @@ fn bind_one<A: Allocator + Copy>(valuation: &mut Valuation<A>) -> Option<Bad> {
     valuation.bind(VARIABLE, Value::num(1)).err()
 }
 
-impl Tried for Binding {
+/// Binds a variable that has no value. Where that is refused, it still has none, and the call again gives it the value.
+fn binds<A: Allocator + Copy>(valuation: &mut Valuation<A>) -> Result<bool, Bad> {
+    let Some(bad) = bind_one(valuation) else {
+        return Ok(has_one(valuation));
+    };
+    let is_free = valuation.get(VARIABLE).is_none();
+    let is_bound = bind_one(valuation).is_none();
+    if is_free && is_bound && has_one(valuation) {
+        return Err(bad);
+    }
+    Ok(false)
+}
+
+fn makes<A: Allocator + Copy>(alloc: A) -> Option<u8> {
+    let told = [
+        makes_name(alloc),
+        makes_row(alloc),
+        makes_query(alloc),
+        binds(&mut Valuation::empty(alloc)),
+    ];
+    refused(told.as_slice())
+}
+
+impl Tried for Making {
     fn tried<A: Allocator + Copy>(alloc: A) -> Outcome {
-        let mut valuation = Valuation::empty(alloc);
-        match bind_one(&mut valuation) {
-            None => Outcome::done_if(has_one(&valuation)),
-            Some(bad) => Outcome::refused_if(
-                bad == Bad::NoMemory
-                    && valuation.get(VARIABLE).is_none()
-                    && bind_one(&mut valuation).is_none()
-                    && has_one(&valuation),
-            ),
+        match makes(alloc) {
+            Some(0) => Outcome::Done,
+            Some(1) => Outcome::refused_if(makes(alloc) == Some(0)),
+            _ => Outcome::Wrong,
         }
     }
 }
 
 #[test]
-fn failed_allocation_in_bind(rt: HostRuntime) {
-    assert!(rt; matches!(refusals::<Binding>(rt.alloc()), Ok(2..)));
+fn failed_allocation_in_constructors(rt: HostRuntime) {
+    // Four of the name and the row, eleven of the query, two of the variable.
+    assert!(rt; matches!(refusals::<Making>(rt.alloc()), Ok(17..)));
+}
+
+/// Copies of an edit with its name, its query and an atom of it, and of a row and its first value; and the atom under a
+/// valuation.
+struct Copying;
+
+fn copies_edit<A: Allocator + Copy>(edit: &Edit<A>) -> Result<bool, Bad> {
+    Ok(is_posting(&edit.copy()?))
+}
+
+/// Whether the edit posts a query of as many atoms under the name.
+fn is_posting<A: Allocator>(edit: &Edit<A>) -> bool {
+    match edit {
+        EditKind::Post { name, query } => name.as_str() == LONG_NAME && has(query, 1, 2, 2),
+        _ => false,
+    }
+}
+
+fn copies_name<A: Allocator + Copy>(name: &Name<A>) -> Result<bool, Bad> {
+    Ok(name.copy()?.as_str() == LONG_NAME)
+}
+
+fn copies_query<A: Allocator + Copy>(query: &Query<A>) -> Result<bool, Bad> {
+    Ok(has(&query.copy()?, 1, 2, 2))
+}
+
+fn copies_row<A: Allocator + Copy>(row: &Row<A>) -> Result<bool, Bad> {
+    Ok(are_rome(row.copy()?.values()))
+}
+
+fn copies_value<A: Allocator + Copy>(row: &Row<A>) -> Result<bool, Bad> {
+    match row.values() {
+        [city, _] => Ok(is_rome(&city.copy()?)),
+        _ => Ok(false),
+    }
+}
+
+fn copies_atom<A: Allocator + Copy>(atom: &Atom<A>) -> Result<bool, Bad> {
+    let copy = atom.copy()?;
+    Ok(copy.relation() == "T" && copy.terms().len() == 2)
+}
+
+/// Whether the terms are Rome and `y`.
+fn are_rome_and_y<A: Allocator>(terms: &[Term<A>]) -> bool {
+    match terms {
+        [first, second] => is_constant_rome(first) && second.as_variable() == Some("y"),
+        _ => false,
+    }
+}
+
+fn is_constant_rome<A: Allocator>(term: &Term<A>) -> bool {
+    match term.as_constant() {
+        Some(value) => is_rome(value),
+        None => false,
+    }
+}
+
+/// Whether the atom is `T(Rome, y)` where `x` is Rome.
+fn is_put_under<A: Allocator + Copy>(atom: &Atom<A>, rome: &Valuation<A>) -> Result<bool, Bad> {
+    let made = atom.under(rome)?;
+    Ok(made.relation() == "T" && are_rome_and_y(made.terms()))
+}
+
+fn copies_of_atoms<A: Allocator + Copy>(
+    atoms: &[Atom<A>],
+    rome: &Valuation<A>,
+) -> [Result<bool, Bad>; 2] {
+    match atoms {
+        [first, _] => [copies_atom(first), is_put_under(first, rome)],
+        _ => [Ok(false), Ok(false)],
+    }
+}
+
+fn copies<A: Allocator + Copy>(edit: &Edit<A>, row: &Row<A>, rome: &Valuation<A>) -> Option<u8> {
+    let EditKind::Post { name, query } = edit else {
+        return None;
+    };
+    let [of_atom, under] = copies_of_atoms(query.body(), rome);
+    let told = [
+        copies_edit(edit),
+        copies_name(name),
+        copies_query(query),
+        of_atom,
+        under,
+        copies_row(row),
+        copies_value(row),
+    ];
+    refused(told.as_slice())
+}
+
+fn copied<A: Allocator + Copy>(edit: &Edit<A>, row: &Row<A>, rome: &Valuation<A>) -> Outcome {
+    match copies(edit, row, rome) {
+        Some(0) => Outcome::Done,
+        Some(1) => Outcome::refused_if(copies(edit, row, rome) == Some(0)),
+        _ => Outcome::Wrong,
+    }
+}
+
+fn posting<A: Allocator + Copy>(alloc: A) -> Result<Edit<A>, Bad> {
+    let name = Name::new(alloc, LONG_NAME)?;
+    let query = query(alloc, 1, 2, 2)?;
+    Ok(EditKind::Post { name, query })
+}
+
+/// Gives `x` the value Rome.
+fn bind_rome<A: Allocator + Copy>(alloc: A, valuation: &mut Valuation<A>) -> Result<(), Bad> {
+    valuation.bind("x", Value::text(alloc, CITY)?)?;
+    Ok(())
+}
+
+impl Tried for Copying {
+    fn tried<A: Allocator + Copy>(alloc: A) -> Outcome {
+        let mut rome = Valuation::empty(alloc);
+        match (
+            posting(alloc),
+            row(alloc, "T", ROME_AND_ONE.as_slice()),
+            bind_rome(alloc, &mut rome),
+        ) {
+            (Ok(edit), Ok(row), Ok(())) => copied(&edit, &row, &rome),
+            _ => Outcome::Unready,
+        }
+    }
+}
+
+#[test]
+fn failed_allocation_in_copies(rt: HostRuntime) {
+    // The edit's name, the name and the value take memory, and the atom under the valuation takes it for itself, for its terms and
+    // for the text. Query, atom and row share what they hold.
+    assert!(rt; refusals::<Copying>(rt.alloc()) == Ok(6));
 }

@@ -1,55 +1,55 @@
 //! Atoms, rows, valuations and `unify`.
 
 use crate::samples::{ONE, Sample, TWO, U, X, Y, atom, row};
-use cq_atom::{Atom, Bad, Meter, Row, Valuation, Value, unify};
+use cq_atom::{Atom, Bad, Meter, Valuation, Value, unify};
 use std::alloc::Global;
 
-/// Whether the atom has that relation and as many terms.
-fn has(atom: &Atom, relation: &str, count: usize) -> bool {
-    atom.relation() == relation && atom.terms().len() == count
-}
-
-/// Whether the atom over the samples, and a copy of it, have them.
+/// Whether the atom over the samples has the relation and as many terms.
 fn is_atom(alloc: Global, relation: &str, samples: &[Sample]) -> Result<bool, Bad> {
     let made = atom(alloc, relation, samples)?;
-    let copy = made.copy()?;
-    Ok(has(&made, relation, samples.len()) && has(&copy, relation, samples.len()))
-}
-
-fn row_has(row: &Row, relation: &str, count: usize) -> bool {
-    row.relation() == relation && row.values().len() == count
+    Ok(made.relation() == relation && made.terms().len() == samples.len())
 }
 
 /// The same of a row.
 fn is_row(alloc: Global, relation: &str, samples: &[Sample]) -> Result<bool, Bad> {
     let made = row(alloc, relation, samples)?;
-    let copy = made.copy()?;
-    Ok(row_has(&made, relation, samples.len()) && row_has(&copy, relation, samples.len()))
+    Ok(made.relation() == relation && made.values().len() == samples.len())
+}
+
+const FLIGHT: [Sample; 2] = [Sample::Number(122), Sample::Text("Paris")];
+
+const NO_NAME: Result<bool, Bad> = Err(Bad::BadName);
+
+const NO_ARITY: Result<bool, Bad> = Err(Bad::BadArity);
+
+/// Relations and samples, and what is made of them.
+const MADE: [(&str, &[Sample], Result<bool, Bad>); 6] = [
+    ("Flights", &FLIGHT, Ok(true)),
+    ("R", &[ONE; 16], Ok(true)),
+    ("R", &[ONE; 17], NO_ARITY),
+    ("R", &[], NO_ARITY),
+    ("r", &[], NO_NAME),
+    ("_R", &[ONE; 17], NO_NAME),
+];
+
+/// The place of the first relation and samples of which something else is made.
+fn other_made(alloc: Global) -> Option<usize> {
+    for (place, (relation, samples, wanted)) in MADE.iter().enumerate() {
+        let told = [
+            is_atom(alloc, relation, samples),
+            is_row(alloc, relation, samples),
+        ];
+        if told != [*wanted, *wanted] {
+            return Some(place);
+        }
+    }
+    None
 }
 
 #[test]
 fn atoms_and_rows(rt: HostRuntime) {
-    let most = [ONE; 16];
-    let seventeen = [ONE; 17];
-    let flight = [Sample::Number(122), Sample::Text("Paris")];
-    let table = [
-        ("Flights", flight.as_slice(), Ok(true)),
-        ("R", most.as_slice(), Ok(true)),
-        ("R", seventeen.as_slice(), Err(Bad::BadArity)),
-        ("R", [].as_slice(), Err(Bad::BadArity)),
-        ("r", [].as_slice(), Err(Bad::BadName)),
-        ("_R", seventeen.as_slice(), Err(Bad::BadName)),
-    ];
-    for (relation, samples, wanted) in table {
-        assert!(rt;
-            is_atom(rt.alloc(), relation, samples) == wanted,
-            "{relation}"
-        );
-        assert!(rt;
-            is_row(rt.alloc(), relation, samples) == wanted,
-            "{relation}"
-        );
-    }
+    let other = other_made(rt.alloc());
+    assert!(rt; other.is_none(), "{other:?}");
 }
 
 /// The number that the variable has.
@@ -68,19 +68,22 @@ fn bind(valuation: &mut Valuation, name: &str, number: i64) -> Result<Option<i64
     }
 }
 
-/// Variables and the numbers that they are given, with what each had.
-const BOUND: [(&str, i64, Result<Option<i64>, Bad>); 4] = [
-    ("x", 1, Ok(None)),
-    ("y", 2, Ok(None)),
-    ("x", 3, Ok(Some(1))),
-    ("X", 4, Err(Bad::BadName)),
+/// A variable, the number that it is given, what the valuation then tells of the one before, and what it has after it.
+type Bound = (&'static str, i64, Result<Option<i64>, Bad>, Option<i64>);
+
+const BOUND: [Bound; 5] = [
+    ("x", 1, Ok(None), Some(1)),
+    ("y", 2, Ok(None), Some(2)),
+    ("x", 3, Ok(Some(1)), Some(3)),
+    ("X", 4, Err(Bad::BadName), None),
+    ("y", 5, Ok(Some(2)), Some(5)),
 ];
 
-/// The first of the variables that is bound otherwise.
-fn other_bound(valuation: &mut Valuation) -> Option<&'static str> {
-    for (name, number, wanted) in BOUND {
-        if bind(valuation, name, number) != wanted {
-            return Some(name);
+/// The place of the first of the variables that is bound otherwise.
+fn other_bound(valuation: &mut Valuation) -> Option<usize> {
+    for (place, (name, number, told, after)) in BOUND.iter().enumerate() {
+        if bind(valuation, name, *number) != *told || number_at(valuation, name) != *after {
+            return Some(place);
         }
     }
     None
@@ -88,33 +91,47 @@ fn other_bound(valuation: &mut Valuation) -> Option<&'static str> {
 
 #[test]
 fn valuations(rt: HostRuntime) {
-    let mut valuation = Valuation::empty(rt.alloc());
-    assert!(rt; number_at(&valuation, "x").is_none());
-    let other = other_bound(&mut valuation);
+    let other = other_bound(&mut Valuation::empty(rt.alloc()));
     assert!(rt; other.is_none(), "{other:?}");
-    assert!(rt; number_at(&valuation, "x") == Some(3) && number_at(&valuation, "y") == Some(2));
-    assert!(rt; number_at(&valuation, "X").is_none());
 }
 
-/// Whether the atoms unify.
-fn unified(
+/// Whether the atom unifies with the one of the relation over the samples.
+fn unified_with(
     alloc: Global,
-    left: (&str, &[Sample]),
-    right: (&str, &[Sample]),
+    left: &Atom,
+    relation: &str,
+    samples: &[Sample],
     meter: &mut Meter,
 ) -> Result<bool, Bad> {
-    let left = atom(alloc, left.0, left.1)?;
-    let right = atom(alloc, right.0, right.1)?;
-    Ok(unify(&left, &right, meter))
+    let right = atom(alloc, relation, samples)?;
+    Ok(unify(left, &right, meter))
 }
 
 /// Terms of an atom of `R`, a relation, terms of an atom of it, and whether the two atoms unify.
-type Pair<'s> = (&'s [Sample], &'s str, &'s [Sample], bool);
+type Pair = (&'static [Sample], &'static str, &'static [Sample], bool);
 
-/// The first of the pairs that is said otherwise.
-fn other_unified(alloc: Global, pairs: &[Pair], meter: &mut Meter) -> Option<usize> {
-    for (place, (terms, relation, others, wanted)) in pairs.iter().enumerate() {
-        if unified(alloc, ("R", terms), (relation, others), meter) != Ok(*wanted) {
+const PAIRS: [Pair; 6] = [
+    // Two constants that a shared variable ties.
+    (&[X, X, Y, Y], "R", &[ONE, U, U, TWO], false),
+    (&[X, X], "R", &[Y, TWO], true),
+    // The variables of two atoms are apart, also where they have one name.
+    (&[ONE, X], "R", &[X, TWO], true),
+    // A number is no text, and atoms of two relations or arities never unify.
+    (&[ONE], "R", &[Sample::Text("1")], false),
+    (&[ONE], "S", &[X], false),
+    (&[ONE], "R", &[ONE, X], false),
+];
+
+/// Whether the two atoms unify.
+fn unified(alloc: Global, pair: Pair, meter: &mut Meter) -> Result<bool, Bad> {
+    let left = atom(alloc, "R", pair.0)?;
+    unified_with(alloc, &left, pair.1, pair.2, meter)
+}
+
+/// The place of the first of the pairs that is said otherwise.
+fn other_unified(alloc: Global, meter: &mut Meter) -> Option<usize> {
+    for (place, pair) in PAIRS.iter().enumerate() {
+        if unified(alloc, *pair, meter) != Ok(pair.3) {
             return Some(place);
         }
     }
@@ -124,24 +141,7 @@ fn other_unified(alloc: Global, pairs: &[Pair], meter: &mut Meter) -> Option<usi
 #[test]
 fn unify_each_once(rt: HostRuntime) {
     let mut meter = Meter::new();
-    let text = [Sample::Text("1")];
-    let pairs = [
-        // Two constants that a shared variable ties.
-        (
-            [X, X, Y, Y].as_slice(),
-            "R",
-            [ONE, U, U, TWO].as_slice(),
-            false,
-        ),
-        ([X, X].as_slice(), "R", [Y, TWO].as_slice(), true),
-        // The variables of two atoms are apart, also where they have one name.
-        ([ONE, X].as_slice(), "R", [X, TWO].as_slice(), true),
-        // A number is no text, and atoms of two relations or arities never unify.
-        ([ONE].as_slice(), "R", text.as_slice(), false),
-        ([ONE].as_slice(), "S", [X].as_slice(), false),
-        ([ONE].as_slice(), "R", [ONE, X].as_slice(), false),
-    ];
-    let other = other_unified(rt.alloc(), pairs.as_slice(), &mut meter);
+    let other = other_unified(rt.alloc(), &mut meter);
     assert!(rt; other.is_none() && meter.count() == 6, "{other:?}");
     meter.tick();
     meter.add(3);

@@ -10,8 +10,6 @@ mod atoms;
 #[cfg(test)]
 mod budget;
 #[cfg(test)]
-mod edits;
-#[cfg(test)]
 mod queries;
 #[cfg(test)]
 mod samples;

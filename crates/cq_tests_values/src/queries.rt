@@ -1,99 +1,119 @@
 //! Queries.
 
 use crate::samples::query;
-use cq_atom::{Bad, Part, Query, Variables, binds, value_place};
-use std::alloc::Global;
-use std::test::Fail;
+use cq_atom::{Atom, Bad, Part, Query, Variables, binds, value_place};
+use std::alloc::{Allocator, Global};
 
-/// The refusals of a query in their order, by the number of atoms in each part.
-const REFUSED: [(usize, usize, usize, Bad); 6] = [
-    (17, 17, 17, Bad::TooMany { part: Part::Posts }),
-    (16, 17, 17, Bad::TooMany { part: Part::Heads }),
-    (16, 0, 17, Bad::TooMany { part: Part::Body }),
-    (16, 0, 0, Bad::NoHead),
+/// How many atoms a query's postconditions, heads and body have, and whether it has them, or why there is none.
+type Counts = (usize, usize, usize, Result<bool, Bad>);
+
+/// The refusals stand in their order.
+const COUNTS: [Counts; 9] = [
+    (17, 17, 17, Err(Bad::TooMany { part: Part::Posts })),
+    (16, 17, 17, Err(Bad::TooMany { part: Part::Heads })),
+    (16, 0, 17, Err(Bad::TooMany { part: Part::Body })),
+    (16, 0, 0, Err(Bad::NoHead)),
     (
         1,
         1,
         0,
-        Bad::Unbound {
+        Err(Bad::Unbound {
             part: Part::Posts,
             atom: 0,
             term: 1,
-        },
+        }),
     ),
     (
         0,
         2,
         0,
-        Bad::Unbound {
+        Err(Bad::Unbound {
             part: Part::Heads,
             atom: 0,
             term: 1,
-        },
+        }),
     ),
+    (0, 1, 1, Ok(true)),
+    (1, 2, 3, Ok(true)),
+    (16, 16, 16, Ok(true)),
 ];
 
-fn refusal(alloc: Global, posts: usize, heads: usize, body: usize) -> Option<Bad> {
-    query(alloc, posts, heads, body).err()
-}
-
-#[test]
-fn refusals_of_a_query(rt: HostRuntime) {
-    for (posts, heads, body, bad) in REFUSED {
-        let told = refusal(rt.alloc(), posts, heads, body);
-        assert!(rt; told == Some(bad), "{posts} {heads} {body}");
-    }
-}
-
 /// Whether the parts have as many atoms, and the variables are `x` and `y`, in this order.
-fn has(query: &Query, posts: usize, heads: usize, body: usize) -> bool {
-    query.posts().len() == posts
-        && query.heads().len() == heads
-        && query.body().len() == body
-        && has_variables(query)
+pub fn has<A: Allocator>(query: &Query<A>, posts: usize, heads: usize, body: usize) -> bool {
+    let names = query.variables();
+    let counts = [
+        query.posts().len(),
+        query.heads().len(),
+        query.body().len(),
+        names.len(),
+    ];
+    let places = [value_place(names, "x"), value_place(names, "y")];
+    counts == [posts, heads, body, 2] && places == [Some(0), Some(1)]
 }
 
-fn has_variables(query: &Query) -> bool {
-    match query.variables() {
-        [first, second] => first.as_str() == "x" && second.as_str() == "y",
-        _ => false,
-    }
-}
-
-/// Whether the query of as many atoms in its parts, and a copy of it, have them.
+/// Whether the query of as many atoms in its parts has them.
 fn is_query(alloc: Global, posts: usize, heads: usize, body: usize) -> Result<bool, Bad> {
     let made = query(alloc, posts, heads, body)?;
-    let copy = made.copy()?;
-    Ok(has(&made, posts, heads, body) && has(&copy, posts, heads, body))
+    Ok(has(&made, posts, heads, body))
+}
+
+/// The place of the first query that has other parts.
+fn other_query(alloc: Global) -> Option<usize> {
+    for (place, (posts, heads, body, wanted)) in COUNTS.iter().enumerate() {
+        if is_query(alloc, *posts, *heads, *body) != *wanted {
+            return Some(place);
+        }
+    }
+    None
 }
 
 #[test]
 fn parts_of_a_query(rt: HostRuntime) {
-    for (posts, heads, body) in [(0, 1, 1), (1, 2, 3), (16, 16, 16)] {
-        let told = is_query(rt.alloc(), posts, heads, body);
-        assert!(rt; told == Ok(true), "{posts} {heads} {body}");
-    }
+    let other = other_query(rt.alloc());
+    assert!(rt; other.is_none(), "{other:?}");
 }
 
-/// Whether the body binds the variable, and the place of its value among those of all variables.
-fn found(query: &Query, name: &str) -> (bool, Option<usize>) {
-    let place = value_place(query.variables(), name);
-    (binds(query.body(), name), place)
+/// A name, whether the body binds it as a variable, and the place of its value among those of all variables.
+const FOUND: [(&str, bool, Option<usize>); 3] = [
+    ("x", true, Some(0)),
+    ("y", true, Some(1)),
+    ("z", false, None),
+];
+
+/// The place of the first of the names that is found otherwise.
+fn other_found(query: &Query) -> Option<usize> {
+    for (place, (name, is_bound, value)) in FOUND.iter().enumerate() {
+        let told = (
+            binds(query.body(), name),
+            value_place(query.variables(), name),
+        );
+        if told != (*is_bound, *value) {
+            return Some(place);
+        }
+    }
+    None
+}
+
+/// Whether the variables of the first atoms bind those of the others.
+fn bind_all(alloc: Global, atoms: &[Atom], others: &[Atom]) -> Result<bool, Bad> {
+    Ok(Variables::of(alloc, atoms)?.bind_all(others))
+}
+
+/// The place of the first name that is found otherwise; whether the body's variables bind the heads, and the other way round.
+type Told = (Option<usize>, Result<bool, Bad>, Result<bool, Bad>);
+
+fn found(alloc: Global) -> Result<Told, Bad> {
+    let query = query(alloc, 1, 2, 2)?;
+    let (heads, body) = (query.heads(), query.body());
+    Ok((
+        other_found(&query),
+        bind_all(alloc, body, heads),
+        bind_all(alloc, heads, body),
+    ))
 }
 
 #[test]
-fn variables_of_a_body(rt: HostRuntime) -> Result<(), Fail> {
-    let query = query(rt.alloc(), 1, 2, 2)?;
-    for (name, wanted) in [
-        ("x", (true, Some(0))),
-        ("y", (true, Some(1))),
-        ("z", (false, None)),
-    ] {
-        assert!(rt; found(&query, name) == wanted, "{name}");
-    }
+fn variables_of_a_body(rt: HostRuntime) {
     // The heads have no `y`.
-    let of_body = Variables::of(rt.alloc(), query.body())?;
-    let of_heads = Variables::of(rt.alloc(), query.heads())?;
-    assert!(rt; of_body.bind_all(query.heads()) && !of_heads.bind_all(query.body()));
-    Ok(())
+    assert!(rt; found(rt.alloc()) == Ok((None, Ok(true), Ok(false))));
 }

@@ -21,7 +21,7 @@ pub const X: Sample = Sample::Variable("x");
 
 pub const Y: Sample = Sample::Variable("y");
 
-pub fn value<A: Allocator>(alloc: A, sample: Sample) -> Result<Value<A>, Bad> {
+pub fn value<A: Allocator + Copy>(alloc: A, sample: Sample) -> Result<Value<A>, Bad> {
     match sample {
         Sample::Number(number) => Ok(Value::num(number)),
         Sample::Text(text) => Value::text(alloc, text),
@@ -29,7 +29,7 @@ pub fn value<A: Allocator>(alloc: A, sample: Sample) -> Result<Value<A>, Bad> {
     }
 }
 
-pub fn term<A: Allocator>(alloc: A, sample: Sample) -> Result<Term<A>, Bad> {
+pub fn term<A: Allocator + Copy>(alloc: A, sample: Sample) -> Result<Term<A>, Bad> {
     match sample {
         Sample::Variable(name) => Term::variable(alloc, name),
         _ => Ok(Term::constant(value(alloc, sample)?)),

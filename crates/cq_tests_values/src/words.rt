@@ -1,6 +1,6 @@
 //! Names, values and terms.
 
-use crate::samples::{Sample, value};
+use crate::samples::{Sample, row};
 use cq_atom::{Bad, Name, Term, Value, is_relation_text};
 use std::alloc::Global;
 
@@ -8,66 +8,88 @@ const LETTERS_32: &str = "abcdefghijklmnopqrstuvwxyzABCDEF";
 
 const LETTERS_33: &str = "abcdefghijklmnopqrstuvwxyzABCDEFG";
 
-/// Whether the name made of the text, and a copy of it, read as the text.
+/// As many bytes as a text may have.
+const BYTES_255: &str =
+    "aaaaaaaaaaaaaaaaaaaaaaaaaaaaaaaaaaaaaaaaaaaaaaaaaaaaaaaaaaaaaaaaaaaaaaaaaaaaaaaaaaaaaaaaaaaaaaaaaaaaaaaaaaaaaaaaaaaaaaaaaaaaaaaaaaaaaaaaaaaaaaaaaaaaaaaaaaaaaaaaaaaaaaaaaaaaaaaaaaaaaaaaaaaaaaaaaaaaaaaaaaaaaaaaaaaaaaaaaaaaaaaaaaaaaaaaaaaaaaaaaaaaaaaaaaaaaaa";
+
+const BYTES_256: &str =
+    "aaaaaaaaaaaaaaaaaaaaaaaaaaaaaaaaaaaaaaaaaaaaaaaaaaaaaaaaaaaaaaaaaaaaaaaaaaaaaaaaaaaaaaaaaaaaaaaaaaaaaaaaaaaaaaaaaaaaaaaaaaaaaaaaaaaaaaaaaaaaaaaaaaaaaaaaaaaaaaaaaaaaaaaaaaaaaaaaaaaaaaaaaaaaaaaaaaaaaaaaaaaaaaaaaaaaaaaaaaaaaaaaaaaaaaaaaaaaaaaaaaaaaaaaaaaaaaaa";
+
+/// What a text is: a name, a relation's name, a variable's name, the text of a value. Where something is made of it,
+/// whether that reads as the text, or why nothing is.
+type Kinds = [Result<bool, Bad>; 4];
+
+const NO_NAME: Result<bool, Bad> = Err(Bad::BadName);
+
+const OF_VARIABLE: Kinds = [Ok(true), Ok(false), Ok(true), Ok(true)];
+
+const OF_RELATION: Kinds = [Ok(true), Ok(true), NO_NAME, Ok(true)];
+
+const OF_VALUE: Kinds = [NO_NAME, Ok(false), NO_NAME, Ok(true)];
+
+const OF_NOTHING: Kinds = [NO_NAME, Ok(false), NO_NAME, Err(Bad::BadText)];
+
+const VARIABLES: [&str; 6] = ["a", "r", "a_1", "x_1", "post", LETTERS_32];
+
+const RELATIONS: [&str; 4] = ["Z", "R", "X", "Flights_2"];
+
+const TEXTS: [&str; 13] = [
+    "",
+    "_a",
+    "_R",
+    "1",
+    "1a",
+    "a-b",
+    "a b",
+    " ~",
+    "\u{e9}",
+    "\u{80}\u{e9}",
+    LETTERS_33,
+    BYTES_255,
+    "0123456789abcdef",
+];
+
+const NOTHINGS: [&str; 5] = ["\n", "\u{0}", "a\u{1f}", "\u{7f}", BYTES_256];
+
 fn is_name(alloc: Global, text: &str) -> Result<bool, Bad> {
-    let name = Name::new(alloc, text)?;
-    let copy = name.copy()?;
-    Ok(name.as_str() == text && copy.as_str() == text)
+    Ok(Name::new(alloc, text)?.as_str() == text)
 }
 
-#[test]
-fn names(rt: HostRuntime) {
-    for good in ["a", "Z", "a_1", "post", LETTERS_32] {
-        assert!(rt; is_name(rt.alloc(), good) == Ok(true), "{good}");
-    }
-    for bad in ["", "_a", "1a", "a-b", "a b", "\u{e9}", LETTERS_33] {
-        assert!(rt; is_name(rt.alloc(), bad) == Err(Bad::BadName), "{bad}");
-    }
+fn is_variable(alloc: Global, text: &str) -> Result<bool, Bad> {
+    Ok(Term::variable(alloc, text)?.as_variable() == Some(text))
 }
 
-#[test]
-fn relation_names(rt: HostRuntime) {
-    for (text, is_one) in [
-        ("R", true),
-        ("Flights_2", true),
-        ("r", false),
-        ("", false),
-        ("_R", false),
-    ] {
-        assert!(rt; is_relation_text(text) == is_one, "{text}");
-    }
-}
-
-/// Whether the value made of the text reads as the text, and as no number.
 fn is_text(alloc: Global, text: &str) -> Result<bool, Bad> {
-    let value = Value::text(alloc, text)?;
-    Ok(value.as_text() == Some(text) && value.as_num().is_none())
+    Ok(Value::text(alloc, text)?.as_text() == Some(text))
 }
 
-/// Whether a value is made of sixteen letters so many times.
-fn is_long_text(alloc: Global, times: usize) -> Result<bool, Bad> {
-    let long = "0123456789abcdef".repeat(alloc, times)?;
-    is_text(alloc, long.as_str())
+/// The place of the first of the texts that is something else.
+fn other_kind(alloc: Global, texts: &[&str], wanted: Kinds) -> Option<usize> {
+    for (place, text) in texts.iter().enumerate() {
+        let told = [
+            is_name(alloc, text),
+            Ok(is_relation_text(text)),
+            is_variable(alloc, text),
+            is_text(alloc, text),
+        ];
+        if told != wanted {
+            return Some(place);
+        }
+    }
+    None
 }
 
 #[test]
-fn values(rt: HostRuntime) {
-    for good in ["", "\u{80}\u{e9}", " ~"] {
-        assert!(rt; is_text(rt.alloc(), good) == Ok(true), "{good}");
+fn kinds_of_texts(rt: HostRuntime) {
+    for (texts, wanted) in [
+        (VARIABLES.as_slice(), OF_VARIABLE),
+        (RELATIONS.as_slice(), OF_RELATION),
+        (TEXTS.as_slice(), OF_VALUE),
+        (NOTHINGS.as_slice(), OF_NOTHING),
+    ] {
+        let other = other_kind(rt.alloc(), texts, wanted);
+        assert!(rt; other.is_none(), "{other:?}");
     }
-    for bad in ["\n", "\u{0}", "a\u{1f}", "\u{7f}"] {
-        assert!(rt; is_text(rt.alloc(), bad) == Err(Bad::BadText));
-    }
-    assert!(rt; is_long_text(rt.alloc(), 15) == Ok(true));
-    assert!(rt; is_long_text(rt.alloc(), 16) == Err(Bad::BadText));
-}
-
-/// Whether the first value comes before the other, and whether a copy of the first is the other.
-fn compared(alloc: Global, first: Sample, other: Sample) -> Result<(bool, bool), Bad> {
-    let first = value(alloc, first)?;
-    let other = value(alloc, other)?;
-    let copy = first.copy()?;
-    Ok((first.is_before(&other), copy.is_same(&other)))
 }
 
 /// Values in their order: numbers come before texts, and texts go by bytes.
@@ -78,36 +100,26 @@ const RISING: [Sample; 4] = [
     Sample::Text("a"),
 ];
 
-#[test]
-fn order_of_values(rt: HostRuntime) {
-    for i in 0..RISING.len() {
-        for j in 0..RISING.len() {
-            let told = compared(rt.alloc(), RISING[i], RISING[j]);
-            assert!(rt; told == Ok((i < j, i == j)), "{i} {j}");
+/// The place of the first value that is compared with others otherwise than their places are.
+fn other_order(values: &[Value]) -> Option<usize> {
+    for i in 0..values.len() {
+        for j in 0..values.len() {
+            let (first, other) = (&values[i], &values[j]);
+            if [first.is_before(other), first.is_same(other)] != [i < j, i == j] {
+                return Some(i);
+            }
         }
     }
+    None
 }
 
-/// Whether the term is the variable of that name and no constant.
-fn is_variable(alloc: Global, name: &str) -> Result<bool, Bad> {
-    let term = Term::variable(alloc, name)?;
-    Ok(term.as_variable() == Some(name) && term.as_constant().is_none())
-}
-
-/// The number that the term is, where it is one and no variable.
-fn number_of(term: &Term) -> Option<i64> {
-    match (term.as_variable(), term.as_constant()) {
-        (None, Some(value)) => value.as_num(),
-        _ => None,
-    }
+fn other_of_rising(alloc: Global) -> Result<Option<usize>, Bad> {
+    let row = row(alloc, "T", RISING.as_slice())?;
+    Ok(other_order(row.values()))
 }
 
 #[test]
-fn terms(rt: HostRuntime) {
-    assert!(rt; is_variable(rt.alloc(), "x_1") == Ok(true));
-    for bad in ["X", "", "1", LETTERS_33] {
-        assert!(rt; is_variable(rt.alloc(), bad) == Err(Bad::BadName), "{bad}");
-    }
-    let constant = Term::constant(Value::num(122));
-    assert!(rt; number_of(&constant) == Some(122));
+fn order_of_values(rt: HostRuntime) {
+    let other = other_of_rising(rt.alloc());
+    assert!(rt; other == Ok(None), "{other:?}");
 }

@@ -1,289 +1,784 @@
-//! Floors over a tally.
+//! Floors over a tally and over a board.
 
-use crate::desk::allocations::is_borne;
+use crate::desk::desks;
+use crate::lines::Line;
+use crate::states::{Shared, Sight};
 use crate::tally::{Full, Tally};
-use cq_desk::{Answer, Event, Floor, FloorFault, Live, NoMemory, Reply, StepFault};
+use cq_board::{Board, Why, published_board, working_board};
+use cq_desk::{Answer, Event, Floor, FloorFault, Live, Reply, StepFault, looks_never_fall};
 use cq_tests_allocations::{Outcome, Tried, refusals};
 use std::alloc::{Allocator, Global};
 
-type TallyFloor<A = Global> = Floor<Tally<A>, A>;
-
-type Told = Result<Answer<Full>, StepFault>;
-
-/// A floor over an empty tally.
-fn floor<A: Allocator + Copy>(
-    alloc: A,
-    journal: usize,
-    sessions: usize,
-) -> Result<TallyFloor<A>, FloorFault> {
-    Floor::begin(alloc, Tally::empty(alloc), journal, sessions)
-}
-
-/// Why a floor with so many sessions does not begin.
-fn fault(alloc: Global, sessions: usize) -> Option<FloorFault> {
-    floor(alloc, 9, sessions).err()
-}
-
-#[test]
-fn sessions_from_1_to_16(rt: HostRuntime) {
-    assert!(rt; fault(rt.alloc(), 0) == Some(FloorFault::Sessions));
-    assert!(rt; fault(rt.alloc(), 1).is_none());
-    assert!(rt; fault(rt.alloc(), 16).is_none());
-    assert!(rt; fault(rt.alloc(), 17) == Some(FloorFault::Sessions));
-}
-
 /// What is done on a floor, by the session of that number.
-#[derive(Clone, Copy)]
-enum Turn {
-    Enter(usize, u8),
+enum Turn<Q> {
+    Enter(usize, Q),
     Publish,
     Look(usize),
     /// It hears of so many entries.
     Hear(usize, u64),
 }
 
-fn event(turn: Turn) -> Event<u8> {
-    match turn {
-        Turn::Enter(author, edit) => Event::Enter { author, edit },
-        Turn::Publish => Event::Publish,
-        Turn::Look(session) => Event::Look { session },
-        Turn::Hear(session, count) => Event::Hear { session, count },
-    }
-}
+type Told<W> = Result<Answer<W>, StepFault>;
 
-/// What is done, and what is answered to it.
-type Asked = (Turn, Told);
+/// What is done, what is answered to it, what the working state and the published one show then, and how many entries each
+/// session has seen.
+type Step<Q, W> = (Turn<Q>, Told<W>, Sight, Sight, &'static [u64]);
 
-/// The place of the first that is answered otherwise.
-fn other_answer<L: Live<Edit = u8, Why = Full>>(
-    floor: &mut Floor<L>,
-    asked: &[Asked],
-) -> Option<usize> {
-    for (place, (turn, wanted)) in asked.iter().enumerate() {
-        if floor.step(event(*turn)) != *wanted {
-            return Some(place);
-        }
-    }
-    None
-}
-
-fn enters<A: Allocator + Copy>(floor: &mut TallyFloor<A>, author: usize, edit: u8) -> Told {
-    floor.step(Event::Enter { author, edit })
-}
-
-/// Whether the working state has these bytes, and the published one those.
-fn stands<A: Allocator + Copy>(floor: &TallyFloor<A>, working: &[u8], published: &[u8]) -> bool {
-    floor.working().bytes() == working
-        && floor.journal().len() == working.len()
-        && floor.board().bytes() == published
-        && floor.published_count() == published.len() as u64
-}
-
-/// Whether the two sessions have seen so many entries.
-fn have_seen<L: Live>(floor: &Floor<L>, first: u64, second: u64) -> bool {
-    floor.seen(0) == Some(first) && floor.seen(1) == Some(second) && floor.seen(2).is_none()
-}
-
-/// A look shows no more than is published.
-const LOOKS: [Asked; 4] = [
-    (Turn::Enter(1, 5), Ok(Answer::Replied(Reply::Entered(1)))),
-    (Turn::Publish, Ok(Answer::Published(1))),
-    (Turn::Enter(0, 6), Ok(Answer::Replied(Reply::Entered(2)))),
-    (Turn::Look(1), Ok(Answer::Looked(1))),
-];
-
-const HEARS: [Asked; 3] = [
-    (Turn::Hear(0, 2), Err(StepFault::Ahead)),
-    (Turn::Hear(0, 1), Ok(Answer::Heard(1))),
-    (Turn::Hear(1, 0), Ok(Answer::Heard(1))),
-];
-
-/// Two sessions see apart from each other.
-fn sees_apart(floor: &mut TallyFloor) -> bool {
-    other_answer(floor, LOOKS.as_slice()).is_none()
-        && stands(floor, &[5, 6], &[5])
-        && have_seen(floor, 0, 1)
-        && other_answer(floor, HEARS.as_slice()).is_none()
-        && have_seen(floor, 1, 1)
-}
-
-#[test]
-fn two_sessions(rt: HostRuntime) {
-    match floor(rt.alloc(), 9, 2) {
-        Ok(mut floor) => assert!(rt; sees_apart(&mut floor)),
-        Err(fault) => assert!(rt; false, "{fault}"),
-    }
-}
-
-/// The tests in their order: the session, the count that is heard, the journal's limit, the state.
-const IN_ORDER: [Asked; 6] = [
-    (Turn::Hear(1, 7), Err(StepFault::NoSession)),
-    (Turn::Enter(0, 1), Ok(Answer::Replied(Reply::Entered(1)))),
-    (Turn::Enter(0, 2), Ok(Answer::Replied(Reply::Entered(2)))),
-    (Turn::Enter(0, 3), Ok(Answer::Replied(Reply::Entered(3)))),
-    (Turn::Enter(1, 4), Err(StepFault::NoSession)),
-    (Turn::Look(1), Err(StepFault::NoSession)),
-];
-
-fn refuses_in_order(floor: &mut TallyFloor) -> bool {
-    other_answer(floor, IN_ORDER.as_slice()).is_none() && stands(floor, &[1, 2, 3], &[])
-}
-
-#[test]
-fn refusals_in_order(rt: HostRuntime) {
-    match (floor(rt.alloc(), 3, 1), floor(rt.alloc(), 4, 1)) {
-        (Ok(mut three), Ok(mut four)) => {
-            assert!(rt; refuses_in_order(&mut three) && refuses_in_order(&mut four));
-            assert!(rt; enters(&mut three, 0, 4) == Ok(Answer::Replied(Reply::JournalFull)));
-            assert!(rt; enters(&mut four, 0, 4) == Ok(Answer::Replied(Reply::Not(Full))));
-        }
-        _ => assert!(rt; false),
-    }
-}
-
-/// Two bytes, a publish and a look, a refused edit among them.
-const TURNS: [Turn; 5] = [
-    Turn::Enter(0, 5),
-    Turn::Enter(9, 7),
-    Turn::Enter(0, 6),
-    Turn::Publish,
-    Turn::Look(0),
-];
-
-/// These events from that one on.
-fn events<A: Allocator + Copy>(alloc: A, from: usize) -> Result<Vec<Event<u8>, A>, NoMemory> {
-    let mut events = Vec::new(alloc);
-    for place in from..5 {
-        events.push(event(TURNS[place]))?;
-    }
-    Ok(events)
-}
-
-const ANSWERS: [Told; 5] = [
-    Ok(Answer::Replied(Reply::Entered(1))),
-    Err(StepFault::NoSession),
-    Ok(Answer::Replied(Reply::Entered(2))),
-    Ok(Answer::Published(2)),
-    Ok(Answer::Looked(2)),
-];
-
-struct Begin;
-
-fn is_begun<A: Allocator + Copy>(alloc: A) -> Result<bool, FloorFault> {
-    let floor = floor(alloc, 9, 2)?;
-    Ok(stands(&floor, &[], &[]) && floor.seen(1) == Some(0))
-}
-
-impl Tried for Begin {
-    fn tried<A: Allocator + Copy>(alloc: A) -> Outcome {
-        match is_begun(alloc) {
-            Ok(right) => Outcome::done_if(right),
-            Err(fault) => Outcome::refused_if(
-                fault == FloorFault::NoMemory && is_begun(alloc) == Ok(true),
-            ),
-        }
-    }
-}
-
-struct Step;
-
-impl Tried for Step {
-    fn tried<A: Allocator + Copy>(alloc: A) -> Outcome {
-        match floor(alloc, 9, 1) {
-            Ok(mut floor) => entered(&mut floor),
-            Err(_) => Outcome::Unready,
-        }
-    }
-}
-
-fn entered<A: Allocator + Copy>(floor: &mut TallyFloor<A>) -> Outcome {
-    match enters(floor, 0, 5) {
-        Ok(Answer::Replied(Reply::Entered(_))) => published(floor),
-        Err(StepFault::NoMemory) => Outcome::refused_if(
-            stands(floor, &[], &[])
-                && enters(floor, 0, 5) == Ok(Answer::Replied(Reply::Entered(1)))
-                && stands(floor, &[5], &[]),
-        ),
-        _ => Outcome::Wrong,
-    }
-}
-
-fn published<A: Allocator + Copy>(floor: &mut TallyFloor<A>) -> Outcome {
-    match floor.step(Event::Publish) {
-        Ok(_) => Outcome::done_if(stands(floor, &[5], &[5])),
-        Err(StepFault::NoMemory) => Outcome::refused_if(
-            stands(floor, &[5], &[])
-                && floor.step(Event::Publish) == Ok(Answer::Published(1))
-                && stands(floor, &[5], &[5]),
-        ),
-        Err(_) => Outcome::Wrong,
-    }
-}
-
-struct Play;
-
-impl Tried for Play {
-    fn tried<A: Allocator + Copy>(alloc: A) -> Outcome {
-        match (floor(alloc, 9, 1), events(alloc, 0)) {
-            (Ok(mut floor), Ok(events)) => played(alloc, &mut floor, events),
-            _ => Outcome::Unready,
-        }
-    }
-}
-
-/// What came of the events: all answers, or those of a front, and the bytes that this front leaves. The rest is then
-/// played.
-fn played<A: Allocator + Copy>(
+fn event<L: Shared<A>, A: Allocator + Copy>(
     alloc: A,
-    floor: &mut TallyFloor<A>,
-    events: Vec<Event<u8>, A>,
-) -> Outcome {
-    match floor.play(events) {
-        Ok(answers) => {
-            Outcome::done_if(
-                answers.as_slice() == ANSWERS.as_slice() && stands(floor, &[5, 6], &[5, 6]),
-            )
+    turn: &Turn<L::Asked>,
+) -> Option<Event<L::Edit>> {
+    match turn {
+        Turn::Enter(author, asked) => Some(Event::Enter {
+            author: *author,
+            edit: L::edit(alloc, asked)?,
+        }),
+        Turn::Publish => Some(Event::Publish),
+        Turn::Look(session) => Some(Event::Look { session: *session }),
+        Turn::Hear(session, count) => Some(Event::Hear {
+            session: *session,
+            count: *count,
+        }),
+    }
+}
+
+fn told<L: Shared<A>, A: Allocator + Copy>(
+    alloc: A,
+    floor: &mut Floor<L, A>,
+    turn: &Turn<L::Asked>,
+) -> Told<L::Why> {
+    match event::<L, A>(alloc, turn) {
+        Some(event) => floor.step(event),
+        None => Err(StepFault::NoMemory),
+    }
+}
+
+/// Whether that is told.
+fn is_told<L: Shared<A>, A: Allocator + Copy>(told: &Told<L::Why>, wanted: &Told<L::Why>) -> bool {
+    match (told, wanted) {
+        (Ok(answer), Ok(wanted)) => L::is_answer(answer, wanted),
+        (Err(fault), Err(wanted)) => *fault == *wanted,
+        _ => false,
+    }
+}
+
+/// Whether the sessions have seen so many entries, and there are no others.
+fn have_seen<L: Live, A: Allocator + Copy>(floor: &Floor<L, A>, seen: &[u64]) -> bool {
+    for (session, count) in seen.iter().enumerate() {
+        if floor.seen(session) != Some(*count) {
+            return false;
         }
-        Err(answers) => Outcome::refused_if(
-            stopped(floor, answers.as_slice()) && goes_on(alloc, floor, answers.len()),
-        ),
     }
+    floor.seen(seen.len()).is_none()
 }
 
-/// Whether the events from that one on are played to the end.
-fn goes_on<A: Allocator + Copy>(alloc: A, floor: &mut TallyFloor<A>, from: usize) -> bool {
-    match events(alloc, from) {
-        Ok(events) => ends(floor, events, from),
-        Err(NoMemory) => false,
-    }
-}
-
-fn ends<A: Allocator + Copy>(
-    floor: &mut TallyFloor<A>,
-    events: Vec<Event<u8>, A>,
-    from: usize,
+/// Whether the floor stands as it is to after the step.
+fn stands<L: Shared<A>, A: Allocator + Copy>(
+    floor: &Floor<L, A>,
+    step: &Step<L::Asked, L::Why>,
 ) -> bool {
-    match floor.play(events) {
-        Ok(answers) => {
-            ANSWERS.as_slice().get(from..) == Some(answers.as_slice())
-                && stands(floor, &[5, 6], &[5, 6])
+    let (_, _, working, published, seen) = step;
+    floor.working().shows(*working) && floor.board().shows(*published) && have_seen(floor, seen)
+}
+
+/// Whether the floor stands as it is to before the step at that place.
+fn stands_before<L: Shared<A>, A: Allocator + Copy>(
+    floor: &Floor<L, A>,
+    steps: &[Step<L::Asked, L::Why>],
+    place: usize,
+) -> bool {
+    match place.checked_sub(1) {
+        Some(last) => match steps.get(last) {
+            Some(step) => stands(floor, step),
+            None => false,
+        },
+        None => floor.journal().is_empty() && floor.published_count() == 0,
+    }
+}
+
+/// What comes of the step.
+fn stepped<L: Shared<A>, A: Allocator + Copy>(
+    alloc: A,
+    floor: &mut Floor<L, A>,
+    step: &Step<L::Asked, L::Why>,
+) -> Outcome {
+    let (turn, wanted, _, _, _) = step;
+    match told(alloc, floor, turn) {
+        Err(StepFault::NoMemory) => Outcome::Refused,
+        told => Outcome::done_if(is_told::<L, A>(&told, wanted) && stands(floor, step)),
+    }
+}
+
+/// The place of the first step that comes out otherwise, and whether one was refused an allocation. That one changes nothing, and then succeeds.
+fn other_step<L: Shared<A>, A: Allocator + Copy>(
+    alloc: A,
+    floor: &mut Floor<L, A>,
+    steps: &[Step<L::Asked, L::Why>],
+) -> (Option<usize>, bool) {
+    let mut refused = false;
+    for (place, step) in steps.iter().enumerate() {
+        let mut outcome = stepped(alloc, floor, step);
+        if outcome == Outcome::Refused && stands_before(floor, steps, place) {
+            refused = true;
+            outcome = stepped(alloc, floor, step);
+        }
+        if outcome != Outcome::Done {
+            return (Some(place), refused);
+        }
+    }
+    (None, refused)
+}
+
+/// A floor over such a state.
+fn floor_over<L: Shared<A>, A: Allocator + Copy>(
+    alloc: A,
+    pool: usize,
+    journal: usize,
+    sessions: usize,
+) -> Result<Floor<L, A>, FloorFault> {
+    match L::begun(alloc, pool) {
+        Some(state) => Floor::begin(alloc, state, journal, sessions),
+        None => Err(FloorFault::NoMemory),
+    }
+}
+
+/// The place of the first step that comes out otherwise on such a floor.
+fn other_of<L: Shared<Global>>(
+    alloc: Global,
+    pool: usize,
+    journal: usize,
+    sessions: usize,
+    steps: &[Step<L::Asked, L::Why>],
+) -> Result<Option<usize>, FloorFault> {
+    let mut floor = floor_over::<L, Global>(alloc, pool, journal, sessions)?;
+    let (other, _) = other_step(alloc, &mut floor, steps);
+    Ok(other)
+}
+
+/// Two sessions see apart from each other, and a look shows no more than is published.
+const APART: &[Step<u8, Full>] = &[
+    (
+        Turn::Enter(1, 5),
+        Ok(Answer::Replied(Reply::Entered(1))),
+        Sight::Bytes(&[5]),
+        Sight::Bytes(&[]),
+        &[0, 0],
+    ),
+    (
+        Turn::Publish,
+        Ok(Answer::Published(1)),
+        Sight::Bytes(&[5]),
+        Sight::Bytes(&[5]),
+        &[0, 0],
+    ),
+    (
+        Turn::Enter(0, 6),
+        Ok(Answer::Replied(Reply::Entered(2))),
+        Sight::Bytes(&[5, 6]),
+        Sight::Bytes(&[5]),
+        &[0, 0],
+    ),
+    (
+        Turn::Look(1),
+        Ok(Answer::Looked(1)),
+        Sight::Bytes(&[5, 6]),
+        Sight::Bytes(&[5]),
+        &[0, 1],
+    ),
+    (
+        Turn::Hear(0, 2),
+        Err(StepFault::Ahead),
+        Sight::Bytes(&[5, 6]),
+        Sight::Bytes(&[5]),
+        &[0, 1],
+    ),
+    (
+        Turn::Hear(0, 1),
+        Ok(Answer::Heard(1)),
+        Sight::Bytes(&[5, 6]),
+        Sight::Bytes(&[5]),
+        &[1, 1],
+    ),
+    (
+        Turn::Hear(1, 0),
+        Ok(Answer::Heard(1)),
+        Sight::Bytes(&[5, 6]),
+        Sight::Bytes(&[5]),
+        &[1, 1],
+    ),
+];
+
+/// The tests in their order: the session, the count that is heard, the journal's limit, which is met before the state's.
+const FULL_JOURNAL: &[Step<u8, Full>] = &[
+    (
+        Turn::Hear(1, 7),
+        Err(StepFault::NoSession),
+        Sight::Bytes(&[]),
+        Sight::Bytes(&[]),
+        &[0],
+    ),
+    (
+        Turn::Enter(0, 1),
+        Ok(Answer::Replied(Reply::Entered(1))),
+        Sight::Bytes(&[1]),
+        Sight::Bytes(&[]),
+        &[0],
+    ),
+    (
+        Turn::Enter(0, 2),
+        Ok(Answer::Replied(Reply::Entered(2))),
+        Sight::Bytes(&[1, 2]),
+        Sight::Bytes(&[]),
+        &[0],
+    ),
+    (
+        Turn::Enter(0, 3),
+        Ok(Answer::Replied(Reply::Entered(3))),
+        Sight::Bytes(&[1, 2, 3]),
+        Sight::Bytes(&[]),
+        &[0],
+    ),
+    (
+        Turn::Enter(1, 4),
+        Err(StepFault::NoSession),
+        Sight::Bytes(&[1, 2, 3]),
+        Sight::Bytes(&[]),
+        &[0],
+    ),
+    (
+        Turn::Look(1),
+        Err(StepFault::NoSession),
+        Sight::Bytes(&[1, 2, 3]),
+        Sight::Bytes(&[]),
+        &[0],
+    ),
+    (
+        Turn::Enter(0, 4),
+        Ok(Answer::Replied(Reply::JournalFull)),
+        Sight::Bytes(&[1, 2, 3]),
+        Sight::Bytes(&[]),
+        &[0],
+    ),
+];
+
+/// The state's limit is met where the journal has room for more.
+const FULL_STATE: &[Step<u8, Full>] = &[
+    (
+        Turn::Enter(0, 1),
+        Ok(Answer::Replied(Reply::Entered(1))),
+        Sight::Bytes(&[1]),
+        Sight::Bytes(&[]),
+        &[0],
+    ),
+    (
+        Turn::Enter(0, 2),
+        Ok(Answer::Replied(Reply::Entered(2))),
+        Sight::Bytes(&[1, 2]),
+        Sight::Bytes(&[]),
+        &[0],
+    ),
+    (
+        Turn::Enter(0, 3),
+        Ok(Answer::Replied(Reply::Entered(3))),
+        Sight::Bytes(&[1, 2, 3]),
+        Sight::Bytes(&[]),
+        &[0],
+    ),
+    (
+        Turn::Enter(1, 4),
+        Err(StepFault::NoSession),
+        Sight::Bytes(&[1, 2, 3]),
+        Sight::Bytes(&[]),
+        &[0],
+    ),
+    (
+        Turn::Enter(0, 4),
+        Ok(Answer::Replied(Reply::Not(Full))),
+        Sight::Bytes(&[1, 2, 3]),
+        Sight::Bytes(&[]),
+        &[0],
+    ),
+];
+
+/// Looks before a publish and behind it, and what is heard.
+const LOOKS: &[Step<Line, Why>] = &[
+    (
+        Turn::Look(0),
+        Ok(Answer::Looked(0)),
+        Sight::Queries(0),
+        Sight::Queries(0),
+        &[0],
+    ),
+    (
+        Turn::Enter(0, Line::Answer),
+        Ok(Answer::Replied(Reply::Entered(1))),
+        Sight::Queries(1),
+        Sight::Queries(0),
+        &[0],
+    ),
+    (
+        Turn::Look(0),
+        Ok(Answer::Looked(0)),
+        Sight::Queries(1),
+        Sight::Queries(0),
+        &[0],
+    ),
+    (
+        Turn::Publish,
+        Ok(Answer::Published(1)),
+        Sight::Queries(1),
+        Sight::Queries(1),
+        &[0],
+    ),
+    (
+        Turn::Look(0),
+        Ok(Answer::Looked(1)),
+        Sight::Queries(1),
+        Sight::Queries(1),
+        &[1],
+    ),
+    (
+        Turn::Hear(0, 2),
+        Err(StepFault::Ahead),
+        Sight::Queries(1),
+        Sight::Queries(1),
+        &[1],
+    ),
+    (
+        Turn::Hear(0, 0),
+        Ok(Answer::Heard(1)),
+        Sight::Queries(1),
+        Sight::Queries(1),
+        &[1],
+    ),
+    (
+        Turn::Look(1),
+        Err(StepFault::NoSession),
+        Sight::Queries(1),
+        Sight::Queries(1),
+        &[1],
+    ),
+];
+
+/// The journal's limit is met before the name that is taken.
+const JOURNAL_FULL: &[Step<Line, Why>] = &[
+    (
+        Turn::Enter(0, Line::Answer),
+        Ok(Answer::Replied(Reply::Entered(1))),
+        Sight::Queries(1),
+        Sight::Queries(0),
+        &[0],
+    ),
+    (
+        Turn::Enter(0, Line::Other),
+        Ok(Answer::Replied(Reply::Entered(2))),
+        Sight::Queries(2),
+        Sight::Queries(0),
+        &[0],
+    ),
+    (
+        Turn::Enter(0, Line::Answer),
+        Ok(Answer::Replied(Reply::JournalFull)),
+        Sight::Queries(2),
+        Sight::Queries(0),
+        &[0],
+    ),
+    (
+        Turn::Publish,
+        Ok(Answer::Published(2)),
+        Sight::Queries(2),
+        Sight::Queries(2),
+        &[0],
+    ),
+];
+
+/// The pool's limit is met before the name that is taken.
+const POOL_FULL: &[Step<Line, Why>] = &[
+    (
+        Turn::Enter(0, Line::Answer),
+        Ok(Answer::Replied(Reply::Entered(1))),
+        Sight::Queries(1),
+        Sight::Queries(0),
+        &[0],
+    ),
+    (
+        Turn::Enter(0, Line::Answer),
+        Ok(Answer::Replied(Reply::Not(Why::PoolFull))),
+        Sight::Queries(1),
+        Sight::Queries(0),
+        &[0],
+    ),
+];
+
+/// A flight to Paris and a query for one are published. Then the flight goes to Rome, which is published too.
+const FLIGHT: &[Step<Line, Why>] = &[
+    (
+        Turn::Enter(0, Line::Paris),
+        Ok(Answer::Replied(Reply::Entered(1))),
+        Sight::Queries(0),
+        Sight::Queries(0),
+        &[0],
+    ),
+    (
+        Turn::Enter(0, Line::Asked),
+        Ok(Answer::Replied(Reply::Entered(2))),
+        Sight::Grounded(true),
+        Sight::Queries(0),
+        &[0],
+    ),
+    (
+        Turn::Publish,
+        Ok(Answer::Published(2)),
+        Sight::Grounded(true),
+        Sight::Grounded(true),
+        &[0],
+    ),
+    (
+        Turn::Enter(0, Line::NoParis),
+        Ok(Answer::Replied(Reply::Entered(3))),
+        Sight::Grounded(false),
+        Sight::Grounded(true),
+        &[0],
+    ),
+    (
+        Turn::Enter(0, Line::Rome),
+        Ok(Answer::Replied(Reply::Entered(4))),
+        Sight::Grounded(false),
+        Sight::Grounded(true),
+        &[0],
+    ),
+    (
+        Turn::Look(0),
+        Ok(Answer::Looked(2)),
+        Sight::Grounded(false),
+        Sight::Grounded(true),
+        &[2],
+    ),
+    (
+        Turn::Publish,
+        Ok(Answer::Published(4)),
+        Sight::Grounded(false),
+        Sight::Grounded(false),
+        &[2],
+    ),
+    (
+        Turn::Look(0),
+        Ok(Answer::Looked(4)),
+        Sight::Grounded(false),
+        Sight::Grounded(false),
+        &[4],
+    ),
+];
+
+#[test]
+fn floors_over_a_tally(rt: HostRuntime) {
+    for (journal, sessions, steps) in [(9, 2, APART), (3, 1, FULL_JOURNAL), (4, 1, FULL_STATE)] {
+        let other = other_of::<Tally>(rt.alloc(), 9, journal, sessions, steps);
+        assert!(rt; other == Ok(None), "{journal}: {other:?}");
+    }
+}
+
+/// The published board is behind the working one.
+const BEHIND: &[Step<Line, Why>] = &[
+    (
+        Turn::Enter(0, Line::Answer),
+        Ok(Answer::Replied(Reply::Entered(1))),
+        Sight::Queries(1),
+        Sight::Queries(0),
+        &[0],
+    ),
+    (
+        Turn::Publish,
+        Ok(Answer::Published(1)),
+        Sight::Queries(1),
+        Sight::Queries(1),
+        &[0],
+    ),
+    (
+        Turn::Enter(0, Line::Other),
+        Ok(Answer::Replied(Reply::Entered(2))),
+        Sight::Queries(2),
+        Sight::Queries(1),
+        &[0],
+    ),
+];
+
+/// A board, of which a floor has two.
+trait Counted: Shared<Global, Asked = Line, Why = Why> {
+    /// How many queries the working board and the published one have.
+    fn counts(floor: &Floor<Self>) -> (usize, usize);
+}
+
+impl Counted for Board {
+    fn counts(floor: &Floor<Board>) -> (usize, usize) {
+        (working_board(floor).len(), published_board(floor).len())
+    }
+}
+
+/// Whether the published board is seen to be behind, and looks of a session and of nobody are answered by their own call.
+fn is_behind<L: Counted>(alloc: Global) -> bool {
+    looks_never_fall::<L>();
+    match floor_over::<L, Global>(alloc, 9, 9, 1) {
+        Ok(mut floor) => {
+            let (other, _) = other_step(alloc, &mut floor, BEHIND);
+            let looked = floor.look(0) == Some(1) && floor.look(1).is_none();
+            other.is_none() && looked && L::counts(&floor) == (2, 1)
         }
         Err(_) => false,
     }
 }
 
-fn stopped<A: Allocator + Copy>(floor: &TallyFloor<A>, answers: &[Told]) -> bool {
-    match answers.len() {
-        0 => stands(floor, &[], &[]),
-        2 => stands(floor, &[5], &[]) && answers == &ANSWERS[..2],
-        3 => stands(floor, &[5, 6], &[]) && answers == &ANSWERS[..3],
-        _ => false,
+/// What is done with boards.
+#[derive(Clone, Copy)]
+enum Work {
+    Desk,
+    Looks,
+    JournalFull,
+    PoolFull,
+    Flight,
+    Behind,
+}
+
+/// Whether it comes out right. There is one call for all, since what is known of a board makes each such call dear to prove.
+fn is_right<L: Counted>(alloc: Global, work: Work) -> bool {
+    match work {
+        Work::Desk => desks::is_right::<L>(alloc),
+        Work::Looks => other_of::<L>(alloc, 9, 9, 1, LOOKS) == Ok(None),
+        Work::JournalFull => other_of::<L>(alloc, 10, 2, 1, JOURNAL_FULL) == Ok(None),
+        Work::PoolFull => other_of::<L>(alloc, 1, 9, 1, POOL_FULL) == Ok(None),
+        Work::Flight => other_of::<L>(alloc, 9, 9, 1, FLIGHT) == Ok(None),
+        Work::Behind => is_behind::<L>(alloc),
+    }
+}
+
+#[test]
+fn desks_and_floors_over_a_board(rt: HostRuntime) {
+    let works = [
+        Work::Desk,
+        Work::Looks,
+        Work::JournalFull,
+        Work::PoolFull,
+        Work::Flight,
+        Work::Behind,
+    ];
+    for (place, work) in works.iter().enumerate() {
+        assert!(rt; is_right::<Board>(rt.alloc(), *work), "{place}");
+    }
+}
+
+/// Whether a floor with so many sessions is refused for their number.
+fn is_refused<L: Shared<Global>>(alloc: Global, sessions: usize) -> bool {
+    match floor_over::<L, Global>(alloc, 9, 9, sessions) {
+        Ok(_) => false,
+        Err(fault) => fault == FloorFault::Sessions,
+    }
+}
+
+#[test]
+fn sessions_from_1_to_16(rt: HostRuntime) {
+    for (sessions, refused) in [(0, true), (1, false), (16, false), (17, true)] {
+        assert!(rt;
+            is_refused::<Tally>(rt.alloc(), sessions) == refused,
+            "{sessions}"
+        );
+    }
+}
+
+/// Two bytes, a publish and a look, a refused edit among them.
+const TURNS: &[Step<u8, Full>] = &[
+    (
+        Turn::Enter(0, 5),
+        Ok(Answer::Replied(Reply::Entered(1))),
+        Sight::Bytes(&[5]),
+        Sight::Bytes(&[]),
+        &[0],
+    ),
+    (
+        Turn::Enter(9, 7),
+        Err(StepFault::NoSession),
+        Sight::Bytes(&[5]),
+        Sight::Bytes(&[]),
+        &[0],
+    ),
+    (
+        Turn::Enter(0, 6),
+        Ok(Answer::Replied(Reply::Entered(2))),
+        Sight::Bytes(&[5, 6]),
+        Sight::Bytes(&[]),
+        &[0],
+    ),
+    (
+        Turn::Publish,
+        Ok(Answer::Published(2)),
+        Sight::Bytes(&[5, 6]),
+        Sight::Bytes(&[5, 6]),
+        &[0],
+    ),
+    (
+        Turn::Look(0),
+        Ok(Answer::Looked(2)),
+        Sight::Bytes(&[5, 6]),
+        Sight::Bytes(&[5, 6]),
+        &[2],
+    ),
+];
+
+fn is_begun<L: Shared<A>, A: Allocator + Copy>(alloc: A, state: L) -> Result<bool, FloorFault> {
+    let floor = Floor::begin(alloc, state, 9, 2)?;
+    let right = floor.working().shows(Sight::LeftBy(0)) && floor.board().shows(Sight::LeftBy(0));
+    Ok(right && have_seen(&floor, &[0, 0]))
+}
+
+/// Whether a floor over such a state begins so; `None` where the state was refused an allocation.
+fn begun<L: Shared<A>, A: Allocator + Copy>(alloc: A) -> Option<Result<bool, FloorFault>> {
+    let state = L::begun(alloc, 9)?;
+    Some(is_begun(alloc, state))
+}
+
+struct Begin;
+
+impl Tried for Begin {
+    fn tried<A: Allocator + Copy>(alloc: A) -> Outcome {
+        match begun::<Tally<A>, A>(alloc) {
+            Some(Ok(right)) => Outcome::done_if(right),
+            Some(Err(FloorFault::NoMemory)) => {
+                Outcome::refused_if(begun::<Tally<A>, A>(alloc) == Some(Ok(true)))
+            }
+            Some(Err(_)) => Outcome::Wrong,
+            None => Outcome::Unready,
+        }
+    }
+}
+
+/// What comes of steps on a floor with one session.
+fn steps<L: Shared<A>, A: Allocator + Copy>(alloc: A, steps: &[Step<L::Asked, L::Why>]) -> Outcome {
+    match floor_over::<L, A>(alloc, 9, 9, 1) {
+        Ok(mut floor) => match other_step(alloc, &mut floor, steps) {
+            (None, false) => Outcome::Done,
+            (None, true) => Outcome::Refused,
+            _ => Outcome::Wrong,
+        },
+        Err(_) => Outcome::Unready,
+    }
+}
+
+struct Stepping;
+
+impl Tried for Stepping {
+    fn tried<A: Allocator + Copy>(alloc: A) -> Outcome {
+        steps::<Tally<A>, A>(alloc, TURNS)
+    }
+}
+
+/// The events of the steps from that place on.
+fn events<L: Shared<A>, A: Allocator + Copy>(
+    alloc: A,
+    steps: &[Step<L::Asked, L::Why>],
+    from: usize,
+) -> Option<Vec<Event<L::Edit>, A>> {
+    let mut events = Vec::new(alloc);
+    for (turn, _, _, _, _) in steps.get(from..)? {
+        events.push(event::<L, A>(alloc, turn)?).ok()?;
+    }
+    Some(events)
+}
+
+/// Before which step the answers end, which are those to the steps from that place on.
+fn answered<L: Shared<A>, A: Allocator + Copy>(
+    answers: &[Told<L::Why>],
+    steps: &[Step<L::Asked, L::Why>],
+    from: usize,
+) -> Option<usize> {
+    let mut place = from;
+    for told in answers {
+        let (_, wanted, _, _, _) = steps.get(place)?;
+        if !is_told::<L, A>(told, wanted) {
+            return None;
+        }
+        place = place.saturating_add(1);
+    }
+    Some(place)
+}
+
+/// Before which step the floor stops where it plays the events of those from that place on, where it then stands as it is to. Where it
+/// stops before the end, it says so.
+fn plays<L: Shared<A>, A: Allocator + Copy>(
+    floor: &mut Floor<L, A>,
+    events: Vec<Event<L::Edit>, A>,
+    steps: &[Step<L::Asked, L::Why>],
+    from: usize,
+) -> Option<usize> {
+    let (answers, whole) = match floor.play(events) {
+        Ok(answers) => (answers, true),
+        Err(answers) => (answers, false),
+    };
+    let place = answered::<L, A>(&answers, steps, from)?;
+    if whole == (place == steps.len()) && stands_before(floor, steps, place) {
+        Some(place)
+    } else {
+        None
+    }
+}
+
+/// Whether the events from that place on are played to the end.
+fn goes_on<L: Shared<A>, A: Allocator + Copy>(
+    alloc: A,
+    floor: &mut Floor<L, A>,
+    steps: &[Step<L::Asked, L::Why>],
+    from: usize,
+) -> bool {
+    match events::<L, A>(alloc, steps, from) {
+        Some(events) => plays(floor, events, steps, from) == Some(steps.len()),
+        None => false,
+    }
+}
+
+/// What comes of all events: all answers, or those of a front. The rest is then played.
+fn played<L: Shared<A>, A: Allocator + Copy>(
+    alloc: A,
+    floor: &mut Floor<L, A>,
+    steps: &[Step<L::Asked, L::Why>],
+) -> Outcome {
+    let Some(events) = events::<L, A>(alloc, steps, 0) else {
+        return Outcome::Unready;
+    };
+    match plays(floor, events, steps, 0) {
+        Some(place) if place == steps.len() => Outcome::Done,
+        Some(place) => Outcome::refused_if(goes_on(alloc, floor, steps, place)),
+        None => Outcome::Wrong,
+    }
+}
+
+/// The same on a floor with one session.
+fn plays_all<L: Shared<A>, A: Allocator + Copy>(
+    alloc: A,
+    steps: &[Step<L::Asked, L::Why>],
+) -> Outcome {
+    match floor_over::<L, A>(alloc, 9, 9, 1) {
+        Ok(mut floor) => played(alloc, &mut floor, steps),
+        Err(_) => Outcome::Unready,
+    }
+}
+
+struct Playing;
+
+impl Tried for Playing {
+    fn tried<A: Allocator + Copy>(alloc: A) -> Outcome {
+        plays_all::<Tally<A>, A>(alloc, TURNS)
+    }
+}
+
+/// Whether some allocations of the call were refused, and nothing but what is right came of it.
+fn is_borne(refused: Result<u64, u64>) -> bool {
+    match refused {
+        Ok(count) => count > 0,
+        Err(_) => false,
     }
 }
 
 #[test]
 fn each_allocation_of_a_floor_refused(rt: HostRuntime) {
     assert!(rt; is_borne(refusals::<Begin>(rt.alloc())));
-    assert!(rt; is_borne(refusals::<Step>(rt.alloc())));
-    assert!(rt; is_borne(refusals::<Play>(rt.alloc())));
+    assert!(rt; is_borne(refusals::<Stepping>(rt.alloc())));
+    assert!(rt; is_borne(refusals::<Playing>(rt.alloc())));
 }

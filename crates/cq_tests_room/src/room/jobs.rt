@@ -13,13 +13,3 @@ pub trait Job: Drop + Send {
 pub fn both<J: Job, K: Job, T: Threads>(threads: &T, one: J, other: K) -> (J::Told, K::Told) {
     join(threads, || one.run(), || other.run())
 }
-
-/// A job that does nothing.
-#[derive(Clone, Copy)]
-pub struct Idle;
-
-impl Job for Idle {
-    type Told = ();
-
-    fn run(self) {}
-}

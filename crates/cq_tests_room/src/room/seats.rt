@@ -1,8 +1,9 @@
 //! Sessions, and the rooms in which they submit. What drives them is generic in both, since what is known of a session
 //! or of a room would be too much.
 
-use crate::room::met::{Met, met_by};
-use crate::room::states::{Shared, Sight, both_edits};
+use crate::desk::desking::Looking;
+use crate::met::{Met, met_by};
+use crate::states::{Shared, Sight, edits, numbered_edits};
 use cq_desk::{Checkpoint, End, Live, Reply};
 use cq_room::{Front, Pair, Receipt, Room, RoomName, Session};
 use std::alloc::{Allocator, Global};
@@ -10,9 +11,6 @@ use std::sync::Wait;
 
 /// What a session hears of.
 pub trait Heard: Drop {
-    /// How many entries are published in it.
-    fn entries(&self) -> u64;
-
     /// Another one with the same history.
     fn again(&self) -> Self;
 
@@ -21,10 +19,6 @@ pub trait Heard: Drop {
 }
 
 impl<L: Live, N: RoomName<L::Content>> Heard for Front<L, N> {
-    fn entries(&self) -> u64 {
-        self.count()
-    }
-
     fn again(&self) -> Front<L, N> {
         self.copy()
     }
@@ -35,46 +29,40 @@ impl<L: Live, N: RoomName<L::Content>> Heard for Front<L, N> {
 }
 
 /// Who looks at what is published, and hears of it.
-pub trait Seated: Drop {
+pub trait Seated: Looking {
     /// What the session hears of.
     type Told: Heard;
 
-    /// The session after a look that so many entries left, and that shows this.
-    fn looks(self, count: u64, sight: Sight) -> Option<Self>;
-
     fn hears(&mut self, told: &Self::Told);
 
-    /// How many entries the session has seen or heard of.
-    fn has_seen(&self) -> u64;
-
-    /// The session's number.
-    fn seat(&self) -> usize;
+    /// Whether it is the session of that number, and has seen or heard of so many entries.
+    fn is_at(&self, number: usize, count: u64) -> bool;
 
     /// What the session has seen or heard of.
     fn knows(&self) -> Self::Told;
 }
 
+impl<L: Shared<A>, N: RoomName<L::Content>, A: Allocator + Copy> Looking for Session<L, N, A> {
+    fn looks(self, count: u64, sight: Sight) -> (Session<L, N, A>, bool) {
+        match self.watch() {
+            Ok(look) => {
+                let right = look.count() == count && look.state().shows(sight);
+                (look.leave(), right)
+            }
+            Err(session) => (session, false),
+        }
+    }
+}
+
 impl<L: Shared<A>, N: RoomName<L::Content>, A: Allocator + Copy> Seated for Session<L, N, A> {
     type Told = Front<L, N>;
-
-    fn looks(self, count: u64, sight: Sight) -> Option<Session<L, N, A>> {
-        let look = self.watch().ok()?;
-        if look.count() != count || !look.state().shows(sight) {
-            return None;
-        }
-        Some(look.leave())
-    }
 
     fn hears(&mut self, told: &Front<L, N>) {
         self.hear(told);
     }
 
-    fn has_seen(&self) -> u64 {
-        self.seen()
-    }
-
-    fn seat(&self) -> usize {
-        self.number()
+    fn is_at(&self, number: usize, count: u64) -> bool {
+        self.number() == number && self.seen() == count
     }
 
     fn knows(&self) -> Front<L, N> {
@@ -89,16 +77,7 @@ pub trait Hall<S: Seated> {
     /// Why an edit is refused.
     type Why;
 
-    /// What a submit tells of, where it has these replies and so many entries are published.
-    fn submits(
-        &self,
-        session: &mut S,
-        asked: &[Self::Asked],
-        replies: &[Reply<Self::Why>],
-        count: u64,
-    ) -> Option<S::Told>;
-
-    /// The same past a checkpoint.
+    /// What a submit past a checkpoint tells of, where it has these replies and so many entries are published.
     fn submits_past<G: Checkpoint>(
         &self,
         session: &mut S,
@@ -108,11 +87,11 @@ pub trait Hall<S: Seated> {
         gate: &mut G,
     ) -> Option<S::Told>;
 
-    /// The same of an empty submit.
-    fn submits_nothing(&self, session: &mut S, count: u64) -> Option<S::Told>;
-
-    /// What comes of a submit of the two edits.
+    /// What comes of a submit of the first two numbered edits.
     fn submits_both(&self, session: &mut S) -> Met;
+
+    /// What a submit of the last two numbered edits tells of, or an empty one, after which so many entries are published.
+    fn submits_more(&self, session: &mut S, last: bool, count: u64) -> Option<S::Told>;
 }
 
 /// A room over two copies of the state.
@@ -151,14 +130,32 @@ fn replied<L: Shared<A>, N: RoomName<L::Content>, A: Allocator + Copy>(
     published(receipt, right, count)
 }
 
+/// The same, where these are the replies to the last two numbered edits, or none.
+fn more_replied<L: Shared<A>, N: RoomName<L::Content>, A: Allocator + Copy>(
+    receipt: Receipt<L, N, A>,
+    last: bool,
+    count: u64,
+) -> Option<Front<L, N>> {
+    let right = are_more::<L, A>(receipt.submitted.replies.as_slice(), last);
+    published(receipt, right, count)
+}
+
 /// In what a submit of two edits met the refusal. It tells of a front exactly where both are published.
-fn met_in<L: Live, N: RoomName<L::Content>, A: Allocator + Copy>(
-    receipt: &Receipt<L, N, A>,
-) -> Met {
-    let met = met_by(&receipt.submitted);
-    match &receipt.front {
+fn met_in<L: Live, N: RoomName<L::Content>, A: Allocator + Copy>(receipt: Receipt<L, N, A>) -> Met {
+    let Receipt { submitted, front } = receipt;
+    let met = met_by(&submitted);
+    match front {
         Some(front) => met.if_right(met == Met::Nothing && front.count() == 2),
         None => met.if_right(met != Met::Nothing),
+    }
+}
+
+/// Whether these are the replies to the last two numbered edits, or none.
+fn are_more<L: Shared<A>, A: Allocator + Copy>(replies: &[Reply<L::Why>], last: bool) -> bool {
+    match replies {
+        [] => !last,
+        [Reply::Entered(3), Reply::Not(why)] => last && L::is_refusal(why),
+        _ => false,
     }
 }
 
@@ -169,20 +166,6 @@ impl<'a, L: Shared<A>, N: RoomName<L::Content>, R: Wait + Drop, A: Allocator + C
 
     type Why = L::Why;
 
-    fn submits(
-        &self,
-        session: &mut Session<L, N, A>,
-        asked: &[L::Asked],
-        replies: &[Reply<L::Why>],
-        count: u64,
-    ) -> Option<Front<L, N>> {
-        let asked = L::edits(self.alloc, asked)?;
-        match session.submit(self.rt, self.room, asked) {
-            Ok(receipt) => replied(receipt, replies, count),
-            Err(_) => None,
-        }
-    }
-
     fn submits_past<G: Checkpoint>(
         &self,
         session: &mut Session<L, N, A>,
@@ -191,30 +174,34 @@ impl<'a, L: Shared<A>, N: RoomName<L::Content>, R: Wait + Drop, A: Allocator + C
         count: u64,
         gate: &mut G,
     ) -> Option<Front<L, N>> {
-        let asked = L::edits(self.alloc, asked)?;
+        let asked = edits::<L, A>(self.alloc, asked)?;
         match session.submit_past(self.rt, self.room, asked, gate) {
             Ok(receipt) => replied(receipt, replies, count),
             Err(_) => None,
         }
     }
 
-    fn submits_nothing(&self, session: &mut Session<L, N, A>, count: u64) -> Option<Front<L, N>> {
-        match session.submit(self.rt, self.room, Vec::new(self.alloc)) {
-            Ok(receipt) => {
-                let right = receipt.submitted.replies.is_empty();
-                published(receipt, right, count)
-            }
-            Err(_) => None,
-        }
-    }
-
     fn submits_both(&self, session: &mut Session<L, N, A>) -> Met {
-        let Some(asked) = both_edits::<L, A>(self.alloc) else {
+        let Some(asked) = numbered_edits::<L, A>(self.alloc, 1, 3) else {
             return Met::Setup;
         };
         match session.submit(self.rt, self.room, asked) {
-            Ok(receipt) => met_in(&receipt),
+            Ok(receipt) => met_in(receipt),
             Err(_) => Met::Replies,
+        }
+    }
+
+    fn submits_more(
+        &self,
+        session: &mut Session<L, N, A>,
+        last: bool,
+        count: u64,
+    ) -> Option<Front<L, N>> {
+        let end = if last { 5 } else { 3 };
+        let asked = numbered_edits::<L, A>(self.alloc, 3, end)?;
+        match session.submit(self.rt, self.room, asked) {
+            Ok(receipt) => more_replied(receipt, last, count),
+            Err(_) => None,
         }
     }
 }

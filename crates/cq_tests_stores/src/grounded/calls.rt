@@ -1,10 +1,11 @@
 //! Calls of grounded, and of the tables that they are over, as the tests have them.
 
 use crate::stores::{Copied, Store, go_on_with_copy};
-use crate::texts::{Given, query, row};
+use crate::texts::{query_of, row_of};
 use cq_atom::{Meter, Query, Row};
 use cq_grounded::GroundedQueries;
 use cq_rel::{Catalog, CatalogFault, Tables};
+use cq_text::Command;
 use std::alloc::{AllocError, Allocator, Global};
 
 /// Tables over `T` of arity 2 and `U` of arity 1, and grounded over them.
@@ -141,8 +142,6 @@ impl<A: Allocator + Copy> Copied for GroundedQueries<A> {
 impl<A: Allocator + Copy> Store<A> for Sample<A> {
     type Call = Call;
 
-    type Given = Given<A>;
-
     fn begin(alloc: A) -> Result<Sample<A>, AllocError> {
         let tables = begun_tables(alloc)?;
         Ok(Sample {
@@ -151,35 +150,34 @@ impl<A: Allocator + Copy> Store<A> for Sample<A> {
         })
     }
 
-    fn given(alloc: A, call: &Call) -> Result<Given<A>, AllocError> {
+    fn text(call: &Call) -> &'static str {
         match call {
-            Call::Add(text, _) => query(alloc, text),
-            Call::Come(text) | Call::Gain(text, _) | Call::Lose(text, _) | Call::Open(text, _) => {
-                row(alloc, text)
-            }
-            _ => Ok(Given::Nothing),
+            Call::Add(text, _)
+            | Call::Come(text)
+            | Call::Gain(text, _)
+            | Call::Lose(text, _)
+            | Call::Open(text, _) => *text,
+            _ => "",
         }
     }
 
-    fn make(&mut self, _alloc: A, call: &Call, given: &Given<A>) -> Result<bool, AllocError> {
-        match (call, given) {
-            (Call::Add(_, place), Given::Query(query)) => {
+    fn make(&mut self, _alloc: A, call: &Call, given: &Command<A>) -> Result<bool, AllocError> {
+        match (call, query_of(given), row_of(given)) {
+            (Call::Add(_, place), Some(query), _) => {
                 is_put(&mut self.grounded, &self.tables, query, *place)
             }
-            (Call::Come(_), Given::Row(row)) => comes(&mut self.tables, row),
-            (Call::Gain(_, told), Given::Row(row)) => {
+            (Call::Come(_), _, Some(row)) => comes(&mut self.tables, row),
+            (Call::Gain(_, told), _, Some(row)) => {
                 is_gained(&mut self.grounded, &self.tables, row, *told)
             }
-            (Call::Lose(_, told), Given::Row(row)) => {
+            (Call::Lose(_, told), _, Some(row)) => {
                 Ok(is_lost(&mut self.grounded, &mut self.tables, row, *told))
             }
-            (Call::Withdraw(place), _) => Ok(is_withdrawn(&mut self.grounded, *place)),
-            (Call::Has(place, there), _) => Ok(self.grounded.has(*place) == *there),
-            (Call::Counts(counts), _) => Ok(are_counts(&self.grounded, counts)),
-            (Call::Open(_, places), Given::Row(row)) => {
-                Ok(are_open(&self.grounded, row, places))
-            }
-            (Call::Copy, _) => go_on_with_copy(&mut self.grounded),
+            (Call::Withdraw(place), _, _) => Ok(is_withdrawn(&mut self.grounded, *place)),
+            (Call::Has(place, there), _, _) => Ok(self.grounded.has(*place) == *there),
+            (Call::Counts(counts), _, _) => Ok(are_counts(&self.grounded, counts)),
+            (Call::Open(_, places), _, Some(row)) => Ok(are_open(&self.grounded, row, places)),
+            (Call::Copy, _, _) => go_on_with_copy(&mut self.grounded),
             _ => Ok(false),
         }
     }

@@ -1,55 +1,44 @@
 //! Calls of an index as the tables have them.
 
 use crate::stores::{Copied, Store, go_on_with_copy};
-use crate::texts::{Given, atom};
+use crate::texts::atom_of;
 use cq_atom::{Atom, Meter};
 use cq_index::AtomIndex;
+use cq_text::Command;
 use std::alloc::{AllocError, Allocator};
 
-/// The words of an atom of `R`: a number is a constant, any other word a variable.
-pub type Words = &'static [&'static str];
-
-/// A call of an index.
+/// A call of an index. An atom is the one of the body of the query of a text.
 pub enum Call {
     /// The atom is put where none stands.
-    Put(Words, usize),
+    Put(&'static str, usize),
     /// The atom is put where none stands, and taken away again.
-    PutAndTake(Words, usize),
+    PutAndTake(&'static str, usize),
     /// Whether an atom stands at the place.
     Has(usize, bool),
     /// These are the candidates of the atom.
-    Candidates(Words, &'static [usize]),
+    Candidates(&'static str, &'static [usize]),
     /// These are its partners, found by that many tests.
-    Partners(Words, &'static [usize], u64),
+    Partners(&'static str, &'static [usize], u64),
     /// A copy takes the index's place.
     Copy,
 }
 
-/// Adds the atom where nothing stands, and answers whether that was so.
-fn put<A: Allocator + Copy>(
+/// Adds the atom at a place where nothing stands, and takes it away again where it is not to stay. Answers whether
+/// nothing stood there, then the atom, and then nothing where it was taken away.
+fn comes<A: Allocator + Copy>(
     index: &mut AtomIndex<A>,
     place: usize,
     atom: &Atom<A>,
-) -> Result<bool, AllocError> {
-    if index.has(place) {
-        return Ok(false);
-    }
-    index.add(place, atom)?;
-    Ok(index.has(place))
-}
-
-/// Adds the atom at a place where nothing stands and takes it away again. Answers whether the place had it
-/// in between, and only then.
-fn comes_and_goes<A: Allocator + Copy>(
-    index: &mut AtomIndex<A>,
-    place: usize,
-    atom: &Atom<A>,
+    stays: bool,
 ) -> Result<bool, AllocError> {
     if index.has(place) {
         return Ok(false);
     }
     index.add(place, atom)?;
     let stood = index.has(place);
+    if stays {
+        return Ok(stood);
+    }
     index.remove(place, atom);
     Ok(stood && !index.has(place))
 }
@@ -82,29 +71,27 @@ impl<A: Allocator + Copy> Copied for AtomIndex<A> {
 impl<A: Allocator + Copy> Store<A> for AtomIndex<A> {
     type Call = Call;
 
-    type Given = Given<A>;
-
     fn begin(alloc: A) -> Result<AtomIndex<A>, AllocError> {
         Ok(AtomIndex::begin(alloc))
     }
 
-    fn given(alloc: A, call: &Call) -> Result<Given<A>, AllocError> {
+    fn text(call: &Call) -> &'static str {
         match call {
-            Call::Put(words, _)
-            | Call::PutAndTake(words, _)
-            | Call::Candidates(words, _)
-            | Call::Partners(words, _, _) => atom(alloc, words),
-            Call::Has(_, _) | Call::Copy => Ok(Given::Nothing),
+            Call::Put(text, _)
+            | Call::PutAndTake(text, _)
+            | Call::Candidates(text, _)
+            | Call::Partners(text, _, _) => *text,
+            Call::Has(_, _) | Call::Copy => "",
         }
     }
 
-    fn make(&mut self, _alloc: A, call: &Call, given: &Given<A>) -> Result<bool, AllocError> {
-        match (call, given) {
-            (Call::Put(_, place), Given::Atom(atom)) => put(self, *place, atom),
-            (Call::PutAndTake(_, place), Given::Atom(atom)) => comes_and_goes(self, *place, atom),
+    fn make(&mut self, _alloc: A, call: &Call, given: &Command<A>) -> Result<bool, AllocError> {
+        match (call, atom_of(given)) {
+            (Call::Put(_, place), Some(atom)) => comes(self, *place, atom, true),
+            (Call::PutAndTake(_, place), Some(atom)) => comes(self, *place, atom, false),
             (Call::Has(place, there), _) => Ok(self.has(*place) == *there),
-            (Call::Candidates(_, places), Given::Atom(atom)) => candidates_are(self, atom, places),
-            (Call::Partners(_, places, tests), Given::Atom(atom)) => {
+            (Call::Candidates(_, places), Some(atom)) => candidates_are(self, atom, places),
+            (Call::Partners(_, places, tests), Some(atom)) => {
                 partners_are(self, atom, places, *tests)
             }
             (Call::Copy, _) => go_on_with_copy(self),

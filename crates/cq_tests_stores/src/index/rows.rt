@@ -1,47 +1,78 @@
-//! The worked row.
+//! The worked index, and each allocation of a call refused in turn.
 
 use crate::index::calls::Call;
-use crate::stores::other_of;
-use cq_index::AtomIndex;
+use crate::stores::Trial;
 
 /// The worked index.
-pub const WORKED: &[Call] = &[
-    Call::Put(&["1"], 0),
-    Call::Put(&["2"], 1),
-    Call::Put(&["x"], 2),
-    Call::Put(&["1", "1"], 3),
+const WORKED: &[Call] = &[
+    Call::Put("post q {} Q(1) <- R(1)", 0),
+    Call::Put("post q {} Q(1) <- R(2)", 1),
+    Call::Put("post q {} Q(1) <- R(x)", 2),
+    Call::Put("post q {} Q(1) <- R(1, 1)", 3),
 ];
 
 /// What it answers.
-pub const ANSWERS: &[Call] = &[
-    Call::Candidates(&["1"], &[0, 2]),
-    Call::Partners(&["1"], &[0, 2], 2),
-    Call::Candidates(&["y"], &[0, 1, 2]),
-    Call::Partners(&["y"], &[0, 1, 2], 3),
-    Call::Candidates(&["1", "2"], &[3]),
-    Call::Partners(&["1", "2"], &[], 1),
-    Call::Candidates(&["y", "1"], &[3]),
-    Call::Partners(&["y", "1"], &[3], 1),
-    Call::Candidates(&["1", "1", "1"], &[]),
-    Call::Partners(&["1", "1", "1"], &[], 0),
+const ANSWERS: &[Call] = &[
+    Call::Candidates("post q {} Q(1) <- R(1)", &[0, 2]),
+    Call::Partners("post q {} Q(1) <- R(1)", &[0, 2], 2),
+    Call::Candidates("post q {} Q(1) <- R(y)", &[0, 1, 2]),
+    Call::Partners("post q {} Q(1) <- R(y)", &[0, 1, 2], 3),
+    Call::Candidates("post q {} Q(1) <- R(1, 2)", &[3]),
+    Call::Partners("post q {} Q(1) <- R(1, 2)", &[], 1),
+    Call::Candidates("post q {} Q(1) <- R(y, 1)", &[3]),
+    Call::Partners("post q {} Q(1) <- R(y, 1)", &[3], 1),
+    Call::Candidates("post q {} Q(1) <- R(1, 1, 1)", &[]),
+    Call::Partners("post q {} Q(1) <- R(1, 1, 1)", &[], 0),
 ];
-
-#[test]
-fn index_candidates(rt: HostRuntime) {
-    let other = other_of::<_, AtomIndex>(rt.alloc(), &[WORKED, ANSWERS, &[Call::Copy], ANSWERS]);
-    assert!(rt; other == Ok(None), "{other:?}");
-}
 
 /// Atoms that come and go where the place is free for them.
 const COMERS: &[Call] = &[
-    Call::PutAndTake(&["1"], 4),
-    Call::PutAndTake(&["z"], 5),
-    Call::PutAndTake(&["3", "x"], 6),
+    Call::PutAndTake("post q {} Q(1) <- R(1)", 4),
+    Call::PutAndTake("post q {} Q(1) <- R(z)", 5),
+    Call::PutAndTake("post q {} Q(1) <- R(3, x)", 6),
     Call::Has(3, true),
 ];
 
-#[test]
-fn removed_atoms_are_gone(rt: HostRuntime) {
-    let other = other_of::<_, AtomIndex>(rt.alloc(), &[WORKED, COMERS, ANSWERS]);
-    assert!(rt; other == Ok(None), "{other:?}");
-}
+/// Removed atoms are gone, and a copy answers the same.
+pub const CASES: &[&[&[Call]]] = &[
+    &[WORKED, ANSWERS, &[Call::Copy], ANSWERS],
+    &[WORKED, COMERS, ANSWERS],
+];
+
+const FREE: &[Call] = &[Call::Has(4, false)];
+
+/// The trials of `add`, `candidates`, `partners` and `copy`. An added atom is of an arity that no other has, so that the
+/// answers are the worked ones with it too, also those of a copy.
+pub const TRIALS: &[Trial<'static, Call>] = &[
+    // The first atom of all, before the worked ones.
+    Trial {
+        before: &[],
+        tried: Call::Put("post q {} Q(1) <- R(5, x, y)", 4),
+        shown: &[FREE],
+        after: &[
+            &[Call::Has(4, true)],
+            WORKED,
+            ANSWERS,
+            &[Call::Copy],
+            ANSWERS,
+        ],
+    },
+    Trial {
+        before: &[WORKED],
+        tried: Call::Candidates("post q {} Q(1) <- R(1)", &[0, 2]),
+        shown: &[FREE, ANSWERS],
+        after: &[&[Call::Copy], ANSWERS],
+    },
+    Trial {
+        before: &[WORKED],
+        tried: Call::Partners("post q {} Q(1) <- R(y)", &[0, 1, 2], 3),
+        shown: &[FREE, ANSWERS],
+        after: &[&[Call::Copy], ANSWERS],
+    },
+    Trial {
+        before: &[WORKED],
+        tried: Call::Copy,
+        shown: &[FREE, ANSWERS],
+        after: &[ANSWERS],
+    },
+];

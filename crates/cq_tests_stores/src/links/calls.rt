@@ -1,18 +1,16 @@
 //! Calls of links as the tables have them.
 
 use crate::stores::{Copied, Store, go_on_with_copy};
-use crate::texts::{Given, query};
+use crate::texts::query_of;
 use cq_atom::{Edge, Meter, Query};
 use cq_links::Links;
+use cq_text::Command;
 use std::alloc::{AllocError, Allocator};
-
-/// Provider, head, waiter and postcondition of an edge.
-pub type Ends = (usize, u8, usize, u8);
 
 /// A query, the edges that it makes after those above it, and how many pairs are tested for them.
 pub struct Posting {
     pub text: &'static str,
-    pub edges: &'static [Ends],
+    pub edges: &'static [Edge],
     pub tests: u64,
 }
 
@@ -28,19 +26,10 @@ pub enum Call {
     Copy,
 }
 
-fn has_edge(edges: &[Edge], wanted: Ends) -> bool {
-    for edge in edges {
-        if (edge.provider, edge.head, edge.waiter, edge.post) == wanted {
-            return true;
-        }
-    }
-    false
-}
-
 /// Whether these are the edges, in any order. The wanted ones are each given once.
-fn are_edges(edges: &[Edge], wanted: &[Ends]) -> bool {
-    for ends in wanted {
-        if !has_edge(edges, *ends) {
+fn are_edges(edges: &[Edge], wanted: &[Edge]) -> bool {
+    for edge in wanted {
+        if !edges.contains(edge) {
             return false;
         }
     }
@@ -89,26 +78,22 @@ impl<A: Allocator + Copy> Copied for Links<A> {
 impl<A: Allocator + Copy> Store<A> for Links<A> {
     type Call = Call;
 
-    type Given = Given<A>;
-
     fn begin(alloc: A) -> Result<Links<A>, AllocError> {
         Ok(Links::begin(alloc))
     }
 
-    fn given(alloc: A, call: &Call) -> Result<Given<A>, AllocError> {
+    fn text(call: &Call) -> &'static str {
         match call {
-            Call::Come(_, posting) => query(alloc, posting.text),
-            Call::ComeAndGo(_, text) => query(alloc, text),
-            Call::Has(_, _) | Call::Copy => Ok(Given::Nothing),
+            Call::Come(_, posting) => posting.text,
+            Call::ComeAndGo(_, text) => *text,
+            Call::Has(_, _) | Call::Copy => "",
         }
     }
 
-    fn make(&mut self, _alloc: A, call: &Call, given: &Given<A>) -> Result<bool, AllocError> {
-        match (call, given) {
-            (Call::Come(place, posting), Given::Query(query)) => comes(
-                self, *place, query, posting,
-            ),
-            (Call::ComeAndGo(place, _), Given::Query(query)) => comes_and_goes(self, *place, query),
+    fn make(&mut self, _alloc: A, call: &Call, given: &Command<A>) -> Result<bool, AllocError> {
+        match (call, query_of(given)) {
+            (Call::Come(place, posting), Some(query)) => comes(self, *place, query, posting),
+            (Call::ComeAndGo(place, _), Some(query)) => comes_and_goes(self, *place, query),
             (Call::Has(place, there), _) => Ok(self.has(*place) == *there),
             (Call::Copy, _) => go_on_with_copy(self),
             _ => Ok(false),

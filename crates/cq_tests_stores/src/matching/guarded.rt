@@ -89,11 +89,15 @@ fn are_taken<A: Allocator>(
     true
 }
 
-/// A matcher, and how many postconditions the node at each place has.
+/// Numbers of nodes are below.
+const PLACES: usize = 10_000;
+
+/// A matcher, how many postconditions the node at each place has, and how many edges lost their matched providers.
 #[derive(Drop)]
 pub struct Guarded<A: Allocator = Global> {
     matcher: Matcher<A>,
     posts: Vec<u8, A>,
+    meter: Meter,
 }
 
 impl<A: Allocator> Model for Guarded<A> {
@@ -109,12 +113,13 @@ impl<A: Allocator> Model for Guarded<A> {
 }
 
 impl<A: Allocator + Copy> Guarded<A> {
-    /// A matcher without nodes, for numbers below `places`.
-    pub fn begin(alloc: A, places: usize) -> Result<Guarded<A>, AllocError> {
-        let posts = vec![in alloc; 0u8; places]?;
+    /// A matcher without nodes.
+    pub fn begin(alloc: A) -> Result<Guarded<A>, AllocError> {
+        let posts = vec![in alloc; 0u8; PLACES]?;
         Ok(Guarded {
             matcher: Matcher::begin(alloc),
             posts,
+            meter: Meter::new(),
         })
     }
 
@@ -146,17 +151,22 @@ impl<A: Allocator + Copy> Guarded<A> {
 }
 
 impl<A: Allocator> Guarded<A> {
+    /// How many edges lost their matched providers to removals and to nodes that were able no longer.
+    pub fn lost(&self) -> u64 {
+        self.meter.count()
+    }
+
     /// The matcher itself.
     pub fn matcher(&self) -> &Matcher<A> {
         &self.matcher
     }
 
     /// Removes the node; false where it is not there.
-    pub fn remove(&mut self, node: usize, meter: &mut Meter) -> bool {
+    pub fn remove(&mut self, node: usize) -> bool {
         if !self.matcher.has(node) {
             return false;
         }
-        self.matcher.remove(node, meter);
+        self.matcher.remove(node, &mut self.meter);
         true
     }
 
@@ -170,11 +180,11 @@ impl<A: Allocator> Guarded<A> {
     }
 
     /// Lets the node be able no longer; false where it is not there.
-    pub fn disable(&mut self, node: usize, meter: &mut Meter) -> bool {
+    pub fn disable(&mut self, node: usize) -> bool {
         if !self.matcher.has(node) {
             return false;
         }
-        self.matcher.disable(node, meter);
+        self.matcher.disable(node, &mut self.meter);
         true
     }
 }

@@ -1,4 +1,4 @@
-//! Plain lists of nodes and edges, and what a matcher that has these must show.
+//! Plain lists of nodes and edges, and what is told of them where they are a graph.
 
 ghost use Rattle.std.specs.Prelude.{◌≡◌, ◌==◌, ◌<◌, IsTrue, nat_eq};
 ghost use Rattle.std.specs.List.{All, Any, IsDistinct, list_any};
@@ -6,13 +6,9 @@ ghost use Rattle.std.specs.List.Sorted.{IsNonDecreasingBy};
 ghost use Rattle.cq_match.specs.Matched.{numbers};
 ghost use Rattle.cq_tests_stores.specs.Guarded.{HasEnds};
 
-use crate::matching::edges::{Ends, edges_of};
 use cq_atom::Edge;
-use cq_match::{Fall, Matcher, Parts, Reason, edges_into, falling, greatest, part_for};
+use cq_match::{Fall, Parts, edges_into, falling, greatest, part_for};
 use std::alloc::{AllocError, Allocator};
-
-/// No node of a test has more postconditions.
-const MOST_POSTS: u8 = 3;
 
 /// Whether a node of that number is in the list.
 fn is_listed(nodes: &[(usize, u8, bool)], number: usize) -> bool
@@ -67,34 +63,18 @@ pub fn finds_matched<A: Allocator + Copy>(
     Ok(found.as_slice() == wanted)
 }
 
-/// A node that falls, and why.
-pub type Fell = (usize, Reason);
-
-/// Whether these nodes fall, in this order and for these reasons.
-fn are_as(falls: &[Fall], wanted: &[Fell]) -> bool {
-    if falls.len() != wanted.len() {
-        return false;
-    }
-    for place in 0..wanted.len() {
-        if falls[place].node != wanted[place].0 || falls[place].reason != wanted[place].1 {
-            return false;
-        }
-    }
-    true
-}
-
 /// Whether the lists are a graph whose falls are these.
 pub fn fall_as<A: Allocator + Copy>(
     alloc: A,
     nodes: &[(usize, u8, bool)],
     edges: &[Edge],
-    wanted: &[Fell],
+    wanted: &[Fall],
 ) -> Result<bool, AllocError> {
     if !are_distinct(nodes) || !have_ends(nodes, edges) {
         return Ok(false);
     }
     let falls = falling(alloc, nodes, edges)?;
-    Ok(are_as(&falls, wanted))
+    Ok(falls.as_slice() == wanted)
 }
 
 /// Whether no edge leads to a lower waiter than the one before it.
@@ -110,27 +90,17 @@ fn are_grouped(edges: &[Edge]) -> bool
 }
 
 /// Whether these edges lead to the waiter, of edges that are sorted by their waiters.
-pub fn lead_into<A: Allocator + Copy>(
-    alloc: A,
-    edges: &[Edge],
-    waiter: usize,
-    wanted: &[Ends],
-) -> Result<bool, AllocError> {
-    if !are_grouped(edges) {
-        return Ok(false);
-    }
-    let wanted = edges_of(alloc, wanted)?;
-    Ok(edges_into(edges, waiter) == wanted.as_slice())
+pub fn lead_into(edges: &[Edge], waiter: usize, wanted: &[Edge]) -> bool {
+    are_grouped(edges) && edges_into(edges, waiter) == wanted
 }
 
 /// Whether the node rests by this part.
 fn rests_by<A: Allocator + Copy>(
     parts: &Parts<'_, A>,
     node: usize,
-    wanted: &[Fell],
+    wanted: &[Fall],
 ) -> Result<bool, AllocError> {
-    let part = parts.part(node)?;
-    Ok(are_as(&part, wanted))
+    Ok(parts.part(node)?.as_slice() == wanted)
 }
 
 /// Whether the lists are a graph, with its edges sorted by their waiters, on whose falls the node rests by this part, asked for
@@ -140,114 +110,16 @@ pub fn rests_on<A: Allocator + Copy>(
     nodes: &[(usize, u8, bool)],
     edges: &[Edge],
     node: usize,
-    wanted: &[Fell],
+    wanted: &[Fall],
 ) -> Result<bool, AllocError> {
     if !are_distinct(nodes) || !have_ends(nodes, edges) || !are_grouped(edges) {
         return Ok(false);
     }
     let falls = falling(alloc, nodes, edges)?;
     let part = part_for(alloc, edges, &falls, node)?;
-    if !are_as(&part, wanted) {
+    if part.as_slice() != wanted {
         return Ok(false);
     }
     let parts = Parts::begin(alloc, edges, &falls)?;
     rests_by(&parts, node, wanted)
-}
-
-/// How many of the edges lead to the postcondition.
-fn providers_of(edges: &[Edge], waiter: usize, post: u8) -> usize {
-    let mut count = 0usize;
-    for edge in edges {
-        if edge.waiter == waiter && edge.post == post {
-            count = count.saturating_add(1);
-        }
-    }
-    count
-}
-
-fn has_providers<A: Allocator>(matcher: &Matcher<A>, edges: &[Edge], node: usize) -> bool {
-    for post in 0..=MOST_POSTS {
-        if matcher.providers(node, post) != providers_of(edges, node, post) {
-            return false;
-        }
-    }
-    true
-}
-
-/// The edges that leave the node, by waiter, postcondition and head.
-fn waiters_of<A: Allocator>(
-    alloc: A,
-    edges: &[Edge],
-    node: usize,
-) -> Result<Vec<Edge, A>, AllocError> {
-    let mut waiters = Vec::new(alloc);
-    for edge in edges {
-        if edge.provider == node {
-            waiters.push(*edge)?;
-        }
-    }
-    waiters.sort_unstable_by_key(|edge| (edge.waiter, edge.post, edge.head));
-    Ok(waiters)
-}
-
-/// Whether the matcher shows these edges as those that leave the node.
-pub fn shows_waiters<A: Allocator + Copy>(
-    matcher: &Matcher<A>,
-    node: usize,
-    wanted: &[Edge],
-) -> Result<bool, AllocError> {
-    let shown = matcher.waiters(node)?;
-    Ok(shown.as_slice() == wanted)
-}
-
-/// Whether the matcher has of the node what the lists have, and these nodes are matched.
-fn is_node_shown<A: Allocator + Copy>(
-    alloc: A,
-    matcher: &Matcher<A>,
-    nodes: &[(usize, u8, bool)],
-    edges: &[Edge],
-    matched: &[usize],
-    node: usize,
-) -> Result<bool, AllocError> {
-    if matcher.has(node) != is_listed(nodes, node)
-        || matcher.is_matched(node) != matched.contains(&node)
-        || !has_providers(matcher, edges, node)
-    {
-        return Ok(false);
-    }
-    let wanted = waiters_of(alloc, edges, node)?;
-    shows_waiters(matcher, node, &wanted)
-}
-
-/// The same of all nodes below `places`.
-fn are_shown<A: Allocator + Copy>(
-    alloc: A,
-    matcher: &Matcher<A>,
-    nodes: &[(usize, u8, bool)],
-    edges: &[Edge],
-    matched: &[usize],
-    places: usize,
-) -> Result<bool, AllocError> {
-    for node in 0..places {
-        if !is_node_shown(alloc, matcher, nodes, edges, matched, node)? {
-            return Ok(false);
-        }
-    }
-    Ok(true)
-}
-
-/// Whether the matcher has the nodes and edges of the lists, and the matched ones among the nodes. Numbers below
-/// `places` are looked at.
-pub fn is_shown<A: Allocator + Copy>(
-    alloc: A,
-    matcher: &Matcher<A>,
-    nodes: &[(usize, u8, bool)],
-    edges: &[Edge],
-    places: usize,
-) -> Result<bool, AllocError> {
-    if !are_distinct(nodes) || !have_ends(nodes, edges) {
-        return Ok(false);
-    }
-    let matched = greatest(alloc, nodes, edges)?;
-    are_shown(alloc, matcher, nodes, edges, &matched, places)
 }

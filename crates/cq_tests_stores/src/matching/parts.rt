@@ -1,11 +1,9 @@
 //! The part of a falling list on which a node rests. What is expected was worked out by hand.
 
-use crate::matching::allocations::{Asking, PARTS};
-use crate::matching::edges::Ends;
-use crate::matching::graphs::{Asked, Graph, Scratch};
-use crate::stores::other_of;
-use cq_match::Reason;
-use cq_tests_allocations::refusals;
+use crate::edges::{edges, falls};
+use crate::matching::graphs::{Asked, Graph};
+use cq_atom::Edge;
+use cq_match::{Fall, Reason};
 
 // The falls are 4 and 5, not able, and 9, to which no edge leads; then 2 and 3, by 9; then 8, whose postcondition 1 is
 // crowded by 3 and 5. Nodes 1 and 6 are matched.
@@ -20,7 +18,7 @@ const NODES: &[(usize, u8, bool)] = &[
     (4, 1, false),
 ];
 
-const EDGES: &[Ends] = &[
+const EDGES: &[Edge] = edges![
     (5, 0, 2, 2),
     (9, 0, 2, 1),
     (1, 0, 2, 0),
@@ -28,21 +26,21 @@ const EDGES: &[Ends] = &[
     (1, 0, 6, 0),
     (5, 0, 8, 1),
     (1, 0, 8, 0),
-    (3, 0, 8, 1),
+    (3, 0, 8, 1)
 ];
 
-const PARTS_OF_FALLS: &[Graph] = &[
+pub const PARTS_OF_FALLS: &[Graph] = &[
     // 4 is not able.
     Graph {
         nodes: NODES,
         edges: EDGES,
-        asked: Asked::PartFor(4, &[(4, Reason::NotAble)]),
+        asked: Asked::PartFor(4, falls![(4, Reason::NotAble)]),
     },
     // 2 rests on 9.
     Graph {
         nodes: NODES,
         edges: EDGES,
-        asked: Asked::PartFor(2, &[(9, Reason::Unmet(0)), (2, Reason::Unmet(1))]),
+        asked: Asked::PartFor(2, falls![(9, Reason::Unmet(0)), (2, Reason::Unmet(1))]),
     },
     // 8 is crowded.
     Graph {
@@ -50,11 +48,11 @@ const PARTS_OF_FALLS: &[Graph] = &[
         edges: EDGES,
         asked: Asked::PartFor(
             8,
-            &[
+            falls![
                 (5, Reason::NotAble),
                 (9, Reason::Unmet(0)),
                 (3, Reason::Unmet(0)),
-                (8, Reason::Unmet(1)),
+                (8, Reason::Unmet(1))
             ],
         ),
     },
@@ -73,39 +71,39 @@ const PARTS_OF_FALLS: &[Graph] = &[
 ];
 
 // Each of three nodes waits for the next, and the last is missing. Node 5 supplies itself, and waits for somebody else too.
-const PARTS_OF_RINGS: &[Graph] = &[
+pub const PARTS_OF_RINGS: &[Graph] = &[
     // The first of a broken ring.
     Graph {
         nodes: &[(0, 1, true), (1, 1, true)],
-        edges: &[(1, 0, 0, 0)],
-        asked: Asked::PartFor(0, &[(1, Reason::Unmet(0)), (0, Reason::Unmet(0))]),
+        edges: edges![(1, 0, 0, 0)],
+        asked: Asked::PartFor(0, falls![(1, Reason::Unmet(0)), (0, Reason::Unmet(0))]),
     },
     // The second of a broken ring.
     Graph {
         nodes: &[(0, 1, true), (1, 1, true)],
-        edges: &[(1, 0, 0, 0)],
-        asked: Asked::PartFor(1, &[(1, Reason::Unmet(0))]),
+        edges: edges![(1, 0, 0, 0)],
+        asked: Asked::PartFor(1, falls![(1, Reason::Unmet(0))]),
     },
     // 5 supplies itself.
     Graph {
         nodes: &[(5, 2, true)],
-        edges: &[(5, 0, 5, 0)],
-        asked: Asked::PartFor(5, &[(5, Reason::Unmet(1))]),
+        edges: edges![(5, 0, 5, 0)],
+        asked: Asked::PartFor(5, falls![(5, Reason::Unmet(1))]),
     },
 ];
 
-const EDGES_OF_WAITERS: &[Graph] = &[
+pub const EDGES_OF_WAITERS: &[Graph] = &[
     // Three lead to 2, among others.
     Graph {
         nodes: NODES,
         edges: EDGES,
-        asked: Asked::EdgesInto(2, &[(5, 0, 2, 2), (9, 0, 2, 1), (1, 0, 2, 0)]),
+        asked: Asked::EdgesInto(2, edges![(5, 0, 2, 2), (9, 0, 2, 1), (1, 0, 2, 0)]),
     },
     // The last ones lead to 8.
     Graph {
         nodes: NODES,
         edges: EDGES,
-        asked: Asked::EdgesInto(8, &[(5, 0, 8, 1), (1, 0, 8, 0), (3, 0, 8, 1)]),
+        asked: Asked::EdgesInto(8, edges![(5, 0, 8, 1), (1, 0, 8, 0), (3, 0, 8, 1)]),
     },
     // None leads to 7.
     Graph {
@@ -114,20 +112,3 @@ const EDGES_OF_WAITERS: &[Graph] = &[
         asked: Asked::EdgesInto(7, &[]),
     },
 ];
-
-#[test]
-fn worked_parts(rt: HostRuntime) {
-    let other = other_of::<_, Scratch>(rt.alloc(), &[PARTS_OF_FALLS, PARTS_OF_RINGS]);
-    assert!(rt; other == Ok(None), "{other:?}");
-}
-
-#[test]
-fn worked_edges_into_waiters(rt: HostRuntime) {
-    let other = other_of::<_, Scratch>(rt.alloc(), &[EDGES_OF_WAITERS]);
-    assert!(rt; other == Ok(None), "{other:?}");
-}
-
-#[test]
-fn failed_allocation_in_parts(rt: HostRuntime) {
-    assert!(rt; matches!(refusals::<Asking<PARTS>>(rt.alloc()), Ok(10..)));
-}

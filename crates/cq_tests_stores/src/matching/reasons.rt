@@ -6,16 +6,16 @@ ghost use Rattle.cq_match.specs.Matched.{numbers};
 ghost use Rattle.cq_tests_stores.specs.Guarded.{HasEnds};
 ghost use Rattle.cq_tests_stores.specs.Reasons.{AreNumbered};
 
-use crate::matching::edges::edge;
-use crate::matching::graphs::{Asked, Graph, Scratch};
-use crate::stores::other_of;
+use crate::edges::{edges, falls};
+use crate::matching::graphs::{Asked, Graph};
+use crate::matching::large::{SIZE, edge};
 use cq_atom::Edge;
 use cq_match::{Fall, Reason, falling};
 use std::alloc::{AllocError, Allocator};
 
 // Nodes 4 and 5 are not able, and nothing supplies node 9. Then node 2 falls, two of whose postconditions are fed by
 // nodes that fell, and node 3; then node 8, one of whose postconditions node 3 and node 5 feed. Nodes 1 and 6 stay.
-const FALLS_IN_ROUNDS: &[Graph] = &[ // Eight nodes.
+pub const FALLS_IN_ROUNDS: &[Graph] = &[ // Eight nodes.
     Graph {
         nodes: &[
             (8, 2, true),
@@ -27,7 +27,7 @@ const FALLS_IN_ROUNDS: &[Graph] = &[ // Eight nodes.
             (2, 3, true),
             (4, 1, false),
         ],
-        edges: &[
+        edges: edges![
             (5, 0, 8, 1),
             (1, 0, 8, 0),
             (3, 0, 8, 1),
@@ -35,48 +35,48 @@ const FALLS_IN_ROUNDS: &[Graph] = &[ // Eight nodes.
             (1, 0, 6, 0),
             (5, 0, 2, 2),
             (9, 0, 2, 1),
-            (1, 0, 2, 0),
+            (1, 0, 2, 0)
         ],
-        asked: Asked::Falling(&[
+        asked: Asked::Falling(falls![
             (4, Reason::NotAble),
             (5, Reason::NotAble),
             (9, Reason::Unmet(0)),
             (2, Reason::Unmet(1)),
             (3, Reason::Unmet(0)),
-            (8, Reason::Unmet(1)),
+            (8, Reason::Unmet(1))
         ]),
     },
 ];
 
 // Each of three nodes waits for the next, and the last for the first.
-const RINGS: &[Graph] = &[
+pub const RINGS: &[Graph] = &[
     // Whole.
     Graph {
         nodes: &[(0, 1, true), (1, 1, true), (2, 1, true)],
-        edges: &[(1, 0, 0, 0), (2, 0, 1, 0), (0, 0, 2, 0)],
+        edges: edges![(1, 0, 0, 0), (2, 0, 1, 0), (0, 0, 2, 0)],
         asked: Asked::Falling(&[]),
     },
     // The last is missing.
     Graph {
         nodes: &[(0, 1, true), (1, 1, true)],
-        edges: &[(1, 0, 0, 0)],
-        asked: Asked::Falling(&[(1, Reason::Unmet(0)), (0, Reason::Unmet(0))]),
+        edges: edges![(1, 0, 0, 0)],
+        asked: Asked::Falling(falls![(1, Reason::Unmet(0)), (0, Reason::Unmet(0))]),
     },
 ];
 
 // Node 5 waits for itself, and then for somebody else too.
-const SELF_SUPPLIERS: &[Graph] = &[
+pub const SELF_SUPPLIERS: &[Graph] = &[
     // For itself alone.
     Graph {
         nodes: &[(5, 1, true)],
-        edges: &[(5, 0, 5, 0)],
+        edges: edges![(5, 0, 5, 0)],
         asked: Asked::Falling(&[]),
     },
     // For another too.
     Graph {
         nodes: &[(5, 2, true)],
-        edges: &[(5, 0, 5, 0)],
-        asked: Asked::Falling(&[(5, Reason::Unmet(1))]),
+        edges: edges![(5, 0, 5, 0)],
+        asked: Asked::Falling(falls![(5, Reason::Unmet(1))]),
     },
     // No node.
     Graph {
@@ -87,37 +87,26 @@ const SELF_SUPPLIERS: &[Graph] = &[
 ];
 
 // Each of two nodes waits for the other.
-const PAIRS: &[Graph] = &[
+pub const PAIRS: &[Graph] = &[
     // Both are able.
     Graph {
         nodes: &[(0, 1, true), (1, 1, true)],
-        edges: &[(0, 0, 1, 0), (1, 0, 0, 0)],
+        edges: edges![(0, 0, 1, 0), (1, 0, 0, 0)],
         asked: Asked::Falling(&[]),
     },
     // The second is not.
     Graph {
         nodes: &[(0, 1, true), (1, 1, false)],
-        edges: &[(0, 0, 1, 0), (1, 0, 0, 0)],
-        asked: Asked::Falling(&[(1, Reason::NotAble), (0, Reason::Unmet(0))]),
+        edges: edges![(0, 0, 1, 0), (1, 0, 0, 0)],
+        asked: Asked::Falling(falls![(1, Reason::NotAble), (0, Reason::Unmet(0))]),
     },
     // Neither is.
     Graph {
         nodes: &[(0, 1, false), (1, 1, false)],
-        edges: &[(0, 0, 1, 0), (1, 0, 0, 0)],
-        asked: Asked::Falling(&[(0, Reason::NotAble), (1, Reason::NotAble)]),
+        edges: edges![(0, 0, 1, 0), (1, 0, 0, 0)],
+        asked: Asked::Falling(falls![(0, Reason::NotAble), (1, Reason::NotAble)]),
     },
 ];
-
-#[test]
-fn worked_falls(rt: HostRuntime) {
-    let other = other_of::<_, Scratch>(
-        rt.alloc(),
-        &[FALLS_IN_ROUNDS, RINGS, SELF_SUPPLIERS, PAIRS],
-    );
-    assert!(rt; other == Ok(None), "{other:?}");
-}
-
-const SIZE: usize = 10_000;
 
 /// Whether each node's number is its place.
 fn are_numbered(nodes: &[(usize, u8, bool)]) -> bool
@@ -190,14 +179,10 @@ fn fill_chain<A: Allocator>(
     Ok(())
 }
 
-fn chain_falls<A: Allocator + Copy>(alloc: A) -> Result<bool, AllocError> {
+/// Whether the nodes of a long chain fall from the last to the first.
+pub fn chain_falls<A: Allocator + Copy>(alloc: A) -> Result<bool, AllocError> {
     let mut nodes = Vec::new(alloc);
     let mut edges = Vec::new(alloc);
     fill_chain(&mut nodes, &mut edges)?;
     fall_backwards(alloc, &nodes, &edges)
-}
-
-#[test]
-fn a_chain_of_ten_thousand_falls_backwards(rt: HostRuntime) {
-    assert!(rt; chain_falls(rt.alloc()) == Ok(true));
 }

@@ -5,12 +5,13 @@ ghost use Rattle.std.specs.List.{list_any};
 ghost use Rattle.cq_roster.specs.Roster.{is_taken_place};
 
 use crate::stores::{Copied, Store, go_on_with_copy};
-use crate::texts::{Given, name};
+use crate::texts::name_of;
 use cq_atom::Name;
 use cq_roster::{Roster, Seat};
+use cq_text::Command;
 use std::alloc::{AllocError, Allocator};
 
-/// A call of a roster.
+/// A call of a roster. A name is the one that a text withdraws.
 pub enum Call {
     /// The name is added with the place, where neither is there.
     Add(&'static str, usize),
@@ -18,12 +19,8 @@ pub enum Call {
     At(&'static str, Option<usize>),
     /// The name goes, which has this place.
     Leave(&'static str, usize),
-    /// These are the seats, in this order, and the name of each is found.
+    /// These are the seats, in this order, by number and as they are listed, and the name of each is found.
     Stands(&'static [Seat<&'static str>]),
-    /// The same of a copy.
-    CopyStands(&'static [Seat<&'static str>]),
-    /// `in_order` gives these seats, in this order.
-    Lists(&'static [Seat<&'static str>]),
     /// A copy takes the roster's place.
     Copy,
 }
@@ -76,42 +73,29 @@ fn stands_at<A: Allocator + Copy>(roster: &Roster<A>, index: usize, seat: &Seat<
     }
 }
 
-/// Whether these are the seats, in this order.
-fn stands_as<A: Allocator + Copy>(roster: &Roster<A>, seats: &[Seat<&str>]) -> bool {
-    for (index, seat) in seats.iter().enumerate() {
-        if !stands_at(roster, index, seat) {
-            return false;
-        }
-    }
-    roster.len() == seats.len() && roster.nth(seats.len()).is_none()
-}
-
-fn copy_stands_as<A: Allocator + Copy>(
+/// Whether these are the seats, in this order, where those are listed.
+fn stand_as<A: Allocator + Copy>(
     roster: &Roster<A>,
+    listed: &[&Seat<Name<A>>],
     seats: &[Seat<&str>],
-) -> Result<bool, AllocError> {
-    let copy = roster.copy()?;
-    Ok(stands_as(&copy, seats))
-}
-
-fn are_seats<A: Allocator>(listed: &[&Seat<Name<A>>], seats: &[Seat<&str>]) -> bool {
-    if listed.len() != seats.len() {
+) -> bool {
+    if listed.len() != seats.len() || roster.len() != seats.len() {
         return false;
     }
     for index in 0..seats.len() {
-        if !is_seat(listed[index], &seats[index]) {
+        if !is_seat(listed[index], &seats[index]) || !stands_at(roster, index, &seats[index]) {
             return false;
         }
     }
-    true
+    roster.nth(seats.len()).is_none()
 }
 
-fn lists<A: Allocator + Copy>(
+fn stands_as<A: Allocator + Copy>(
     roster: &Roster<A>,
     seats: &[Seat<&str>],
 ) -> Result<bool, AllocError> {
     let listed = roster.in_order()?;
-    Ok(are_seats(&listed, seats))
+    Ok(stand_as(roster, &listed, seats))
 }
 
 impl<A: Allocator + Copy> Copied for Roster<A> {
@@ -123,27 +107,23 @@ impl<A: Allocator + Copy> Copied for Roster<A> {
 impl<A: Allocator + Copy> Store<A> for Roster<A> {
     type Call = Call;
 
-    type Given = Given<A>;
-
     fn begin(alloc: A) -> Result<Roster<A>, AllocError> {
         Ok(Roster::begin(alloc))
     }
 
-    fn given(alloc: A, call: &Call) -> Result<Given<A>, AllocError> {
+    fn text(call: &Call) -> &'static str {
         match call {
-            Call::Add(text, _) | Call::At(text, _) | Call::Leave(text, _) => { name(alloc, text) }
-            _ => Ok(Given::Nothing),
+            Call::Add(text, _) | Call::At(text, _) | Call::Leave(text, _) => *text,
+            _ => "",
         }
     }
 
-    fn make(&mut self, _alloc: A, call: &Call, given: &Given<A>) -> Result<bool, AllocError> {
-        match (call, given) {
-            (Call::Add(_, place), Given::Name(name)) => put(self, name, *place),
-            (Call::At(_, place), Given::Name(name)) => Ok(self.place_of(name) == *place),
-            (Call::Leave(_, place), Given::Name(name)) => Ok(leaves(self, name, *place)),
-            (Call::Stands(seats), _) => Ok(stands_as(self, seats)),
-            (Call::CopyStands(seats), _) => copy_stands_as(self, seats),
-            (Call::Lists(seats), _) => lists(self, seats),
+    fn make(&mut self, _alloc: A, call: &Call, given: &Command<A>) -> Result<bool, AllocError> {
+        match (call, name_of(given)) {
+            (Call::Add(_, place), Some(name)) => put(self, name, *place),
+            (Call::At(_, place), Some(name)) => Ok(self.place_of(name) == *place),
+            (Call::Leave(_, place), Some(name)) => Ok(leaves(self, name, *place)),
+            (Call::Stands(seats), _) => stands_as(self, seats),
             (Call::Copy, _) => go_on_with_copy(self),
             _ => Ok(false),
         }

@@ -1,5 +1,6 @@
-//! In what a failed allocation was met, and how often.
+//! In what a failed allocation was met.
 
+use crate::calls::{Trial, attempt};
 use cq_desk::{End, Reply, Submitted};
 use cq_refusing::Refusing;
 use cq_tests_allocations::ENOUGH;
@@ -7,13 +8,13 @@ use std::alloc::{Allocator, Global};
 use std::sync::Wait;
 
 /// In what the refusal of an allocation was met, where all that came of it was right.
-#[derive(Clone, Copy, Debug, PartialEq, Eq)]
+#[derive(Clone, Copy, PartialEq, Eq)]
 pub enum Met {
     /// In what the calls need, before they were made.
     Setup,
-    /// In beginning a room.
+    /// In beginning a publisher or a room.
     Begin,
-    /// In opening it.
+    /// In opening the room.
     Open,
     /// In making room for the replies of a submit.
     Replies,
@@ -77,73 +78,49 @@ pub fn met_by<W, A: Allocator>(submitted: &Submitted<W, A>) -> Met {
     }
 }
 
-/// How often a refusal was met in each.
-#[derive(Clone, Copy, Debug)]
-pub struct Counts {
-    pub begin: u64,
-    pub open: u64,
-    pub replies: u64,
-    /// Before the first entry.
-    pub stopped: u64,
-    /// After an entry.
-    pub stopped_behind: u64,
-    pub unpublished: u64,
-    pub enter: u64,
-    pub publish: u64,
+/// What comes of the trial where the allocation after so many others is refused, and whether there was one to refuse. All
+/// was refused in turn where there was none.
+fn met_at<R: Wait + Drop + Copy>(rt: R, alloc: Global, trial: Trial, left: u64) -> (Met, bool) {
+    let heap = Refusing::new(alloc, left);
+    let met = attempt(rt, &heap, trial);
+    let refused = heap.has_refused();
+    (met.if_right(refused || met == Met::Nothing), refused)
 }
 
-impl Counts {
-    fn none() -> Counts {
-        Counts {
-            begin: 0,
-            open: 0,
-            replies: 0,
-            stopped: 0,
-            stopped_behind: 0,
-            unpublished: 0,
-            enter: 0,
-            publish: 0,
-        }
-    }
-
-    fn add(&mut self, met: Met) {
-        match met {
-            Met::Begin => add_one(&mut self.begin),
-            Met::Open => add_one(&mut self.open),
-            Met::Replies => add_one(&mut self.replies),
-            Met::Stopped(0) => add_one(&mut self.stopped),
-            Met::Stopped(_) => add_one(&mut self.stopped_behind),
-            Met::Unpublished => add_one(&mut self.unpublished),
-            Met::Enter => add_one(&mut self.enter),
-            Met::Publish => add_one(&mut self.publish),
-            Met::Setup | Met::Nothing | Met::Wrong => {}
-        }
-    }
-}
-
-fn add_one(count: &mut u64) {
-    *count = count.saturating_add(1);
-}
-
-/// What is done on an allocator that refuses one allocation.
-pub trait Attempt {
-    /// Does it.
-    fn attempt<R: Wait + Drop + Copy, A: Allocator + Copy>(rt: R, alloc: A) -> Met;
-}
-
-/// How often a refusal was met in each, where each allocation was refused in turn until none was left to refuse.
-///
-/// # Errors
-/// How many allocations came before the refusal at which something else came of the attempt.
-pub fn counted<T: Attempt, R: Wait + Drop + Copy>(rt: R, alloc: Global) -> Result<Counts, u64> {
-    let mut counts = Counts::none();
+/// The first refusal at which something else came of the trial, by how many allocations came before it, where each
+/// allocation is refused in turn.
+pub fn first_wrong<R: Wait + Drop + Copy>(rt: R, alloc: Global, trial: Trial) -> Option<u64> {
     for left in 0..ENOUGH {
-        let heap = Refusing::new(alloc, left);
-        match (T::attempt(rt, &heap), heap.has_refused()) {
-            (Met::Nothing, false) => return Ok(counts),
-            (Met::Wrong, _) | (_, false) => return Err(left),
-            (met, true) => counts.add(met),
+        match met_at(rt, alloc, trial, left) {
+            (Met::Wrong, _) => return Some(left),
+            (_, false) => return None,
+            (_, true) => {}
         }
     }
-    Err(ENOUGH)
+    Some(ENOUGH)
+}
+
+/// Whether some refusal is met so.
+fn is_met<R: Wait + Drop + Copy>(rt: R, alloc: Global, trial: Trial, wanted: Met) -> bool {
+    for left in 0..ENOUGH {
+        if met_at(rt, alloc, trial, left).0 == wanted {
+            return true;
+        }
+    }
+    false
+}
+
+/// The place of the first of these in which no refusal is met.
+pub fn first_unmet<R: Wait + Drop + Copy>(
+    rt: R,
+    alloc: Global,
+    trial: Trial,
+    wanted: &[Met],
+) -> Option<usize> {
+    for (place, met) in wanted.iter().enumerate() {
+        if !is_met(rt, alloc, trial, *met) {
+            return Some(place);
+        }
+    }
+    None
 }
