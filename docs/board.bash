@@ -5,16 +5,17 @@ _board_words() {
     options='' valued='' filed='' takes=''
     case $1 in
     '') options='-h --help -V --version' takes='commands' ;;
-    replay) options='--number --memory -h --help' valued='--memory' ;;
-    live) options='--json --memory -h --help' valued='--memory' ;;
-    rows) options='--memory -h --help' valued='--memory' ;;
+    replay) options='--number --strict --summary --memory -h --help' valued='--memory' takes='files' ;;
+    live) options='--json --memory -h --help' valued='--memory' takes='files' ;;
+    rows) options='--memory -h --help' valued='--memory' takes='files' ;;
     sessions) options='--memory -h --help' valued='--memory' takes='files' ;;
-    explain) options='--memory -h --help' valued='--memory' ;;
-    graph) options='--memory -h --help' valued='--memory' ;;
-    json) options='--memory -h --help' valued='--memory' ;;
-    choice) options='--memory -h --help' valued='--memory' ;;
-    choose) options='--steps --memory -h --help' valued='--steps --memory' ;;
-    groups) options='--steps --memory -h --help' valued='--steps --memory' ;;
+    explain) options='--file --memory -h --help' valued='--file --memory' filed='--file' ;;
+    graph) options='--memory -h --help' valued='--memory' takes='files' ;;
+    json) options='--memory -h --help' valued='--memory' takes='files' ;;
+    choice) options='--file --memory -h --help' valued='--file --memory' filed='--file' ;;
+    choose) options='--steps --file --memory -h --help' valued='--steps --file --memory' filed='--file' ;;
+    groups) options='--steps --memory -h --help' valued='--steps --memory' takes='files' ;;
+    version) options='-h --help' ;;
     help) takes='commands' ;;
     esac
 }
@@ -25,7 +26,7 @@ _board_files() {
 }
 
 _board() {
-    local commands='replay live rows sessions explain graph json choice choose groups help'
+    local commands='replay live rows sessions explain graph json choice choose groups version help'
     local word=${COMP_WORDS[COMP_CWORD]} command='' wants='' ended='' given=0 place it
     local options valued filed takes
     COMPREPLY=()

@@ -1,2 +1,3 @@
-mod Absent
+mod AbsentNames
 pub mod Telling
+mod Lines

@@ -1,9 +1,9 @@
 -- What is said of a board that a script leaves.
-use Rattle.std.proofs.Common.{◌≡◌, ℕ, ◌+◌, List, Option, refl, sym, subst, arith, inl, inr}
+use Rattle.std.proofs.Common.{◌≡◌, ◌∙◌, ◌<◌, ℕ, Bool, true, false, ◌+◌, nat_le, List, Option, refl, sym, ap, subst, arith, inl, inr}
+use Rattle.std.proofs.lemmas.Bool.Decides.{nat_tests}
 use Rattle.std.specs.Prelude.{◌↔◌, ◌⊎◌, Result, Ok, Err, IfOk, IfErr, IfSome}
 use Rattle.std.proofs.lemmas.Option.{IfSome_then}
-use Rattle.cq_board.specs.Choice.{ChoiceRecord, IsCoordinating}
-use Rattle.cq_board.specs.Pool.{PoolRecord}
+use Rattle.cq_board.specs.Choice.{ChoiceRecord}
 use Rattle.cq_report.specs.declared.fault.RunFault.{RunFault}
 use Rattle.cq_report.specs.declared.fault.RunFault.TheVariants as runs
 use Rattle.cq_report.specs.declared.fault.LiveFault.{LiveFault}
@@ -15,8 +15,7 @@ use Rattle.cq_devices.specs.declared.fault.WholeFault.TheVariants as reads
 use Rattle.cq_devices.specs.Device.{FailedAtTurn, IfAtTurn, IsAtTurn}
 use Rattle.cq_report.specs.Lines.{lines_of}
 use Rattle.cq_report.specs.Reading.{Reading}
-use Rattle.cq_report.specs.Machine.{ServingRecord, shown}
-use Rattle.cq_report.specs.Output.{AreReadings, floor_left, pool_left}
+use Rattle.cq_report.specs.Output.{AreReadings, Left, left_after}
 use Rattle.cq_cli.specs.declared.choices.ChoiceFault.{ChoiceFault}
 use Rattle.cq_cli.specs.declared.choices.ChoiceFault.TheVariants as choices
 use Rattle.cq_cli.specs.declared.fault.AnswerFault.{AnswerFault}
@@ -24,21 +23,15 @@ use Rattle.cq_cli.specs.declared.fault.AnswerFault.TheVariants as answers
 use Rattle.cq_cli.specs.declared.status.Status.{Status}
 use Rattle.cq_cli.specs.declared.rows.RowsFault.{RowsFault}
 use Rattle.cq_cli.specs.declared.rows.RowsFault.TheVariants as rows
-use Rattle.cq_cli.specs.declared.status.Status.TheVariants.{Done, Failed, Usage, NoMemory, BadRecord, Unserved, NotSo, Undecided}
+use Rattle.cq_cli.specs.declared.status.Status.TheVariants.{Done, Failed, Usage, NoMemory, BadRecord, Unserved, NotSo, Undecided, BadFile, LineRefused}
 use Rattle.cq_going.specs.declared.telling.Outcome.{Outcome}
 use Rattle.cq_going.specs.declared.telling.Outcome.TheVariants as sought
-use Rattle.cq_cli.specs.Status.{IsRefused, IsTold, ended, status_of_outcome, status_of_choices, status_of_live, status_of_rows, status_of_run}
+use Rattle.cq_cli.specs.Status.{IsRefused, IsTold, ended, over_file, status_of_outcome, status_of_choices, status_of_live, status_of_rows, status_of_run}
 use Rattle.cq_cli.specs.Devices.{DeviceCounts, EndsRun, LeavesRefused, ReportsFailures, ReportsWriting}
 use Rattle.cq_cli.specs.Rows.{MatchFault, IsOfReader}
 use Rattle.cq_cli.specs.Rows as rows_failures
 use Rattle.cq_ask.specs.Choices.{StandForChoices}
 use Rattle.cq_cli.specs.Steps.Answers.{fault_of_answer}
-
--- what is said of choices on the board is said of them on the pool that the lines leave
-pub said_of_left : (status : Status) (left : Option (List ℕ)) (script : ServingRecord) (choices : List ChoiceRecord) → IfSome left (λ input. (readings : List Reading) → AreReadings (lines_of input) readings → script ≡ floor_left readings)
-    → (status ≡ Done) ↔ IsCoordinating (shown script) choices
-    → IfSome left (λ input. (readings : List Reading) → AreReadings (lines_of input) readings → (status ≡ Done) ↔ IsCoordinating (pool_left readings) choices)
-said_of_left status left script choices is so = IfSome_then left is (λ input played readings are. subst (λ (floor : ServingRecord). (status ≡ Done) ↔ IsCoordinating (shown floor) choices) (played readings are) so)
 
 -- it ended by a fault of reading the script
 pub read_ends : {X : Type 0} (before after : DeviceCounts) (fault : WholeFault) → IfAtTurn fault (λ turn. FailedAtTurn turn before.reads after.reads before.read_failures after.read_failures) → ((IsAtTurn fault → ⊥) → after.read_failures ≡ before.read_failures)
@@ -57,9 +50,9 @@ where_failed (Ok status) p = tt
 where_failed (Err fault) p = p
 
 -- what is said of choices is said of words that stand for them
-pub said_of_words : (left : Option (List ℕ)) (words : List (List ℕ)) (choices : List ChoiceRecord) (Says : PoolRecord → List ChoiceRecord → Type 0) → StandForChoices words choices
-    → IfSome left (λ input. (readings : List Reading) → AreReadings (lines_of input) readings → Says (pool_left readings) choices)
-    → IfSome left (λ input. (readings : List Reading) → AreReadings (lines_of input) readings → (chosen : List ChoiceRecord) × StandForChoices words chosen × Says (pool_left readings) chosen)
+pub said_of_words : (left : Option (List ℕ)) (words : List (List ℕ)) (choices : List ChoiceRecord) (Says : Left → List ChoiceRecord → Type 0) → StandForChoices words choices
+    → IfSome left (λ input. (readings : List Reading) → AreReadings (lines_of input) readings → Says (left_after readings) choices)
+    → IfSome left (λ input. (readings : List Reading) → AreReadings (lines_of input) readings → (chosen : List ChoiceRecord) × StandForChoices words chosen × Says (left_after readings) chosen)
 said_of_words left words choices Says stand said = IfSome_then left said (λ input says readings are. (choices, stand, says readings are))
 
 -- no device failed
@@ -142,6 +135,8 @@ told_not_refused BadRecord told is = told
 told_not_refused Unserved told is = told
 told_not_refused NotSo told is = is
 told_not_refused Undecided told is = is
+told_not_refused BadFile told is = told
+told_not_refused LineRefused told is = told
 
 pub ended_not_refused : (r : Result Status RunFault) → IfOk r IsTold → IsRefused (ended r) → ⊥
 ended_not_refused (Ok status) told is = told_not_refused status told is
@@ -163,3 +158,30 @@ rows_reported before after words writer of_record of_memory rows.BadArity h read
 rows_reported before after words writer of_record of_memory (rows.Width index arity) h reads writes = none_failed before after BadRecord (λ is. cc) (reads (λ no. no)) (omega (arith, writes))
 rows_reported before after words writer of_record of_memory (rows.Text index) h reads writes = none_failed before after BadRecord (λ is. cc) (reads (λ no. no)) (omega (arith, writes))
 rows_reported before after words writer of_record of_memory rows.NoMemory h reads writes = none_failed before after NoMemory (λ is. cc) (reads (λ no. no)) (omega (arith, writes))
+
+not_below : (m n : ℕ) → m < n → nat_le n m ≡ false
+not_below m n h = grind arith
+
+below : (m n : ℕ) → nat_le n m ≡ false → m < n
+below m n e = grind (arith, nat_tests)
+
+-- only a device that failed and a sink that is not whole leave a failed device
+over_failed : (status : Status) (whole : Bool) → over_file status whole ≡ Failed → whole ≡ false
+over_failed Failed true is = cc
+over_failed Failed false is = refl
+over_failed Done whole is = cc
+over_failed Usage whole is = cc
+over_failed NoMemory whole is = cc
+over_failed BadRecord whole is = cc
+over_failed Unserved whole is = cc
+over_failed NotSo whole is = cc
+over_failed Undecided whole is = cc
+over_failed BadFile whole is = cc
+over_failed LineRefused whole is = cc
+
+-- over a file a failed device is the sink
+pub file_reported : (before after : DeviceCounts) (status : Status) (whole : Bool) → whole ≡ nat_le after.write_failures before.write_failures → ReportsFailures before after status → ReportsWriting before.write_failures after.write_failures (over_file status whole)
+file_reported before after status whole is told = record {
+  write = λ rises. ap (λ (s : Status). over_file s whole) (told.write rises) ∙ ap (over_file Failed) (is ∙ not_below before.write_failures after.write_failures rises);
+  failed = λ failed. below before.write_failures after.write_failures (sym is ∙ over_failed status whole failed);
+}

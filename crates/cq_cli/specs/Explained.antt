@@ -1,16 +1,11 @@
--- Why queries wait, as the program reports it. (this project's profile)
-use Rattle.std.specs.Prelude.{ℕ, not, List, [], ◌∷◌, ◌++◌, filter, codes, Option}
+-- The names under which no query is pending, as the program reports them. (this project's profile)
+use Rattle.std.specs.Prelude.{ℕ, not, List, [], ◌∷◌, ◌++◌, filter, codes}
 use Rattle.std.specs.List.{flat_map}
 use Rattle.std.specs.Option.{is_some}
-use Rattle.std.specs.Io.KnownBytes.{Appends}
 use Rattle.cq_board.specs.Pool.{PoolRecord}
-use Rattle.cq_render.specs.Explain.{IsExplained, state_of}
+use Rattle.cq_render.specs.Explain.{state_of}
 use Rattle.cq_cli.specs.declared.status.Status.{Status}
 use Rattle.cq_cli.specs.declared.status.Status.TheVariants.{Done, NotSo}
-
--- That is what a writer took.
-abbrev pub IsWritten : PoolRecord → List (List ℕ) → Option (List ℕ) → Option (List ℕ) → Type 0
-IsWritten pool names before after = (text : List ℕ) × IsExplained pool names text × Appends before after text
 
 -- The names under which no query is pending.
 abbrev pub absent_names : PoolRecord → List (List ℕ) → List (List ℕ)

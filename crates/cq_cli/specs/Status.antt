@@ -1,5 +1,5 @@
 -- How the program ends. (this project's profile)
-use Rattle.std.specs.Prelude.{ℕ, Result, Ok, Err}
+use Rattle.std.specs.Prelude.{ℕ, Bool, true, false, Result, Ok, Err}
 use Rattle.cq_devices.specs.declared.fault.WholeFault.{WholeFault}
 use Rattle.cq_devices.specs.declared.fault.WholeFault.TheVariants as reads
 use Rattle.cq_report.specs.declared.fault.RunFault.{RunFault}
@@ -18,9 +18,9 @@ use Rattle.cq_going.specs.declared.telling.Outcome.TheVariants as sought
 use Rattle.cq_cli.specs.declared.choices.ChoiceFault.{ChoiceFault}
 use Rattle.cq_cli.specs.declared.choices.ChoiceFault.TheVariants as choices
 use Rattle.cq_cli.specs.declared.status.Status.{Status}
-use Rattle.cq_cli.specs.declared.status.Status.TheVariants.{Done, Failed, Usage, NoMemory, BadRecord, Unserved, NotSo, Undecided}
+use Rattle.cq_cli.specs.declared.status.Status.TheVariants.{Done, Failed, Usage, NoMemory, BadRecord, Unserved, NotSo, Undecided, BadFile, LineRefused}
 
--- Done is 0, a device that failed is 1, and so are sessions that were not served, a fault of usage is 2, out of memory is 3, a record at fault is 4, what is not so on a board is 5, what was not decided is 6.
+-- Done is 0, a device that failed is 1, and so are sessions that were not served and a file that failed, a fault of usage is 2, out of memory is 3, a record at fault is 4, what is not so on a board is 5, what was not decided is 6, a line at which a strict replay ends is 7.
 abbrev pub code_of : Status → ℕ
 code_of Done = 0
 code_of Failed = 1
@@ -30,6 +30,8 @@ code_of BadRecord = 4
 code_of Unserved = 1
 code_of NotSo = 5
 code_of Undecided = 6
+code_of BadFile = 1
+code_of LineRefused = 7
 
 -- A fault of reading or writing is a device that failed.
 abbrev pub status_of_run : RunFault → Status
@@ -99,6 +101,28 @@ IsRefused BadRecord = Unit {0}
 IsRefused Unserved = Unit {0}
 IsRefused NotSo = ⊥
 IsRefused Undecided = ⊥
+IsRefused BadFile = ⊥
+IsRefused LineRefused = ⊥
+
+-- What failed where a file was read and the sink did not fail was the file.
+abbrev pub over_file : Status → Bool → Status
+over_file Failed true = BadFile
+over_file Failed false = Failed
+over_file Done whole = Done
+over_file Usage whole = Usage
+over_file NoMemory whole = NoMemory
+over_file BadRecord whole = BadRecord
+over_file Unserved whole = Unserved
+over_file NotSo whole = NotSo
+over_file Undecided whole = Undecided
+over_file BadFile whole = BadFile
+over_file LineRefused whole = LineRefused
+
+-- How the program ends after a script, of which a line may have been refused.
+abbrev pub status_after : (is_strict has_refused : Bool) → Status
+status_after true true = LineRefused
+status_after true false = Done
+status_after false has_refused = Done
 
 -- What was asked of a board was told.
 abbrev pub IsTold : Status → Type 0
@@ -110,3 +134,5 @@ IsTold BadRecord = ⊥
 IsTold Unserved = ⊥
 IsTold NotSo = Unit {0}
 IsTold Undecided = Unit {0}
+IsTold BadFile = ⊥
+IsTold LineRefused = ⊥

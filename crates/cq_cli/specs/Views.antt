@@ -1,8 +1,10 @@
 -- What the program reports about a board. (this project's profile)
-use Rattle.std.specs.Prelude.{◌≡◌, ℕ, List, Option}
+use Rattle.std.specs.Prelude.{◌≡◌, ◌⊎◌, ℕ, List, [], ◌∷◌, ◌++◌, Option, codes}
 use Rattle.std.specs.Io.KnownBytes.{Appends}
 use Rattle.json.specs.Print.{print}
 use Rattle.json.specs.Tree.{json_tokens}
+use Rattle.cq_ask.specs.Choices.{StandForChoices}
+use Rattle.cq_board.specs.Choice.{ChoiceRecord, IsCoordinating}
 use Rattle.cq_board.specs.Pool.{PoolRecord}
 use Rattle.cq_render.specs.Report.{line}
 use Rattle.cq_render.specs.Graph.{graph}
@@ -10,30 +12,64 @@ use Rattle.cq_render.specs.Json.{json_of}
 use Rattle.cq_going.specs.declared.telling.Outcome.{Outcome}
 use Rattle.cq_going.specs.Going.{IsSoughtTold}
 use Rattle.cq_going.specs.Grouping.{AreGroupsTold}
-use Rattle.cq_report.specs.Machine.{ServingRecord, shown}
+use Rattle.cq_report.specs.Machine.{shown}
+use Rattle.cq_report.specs.Output.{Left}
+use Rattle.cq_report.specs.Summary.{warning}
+use Rattle.cq_render.specs.Explain.{IsExplained}
 use Rattle.cq_cli.specs.declared.status.Status.{Status}
-use Rattle.cq_cli.specs.declared.status.Status.TheVariants.{Done}
+use Rattle.cq_cli.specs.declared.status.Status.TheVariants.{Done, NotSo}
 use Rattle.cq_cli.specs.Status.{status_of_outcome}
-use Rattle.cq_cli.specs.declared.views.View.{View}
-use Rattle.cq_cli.specs.declared.views.View.TheVariants.{Graph, Json, Groups, Choose}
+use Rattle.cq_cli.specs.Explained.{absent_names, absent_lines, status_of_absent}
 
--- What is told of a coordinating choice that has the names, and how the program ends.
-pub record IsSoughtSeen (pool : PoolRecord) (names : List (List ℕ)) (status : Status) (text : List ℕ) : Type 0 where
+-- Words that are told, behind the program's name and that of the file, where there is one; nothing where there are none.
+abbrev pub told_line : List ℕ → List ℕ → List ℕ
+told_line origin [] = []
+told_line origin (b ∷ bs) = line (codes "board: " ++ origin ++ b ∷ bs)
+
+-- What is reported of what a script leaves: how the program ends, what it writes, and what it tells beside that, of names say.
+abbrev pub Telling : Type 1
+Telling = Left → Status → List ℕ → List ℕ → Type 0
+
+-- The graph.
+abbrev pub IsGraph : Telling
+IsGraph left status text notes = (status ≡ Done) × (text ≡ graph (shown left.floor)) × (notes ≡ [])
+
+-- What the library for JSON prints of the board, and of how many entries it is, in a line.
+abbrev pub IsJson : Telling
+IsJson left status text notes = (status ≡ Done) × (text ≡ line (print (json_tokens (json_of left.floor.machine.published (shown left.floor))))) × (notes ≡ [])
+
+-- The groups.
+abbrev pub AreGroups : Telling
+AreGroups left status text notes = (status ≡ Done) × AreGroupsTold (shown left.floor) text × (notes ≡ [])
+
+-- What is told of a coordinating choice that has the names.
+pub record IsSought (names : List (List ℕ)) (left : Left) (status : Status) (text notes : List ℕ) : Type 0 where
   pub outcome : Outcome
   pub ends : status ≡ status_of_outcome outcome
-  pub told : IsSoughtTold pool names outcome text
+  pub told : IsSoughtTold (shown left.floor) names outcome text
+  pub quiet : notes ≡ []
 
--- What is reported about a floor, of the pool that it shows: the graph; what the library for JSON prints of it and of how many entries it is, in a line; its groups; or a coordinating choice that has the names.
-abbrev pub IsViewed : View → List (List ℕ) → ServingRecord → Status → List ℕ → Type 0
-IsViewed Graph names floor status text = (status ≡ Done) × (text ≡ graph (shown floor))
-IsViewed Json names floor status text = (status ≡ Done) × (text ≡ line (print (json_tokens (json_of floor.machine.published (shown floor)))))
-IsViewed (Groups steps) names floor status text = (status ≡ Done) × AreGroupsTold (shown floor) text
-IsViewed (Choose steps) names floor status text = IsSoughtSeen (shown floor) names status text
+-- Whether the choices coordinate.
+abbrev pub IsJudged : List ChoiceRecord → Telling
+IsJudged choices left status text notes =
+    ((status ≡ Done) × IsCoordinating (shown left.floor) choices × (text ≡ codes "coordinating\n") × (notes ≡ []))
+    ⊎ ((status ≡ NotSo) × (IsCoordinating (shown left.floor) choices → ⊥) × (text ≡ codes "not coordinating\n") × (notes ≡ []))
 
--- That is what a writer took.
-abbrev pub IsShown : View → List (List ℕ) → ServingRecord → Status → Option (List ℕ) → Option (List ℕ) → Type 0
-IsShown view names floor status before after = (text : List ℕ) × IsViewed view names floor status text × Appends before after text
+-- Why the queries of these names wait, or all that do; and beside it the names under which no query is pending.
+abbrev pub AreExplained : List (List ℕ) → Telling
+AreExplained names left status text notes =
+    (status ≡ status_of_absent (absent_names (shown left.floor) names)) × IsExplained (shown left.floor) names text × (notes ≡ absent_lines (shown left.floor) names)
 
--- A writer took what is told of a coordinating choice that has the names.
-abbrev pub IsChosen : PoolRecord → List (List ℕ) → Status → Option (List ℕ) → Option (List ℕ) → Type 0
-IsChosen pool names status before after = (text : List ℕ) × IsSoughtSeen pool names status text × Appends before after text
+-- Bytes were told, unless the writer of errors failed.
+abbrev pub ToldOn : (failures failures' : ℕ) → (taken taken' : Option (List ℕ)) → List ℕ → Type 0
+ToldOn failures failures' taken taken' bytes = failures' ≡ failures → Appends taken taken' bytes
+
+-- That is what a writer took. Beside it was told which lines of the script were refused and how many edits are not published, where that is so.
+abbrev pub IsShown : Telling → (origin : List ℕ) → Left → Status → Option (List ℕ) → Option (List ℕ) → (List ℕ → Type 0) → Type 0
+IsShown Tells origin left status before after Noted =
+    (text : List ℕ) × (notes : List ℕ) × Tells left status text notes × Appends before after text × Noted (told_line origin (warning left) ++ notes)
+
+-- The same of choices for which words stand.
+abbrev pub IsJudgedShown : List (List ℕ) → (origin : List ℕ) → Left → Status → Option (List ℕ) → Option (List ℕ) → (List ℕ → Type 0) → Type 0
+IsJudgedShown words origin left status before after Noted =
+    (choices : List ChoiceRecord) × StandForChoices words choices × IsShown (IsJudged choices) origin left status before after Noted

@@ -1,26 +1,44 @@
 //! What the program does with its words.
 
 ghost use Rattle.std.specs.Prelude.{◌≡◌, ◌<◌, ◌^◌};
+ghost use Rattle.cq_cli.specs.declared.status.Status.{Status};
 ghost use Rattle.cq_cli.specs.Status.{IsRefused};
 ghost use Rattle.cq_cli.specs.Devices.{counts, HaveRoom, LeavesRefused, ReportsFailures, ReportsWriting};
 
-use crate::explaining::answer_explained;
+use crate::looking::{answer_choice, answer_choose, answer_view};
+use crate::replaying::answer_replay;
 use crate::rows::write_rows;
-use crate::sessions::serve_files;
+use crate::sessions::{FileFault, serve_files};
+use crate::sizes::size_of;
 use crate::status::Status;
-use crate::views::{View, answer_choice, answer_choose, answer_view};
-use crate::wanted::{Task, Wanted, read_words};
+use crate::views::{Explain, Graph, Groups, Json};
+use crate::wanted::{Task, VERSION_LINE, Wanted, read_words};
 use crate::writing::{tell, tell_fault, write_text};
 use clap::Error;
 use clap::error::ErrorKind;
 use cq_budget::Budget;
-use cq_devices::{Sink, Source};
-use cq_report::{Numbering, RunFault, live, run};
+use cq_devices::{Counted, Sink, Source};
+use cq_report::{Numbering, RunFault, live};
 use std::alloc::{Allocator, Global};
 use std::convert::AsStr;
+use std::fs;
 use std::fs::Files;
 use std::sync::Wait;
 use std::thread::Threads;
+
+/// Writes a text, and tells where that failed.
+fn say<W: Sink, E: Sink>(alloc: Global, text: &str, sink: &mut W, errors: &mut E) -> Status
+    requires sink { W.write_failures sink.old < 2 ^ 62 }
+    requires errors { E.write_failures errors.old < 2 ^ 62 }
+    ensures failures { ReportsWriting (W.write_failures sink.old) (W.write_failures sink.new) result }
+    ensures refused { IsRefused result → (sink.new ≡ sink.old) }
+{
+    let Ok(()) = write_text(sink, text) else {
+        tell_fault(alloc, "", &RunFault::Write, errors);
+        return Status::Failed;
+    };
+    Status::Done
+}
 
 /// Tells what is wrong with the words on the sink of errors, or writes the help or the version that they ask for
 /// to the other.
@@ -37,45 +55,45 @@ fn answer_words<W: Sink, E: Sink>(
 {
     let text = format!(in alloc; "{error}");
     let (Ok(text), false) = (text, error.kind() == ErrorKind::OutOfMemory) else {
-        tell(errors, "board: out of memory\n");
-        return Status::NoMemory;
+        return starved(errors);
     };
     if error.use_stderr() {
         tell(errors, &text);
         return Status::Usage;
     }
-    let Ok(()) = write_text(sink, &text) else {
-        tell_fault(alloc, &RunFault::Write, errors);
-        return Status::Failed;
-    };
-    Status::Done
+    say(alloc, &text, sink, errors)
 }
 
-/// Replays the script that the source gives, and tells a fault of it.
-fn answer_replay<A: Allocator + Copy, R: Source, W: Sink, E: Sink>(
-    alloc: Global,
-    heap: A,
-    numbering: Numbering,
-    source: &mut R,
-    sink: &mut W,
-    errors: &mut E,
-) -> Status
-    requires devices { HaveRoom (counts R.reads_made R.failures_met W.write_failures source.old sink.old) }
-    requires errors { E.write_failures errors.old < 2 ^ 62 }
-    ensures failures { ReportsFailures (counts R.reads_made R.failures_met W.write_failures source.old sink.old) (counts R.reads_made R.failures_met W.write_failures source.new sink.new) result }
-    ensures refused { LeavesRefused source.old source.new sink.old sink.new result }
+/// Tells that memory ran out.
+fn starved<E: Sink>(errors: &mut E) -> Status
+    requires { E.write_failures errors.old < 2 ^ 62 }
+    ensures { result ≡ Status.NoMemory }
 {
-    let Err(fault) = run(heap, numbering, source, sink) else {
-        return Status::Done;
-    };
-    tell_fault(alloc, &fault, errors);
-    Status::of_run(fault)
+    tell(errors, "board: out of memory\n");
+    Status::NoMemory
+}
+
+/// Tells that the word is no number of bytes, in the form in which `clap` tells the other faults of words.
+fn tell_size<E: Sink>(alloc: Global, word: &str, errors: &mut E)
+    requires { E.write_failures errors.old < 2 ^ 62 }
+{
+    let text = format!(in alloc;
+        "error: invalid value '{word}' for '--memory <BYTES>': no number of bytes, as 65536, 64K, 16M or 1G
+
+For more information, try '--help'.
+"
+    );
+    match text {
+        Ok(text) => tell(errors, &text),
+        Err(_) => tell(errors, "board: out of memory\n"),
+    }
 }
 
 /// Answers the lines that the source gives, and tells a fault of it.
 fn answer_live<A: Allocator + Copy, R: Source, W: Sink, E: Sink>(
     alloc: Global,
     heap: A,
+    origin: &str,
     numbering: Numbering,
     source: &mut R,
     sink: &mut W,
@@ -89,7 +107,7 @@ fn answer_live<A: Allocator + Copy, R: Source, W: Sink, E: Sink>(
     let Err(fault) = live(heap, numbering, source, sink) else {
         return Status::Done;
     };
-    tell_fault(alloc, &fault, errors);
+    tell_fault(alloc, origin, &fault, errors);
     Status::of_live(fault)
 }
 
@@ -97,6 +115,7 @@ fn answer_live<A: Allocator + Copy, R: Source, W: Sink, E: Sink>(
 fn answer_rows<A: Allocator + Copy, R: Source, W: Sink, E: Sink>(
     alloc: Global,
     heap: A,
+    origin: &str,
     relation: &str,
     arity: &str,
     source: &mut R,
@@ -111,7 +130,7 @@ fn answer_rows<A: Allocator + Copy, R: Source, W: Sink, E: Sink>(
     let Err(fault) = write_rows(heap, alloc, relation, arity, source, sink) else {
         return Status::Done;
     };
-    tell_fault(alloc, &fault, errors);
+    tell_fault(alloc, origin, &fault, errors);
     Status::of_rows(fault)
 }
 
@@ -138,7 +157,7 @@ fn answer_sessions<
     let Err(fault) = serve_files(host, host, heap, setup, files, sink) else {
         return Status::Done;
     };
-    tell_fault(alloc, &fault, errors);
+    tell_fault(alloc, "", &fault, errors);
     Status::of_files(fault)
 }
 
@@ -153,6 +172,7 @@ fn answer_task<
     host: &H,
     alloc: Global,
     heap: A,
+    origin: &str,
     task: &Task<'_>,
     source: &mut R,
     sink: &mut W,
@@ -164,32 +184,114 @@ fn answer_task<
     ensures refused { LeavesRefused source.old source.new sink.old sink.new result }
 {
     match task {
-        Task::Replay { numbering } => {
-            answer_replay(alloc, heap, *numbering, source, sink, errors)
+        Task::Replay(replaying) => {
+            answer_replay(alloc, heap, origin, *replaying, source, sink, errors)
         }
-        Task::Live { numbering } => answer_live(alloc, heap, *numbering, source, sink, errors),
+        Task::Live { numbering } => answer_live(
+            alloc, heap, origin, *numbering, source, sink, errors,
+        ),
         Task::Rows { relation, arity } => {
-            answer_rows(alloc, heap, relation, arity, source, sink, errors)
+            answer_rows(alloc, heap, origin, relation, arity, source, sink, errors)
         }
         Task::Sessions { setup, files } => {
             answer_sessions(host, alloc, heap, setup, files, sink, errors)
         }
-        Task::Graph => answer_view(alloc, heap, View::Graph, source, sink, errors),
-        Task::Json => answer_view(alloc, heap, View::Json, source, sink, errors),
+        Task::Graph => answer_view(alloc, heap, origin, &Graph, source, sink, errors),
+        Task::Json => answer_view(alloc, heap, origin, &Json, source, sink, errors),
         Task::Groups { steps } => {
-            let view = View::Groups { steps: *steps };
-            answer_view(alloc, heap, view, source, sink, errors)
+            answer_view(
+                alloc,
+                heap,
+                origin,
+                &Groups { steps: *steps },
+                source,
+                sink,
+                errors,
+            )
         }
-        Task::Explain { names } => answer_explained(alloc, heap, names, source, sink, errors),
-        Task::Choice { words } => answer_choice(alloc, heap, words, source, sink, errors),
+        Task::Explain { names } => {
+            answer_view(
+                alloc,
+                heap,
+                origin,
+                &Explain { names },
+                source,
+                sink,
+                errors,
+            )
+        }
+        Task::Version => say(alloc, VERSION_LINE, sink, errors),
+        Task::Choice { words } => answer_choice(alloc, heap, origin, words, source, sink, errors),
         Task::Choose { words, steps } => {
-            answer_choose(alloc, heap, words, *steps, source, sink, errors)
+            answer_choose(alloc, heap, origin, words, *steps, source, sink, errors)
         }
     }
 }
 
+/// Does a task over the file of that path in the place of the source, which is not read.
+fn answer_file<
+    H: Files + Threads + Wait + Sync,
+    A: Allocator + Copy + Send + Sync,
+    W: Sink,
+    E: Sink,
+>(
+    host: &H,
+    alloc: Global,
+    heap: A,
+    task: &Task<'_>,
+    path: &str,
+    sink: &mut W,
+    errors: &mut E,
+) -> Status
+    requires sink { W.write_failures sink.old < 2 ^ 62 }
+    requires errors { E.write_failures errors.old < 2 ^ 62 }
+    ensures failures { ReportsWriting (W.write_failures sink.old) (W.write_failures sink.new) result }
+    ensures refused { IsRefused result → (sink.new ≡ sink.old) }
+{
+    let Ok(file) = fs::open(host, path) else {
+        tell_fault(alloc, "", &FileFault::Open { path }, errors);
+        return Status::Unserved;
+    };
+    let Ok(origin) = format!(in alloc; "{path}: ") else {
+        return starved(errors);
+    };
+    let before = sink.failures();
+    let mut source = Counted::new(file);
+    let status = answer_task(host, alloc, heap, &origin, task, &mut source, sink, errors);
+    status.over_file(sink.failures() <= before)
+}
+
+/// Does what is wanted over the file that is named, or else over the source.
+fn answer_over<
+    H: Files + Threads + Wait + Sync,
+    A: Allocator + Copy + Send + Sync,
+    R: Source,
+    W: Sink,
+    E: Sink,
+>(
+    host: &H,
+    alloc: Global,
+    heap: A,
+    wanted: &Wanted<'_>,
+    source: &mut R,
+    sink: &mut W,
+    errors: &mut E,
+) -> Status
+    requires devices { HaveRoom (counts R.reads_made R.failures_met W.write_failures source.old sink.old) }
+    requires errors { E.write_failures errors.old < 2 ^ 62 }
+    ensures failures { ReportsFailures (counts R.reads_made R.failures_met W.write_failures source.old sink.old) (counts R.reads_made R.failures_met W.write_failures source.new sink.new) result }
+    ensures refused { LeavesRefused source.old source.new sink.old sink.new result }
+{
+    match wanted.file {
+        Some(path) if path != "-" => {
+            answer_file(host, alloc, heap, &wanted.task, path, sink, errors)
+        }
+        _ => answer_task(host, alloc, heap, "", &wanted.task, source, sink, errors),
+    }
+}
+
 /// Does what is wanted, with no more than so many bytes of the heap out at a time, in all threads together, where a number of
-/// them is reported.
+/// them is told.
 fn answer_wanted<
     H: Files + Threads + Wait + Sync,
     A: Allocator + Copy + Send + Sync,
@@ -210,12 +312,15 @@ fn answer_wanted<
     ensures failures { ReportsFailures (counts R.reads_made R.failures_met W.write_failures source.old sink.old) (counts R.reads_made R.failures_met W.write_failures source.new sink.new) result }
     ensures refused { LeavesRefused source.old source.new sink.old sink.new result }
 {
-    let task = &wanted.task;
-    let Some(bytes) = wanted.memory else {
-        return answer_task(host, alloc, heap, task, source, sink, errors);
+    let Some(word) = wanted.memory else {
+        return answer_over(host, alloc, heap, wanted, source, sink, errors);
+    };
+    let Some(bytes) = size_of(word) else {
+        tell_size(alloc, word, errors);
+        return Status::Usage;
     };
     let budget = Budget::new(heap, bytes);
-    answer_task(host, alloc, &budget, task, source, sink, errors)
+    answer_over(host, alloc, &budget, wanted, source, sink, errors)
 }
 
 /// Does what the words say. Texts of faults go to the sink of errors, each one line; help goes to the other.

@@ -1,17 +1,22 @@
 //! The program `board`: replays a script, turns CSV into the insert lines of one, serves files, or tells something of the board that a script leaves.
 //!
-//! `wanted` says what the words ask for, `rows` writes the insert lines of CSV, `views` tells what is asked of a board, `explaining` why its queries wait, `choices` reads choices from words, `prompting` prompts at a terminal, and `answering` turns words, a source
+//! `wanted` says what the words ask for, `sizes` reads numbers of bytes from words, and `choices` choices. `replaying` replays a script, `rows` writes the insert lines of CSV,
+//! `views` says what is told of a board, `absent` of names under which no query is pending, and `looking` reads a script and writes that. `prompting` prompts at a
+//! terminal, and `answering` turns words, a source
 //! and two sinks into the status that `status` numbers; `main` only opens the three standard streams. What a
 //! script means stands in the crates below.
 #![tactic(auto)]
 
+mod absent;
 mod answering;
 mod choices;
-mod explaining;
 mod fault;
+mod looking;
 mod prompting;
+mod replaying;
 mod rows;
 mod sessions;
+mod sizes;
 mod status;
 mod views;
 mod wanted;

@@ -1,7 +1,7 @@
 //! How the program ends.
 
 ghost use Rattle.std.specs.Prelude.{◌≡◌};
-ghost use Rattle.cq_cli.specs.Status.{code_of, status_of_live, status_of_run, status_of_choices, status_of_outcome, status_of_files, status_of_reading, status_of_rows, status_of_sessions};
+ghost use Rattle.cq_cli.specs.Status.{code_of, status_of_live, status_of_run, status_of_choices, status_of_outcome, status_of_files, status_of_reading, status_of_rows, status_of_sessions, over_file};
 
 use crate::choices::ChoiceFault;
 use crate::rows::RowsFault;
@@ -30,6 +30,10 @@ pub(crate) enum Status {
     NotSo,
     /// What was sought on a board was neither found nor ruled out.
     Undecided,
+    /// A file that was to be read failed.
+    BadFile,
+    /// A line was refused, at which a strict replay ends.
+    LineRefused,
 }
 
 impl Status {
@@ -46,6 +50,18 @@ impl Status {
             Status::Unserved => 1,
             Status::NotSo => 5,
             Status::Undecided => 6,
+            Status::BadFile => 1,
+            Status::LineRefused => 7,
+        }
+    }
+
+    /// The same of a task whose source was a file, which failed where it was not the sink.
+    pub(crate) fn over_file(self, is_sink_whole: bool) -> Status
+        ensures { result ≡ over_file self is_sink_whole }
+    {
+        match self {
+            Status::Failed if is_sink_whole => Status::BadFile,
+            other => other,
         }
     }
 

@@ -1,83 +1,76 @@
 //! What is reported about the board that a script leaves.
 
-ghost use Rattle.std.specs.Prelude.{◌≡◌, ◌≢◌, ◌<◌, ◌+◌, ◌^◌, ◌↔◌, ◌⊎◌, ℕ, List, [], map, false, codes, string_bytes, IfOk, IfErr, IfSome, MatchResult};
-ghost use Rattle.std.specs.List.{list_all};
-ghost use Rattle.std.specs.Io.KnownBytes.{Appends};
-ghost use Rattle.cq_atom.specs.Text.{is_name};
-ghost use Rattle.cq_board.specs.Choice.{IsCoordinating};
+ghost use Rattle.std.specs.Prelude.{◌≡◌, ◌⊎◌, [], true, false, codes, string_bytes, IfOk};
 ghost use Rattle.json.specs.Print.{print};
 ghost use Rattle.json.specs.Tree.{json_tokens};
+ghost use Rattle.cq_board.specs.Choice.{IsCoordinating};
 ghost use Rattle.cq_render.specs.Report.{line};
 ghost use Rattle.cq_render.specs.Json.{json_of};
-ghost use Rattle.cq_report.specs.Lines.{lines_of};
-ghost use Rattle.cq_report.specs.Reading.{Reading};
-ghost use Rattle.cq_report.specs.Output.{AreReadings, floor_left, pool_left};
-ghost use Rattle.cq_report.specs.Run.{failures_of};
-ghost use Rattle.cq_cli.specs.declared.status.Status.{Status};
-ghost use Rattle.cq_cli.specs.Status.{ended, IsTold};
-ghost use Rattle.cq_cli.specs.Devices.{counts, EndsRun, HaveRoom, LeavesRefused, ReportsFailures};
-ghost use Rattle.cq_cli.specs.Views.{IsSoughtSeen, IsViewed, IsShown, IsChosen};
-ghost use Rattle.cq_cli.specs.Steps.Answers.{fault_of_answer};
-ghost use Rattle.cq_ask.specs.Choices.{AreCoordinating, AreNotCoordinating, StandForNone};
+ghost use Rattle.cq_cli.specs.Status.{IsTold};
+ghost use Rattle.cq_cli.specs.Views.{IsJudged};
 
-use crate::choices::{read_choices, read_names};
-use crate::fault::AnswerFault;
+use crate::absent::{put_absent, status_of_absent};
 use crate::status::Status;
-use crate::writing::{tell_fault, write_text};
 use cq_atom::Name;
 use cq_board::{Board, Choice};
-use cq_devices::{Failed, Sink, Source};
 use cq_going::{groups, tell_choice};
-use cq_render::{graph, json};
-use cq_report::{Played, RunFault, read_script};
-use std::alloc::{AllocError, Allocator, Global};
+use cq_render::{explain_these, graph, json};
+use cq_report::Played;
+use std::alloc::{AllocError, Allocator};
 
-/// What is reported about a board.
-#[derive(Clone, Copy, Debug, PartialEq, Eq)]
-pub(crate) enum View {
-    /// The graph of who can supply whom.
-    Graph,
-    /// What the report tells, in JSON.
-    Json,
-    /// Which queries hang together, and whether they can go, each group within so many steps.
-    Groups { steps: u64 },
-    /// A coordinating choice that has the queries of some names, sought within so many steps.
-    Choose { steps: u64 },
-}
-
-/// What is reported, and how the program ends.
+/// What is reported: how the program ends, what it writes, and what it tells beside that, in lines.
 #[derive(Drop)]
-struct Seen<A: Allocator> {
-    status: Status,
-    text: String<A>,
+pub(crate) struct Seen<A: Allocator> {
+    pub(crate) status: Status,
+    pub(crate) text: String<A>,
+    pub(crate) notes: String<A>,
 }
 
-/// What is reported where all was done.
-fn done<A: Allocator>(text: String<A>) -> Seen<A>
-    ensures { (result.status ≡ Status.Done) × (string_bytes result.text ≡ string_bytes text) }
+/// What is asked of what a script leaves.
+pub(crate) trait View<A: Allocator + Copy> {
+    ghost use Rattle.std.specs.Prelude.{List, ℕ, IfOk, string_bytes};
+    ghost use Rattle.cq_cli.specs.declared.status.Status.{Status};
+    ghost use Rattle.cq_cli.specs.Status.{IsTold};
+    ghost use Rattle.cq_report.specs.Output.{Left};
+
+    // This is reported of it: how the program ends, what it writes, and what it tells beside that.
+    ghost tells: { Self → Left → Status → List ℕ → List ℕ → Type 0 };
+
+    /// Looks at what the script leaves.
+    fn look(&self, heap: A, script: &Played<A>) -> Result<Seen<A>, AllocError>
+        ensures seen { IfOk result (λ seen. tells self.now script.now seen.status (string_bytes seen.text) (string_bytes seen.notes)) }
+        ensures told { IfOk result (λ seen. IsTold seen.status) };
+}
+
+/// What is reported where all was done, and nothing is to be told beside it.
+fn done<A: Allocator + Copy>(heap: A, text: String<A>) -> Seen<A>
+    ensures { (result.status ≡ Status.Done) × (string_bytes result.text ≡ string_bytes text) × (string_bytes result.notes ≡ []) }
 {
     Seen {
         status: Status::Done,
         text,
+        notes: String::new(heap),
     }
 }
 
-/// What is reported about a search for a coordinating choice.
-fn sought<A: Allocator + Copy>(
-    heap: A,
-    board: &Board<A>,
-    names: &[Name<A>],
-    steps: u64,
-) -> Result<Seen<A>, AllocError>
-    ensures seen { IfOk result (λ seen. IsSoughtSeen board.now names.now seen.status (string_bytes seen.text)) }
-    ensures told { IfOk result (λ seen. IsTold seen.status) }
-{
-    let told = tell_choice(heap, board, names, steps)?;
-    Ok(Seen {
-        status: Status::of_outcome(told.outcome),
-        text: told.text,
-    })
+/// The graph of who can supply whom.
+#[derive(Drop)]
+pub(crate) struct Graph;
+
+impl<A: Allocator + Copy> View<A> for Graph {
+    ghost use Rattle.cq_cli.specs.Views.{IsGraph};
+
+    ghost tells = { λ _. IsGraph };
+
+    fn look(&self, heap: A, script: &Played<A>) -> Result<Seen<A>, AllocError> {
+        let text = graph(heap, script.board())?;
+        Ok(done(heap, text))
+    }
 }
+
+/// What the report tells, in JSON.
+#[derive(Drop)]
+pub(crate) struct Json;
 
 /// The board as JSON, in a line.
 fn json_line<A: Allocator + Copy>(
@@ -92,235 +85,109 @@ fn json_line<A: Allocator + Copy>(
     Ok(text)
 }
 
-/// What is reported about a board.
-fn look_at<A: Allocator + Copy>(
-    heap: A,
-    script: &Played<A>,
-    view: View,
-    names: &[Name<A>],
-) -> Result<Seen<A>, AllocError>
-    ensures seen { IfOk result (λ seen. IsViewed view names.now script.now seen.status (string_bytes seen.text)) }
-    ensures told { IfOk result (λ seen. IsTold seen.status) }
-{
-    let board = script.board();
-    match view {
-        View::Graph => Ok(done(graph(heap, board)?)),
-        View::Json => Ok(done(json_line(heap, script.entries(), board)?)),
-        View::Groups { steps } => Ok(done(groups(heap, board, steps)?)),
-        View::Choose { steps } => sought(heap, board, names, steps),
+impl<A: Allocator + Copy> View<A> for Json {
+    ghost use Rattle.cq_cli.specs.Views.{IsJson};
+
+    ghost tells = { λ _. IsJson };
+
+    fn look(&self, heap: A, script: &Played<A>) -> Result<Seen<A>, AllocError> {
+        let text = json_line(heap, script.entries(), script.board())?;
+        Ok(done(heap, text))
     }
 }
 
-/// Tells of the board that the script leaves what is asked of it.
-fn write_view<A: Allocator + Copy, W: Sink>(
-    heap: A,
-    script: &Played<A>,
-    view: View,
-    names: &[Name<A>],
-    sink: &mut W,
-) -> Result<Status, AnswerFault>
-    requires { W.write_failures sink.old < 2 ^ 62 }
-    ensures ok { IfOk result (λ status. IsShown view names.now script.now status (W.taken sink.old) (W.taken sink.new)) }
-    ensures status { IfOk result IsTold }
-    ensures failures { MatchResult result (λ _. W.write_failures sink.new ≡ W.write_failures sink.old) (λ fault. W.write_failures sink.new ≡ W.write_failures sink.old + failures_of (fault_of_answer fault)) }
-{
-    let seen = look_at(heap, script, view, names)?;
-    write_text(sink, &seen.text)?;
-    Ok(seen.status)
+/// Which queries hang together, and whether they can go, each group within so many steps.
+#[derive(Drop)]
+pub(crate) struct Groups {
+    pub(crate) steps: u64,
 }
 
-/// Says whether the choices coordinate.
-fn write_choice<W: Sink, A: Allocator + Copy>(
-    board: &Board<A>,
-    choices: &[Choice<A>],
-    sink: &mut W,
-) -> Result<Status, Failed>
-    requires { W.write_failures sink.old < 2 ^ 62 }
-    ensures done { IfOk result (λ status. (status ≡ Status.Done) ↔ IsCoordinating board.now choices.now) }
-    ensures said { IfOk result (λ status. status ≡ Status.Done → Appends (W.taken sink.old) (W.taken sink.new) (codes "coordinating\n")) }
-    ensures denied { IfOk result (λ status. status ≡ Status.NotSo → Appends (W.taken sink.old) (W.taken sink.new) (codes "not coordinating\n")) }
-    ensures either { IfOk result (λ status. (status ≡ Status.Done) ⊎ (status ≡ Status.NotSo)) }
-    ensures failures { MatchResult result (λ _. W.write_failures sink.new ≡ W.write_failures sink.old) (λ _. W.write_failures sink.new ≡ W.write_failures sink.old + 1) }
-{
-    if board.check_choice(choices) {
-        write_text(sink, "coordinating\n")?;
-        return Ok(Status::Done);
-    }
-    write_text(sink, "not coordinating\n")?;
-    Ok(Status::NotSo)
-}
+impl<A: Allocator + Copy> View<A> for Groups {
+    ghost use Rattle.cq_cli.specs.Views.{AreGroups};
 
-/// Tells a fault, where there is one, and how the program ends.
-pub(crate) fn end_with<E: Sink>(
-    alloc: Global,
-    told: Result<Status, RunFault>,
-    errors: &mut E,
-) -> Status
-    requires { IfErr told (λ _. E.write_failures errors.old < 2 ^ 62) }
-    ensures ended { result ≡ ended told }
-    ensures silent { IfOk told (λ _. errors.new ≡ errors.old) }
-{
-    match told {
-        Ok(status) => status,
-        Err(fault) => {
-            tell_fault(alloc, &fault, errors);
-            Status::of_run(fault)
-        }
+    ghost tells = { λ _. AreGroups };
+
+    fn look(&self, heap: A, script: &Played<A>) -> Result<Seen<A>, AllocError> {
+        let text = groups(heap, script.board(), self.steps)?;
+        Ok(done(heap, text))
     }
 }
 
-/// Reads the script that the source gives, and writes of the board that it leaves what is asked of it.
-fn show_view<A: Allocator + Copy, R: Source, W: Sink>(
-    heap: A,
-    view: View,
-    names: &[Name<A>],
-    source: &mut R,
-    sink: &mut W,
-) -> Result<Status, RunFault>
-    requires devices { HaveRoom (counts R.reads_made R.failures_met W.write_failures source.old sink.old) }
-    ensures told { IfOk result (λ status. IfSome (R.left source.old) (λ input. (readings : List Reading) → AreReadings (lines_of input) readings → IsShown view names.now (floor_left readings) status (W.taken sink.old) (W.taken sink.new))) }
-    ensures status { IfOk result IsTold }
-    ensures failures { EndsRun (counts R.reads_made R.failures_met W.write_failures source.old sink.old) (counts R.reads_made R.failures_met W.write_failures source.new sink.new) result }
-{
-    let script = read_script(heap, source)?;
-    Ok(write_view(heap, &script, view, names, sink)?)
+/// A coordinating choice that has the queries of some names, sought within so many steps.
+#[derive(Drop)]
+pub(crate) struct Choose<'a, A: Allocator> {
+    pub(crate) names: &'a [Name<A>],
+    pub(crate) steps: u64,
 }
 
-/// Reads the script that the source gives, and says whether the choices coordinate on the board that it leaves.
-fn show_choice<A: Allocator + Copy, R: Source, W: Sink>(
-    heap: A,
-    choices: &[Choice<A>],
-    source: &mut R,
-    sink: &mut W,
-) -> Result<Status, RunFault>
-    requires devices { HaveRoom (counts R.reads_made R.failures_met W.write_failures source.old sink.old) }
-    ensures so { IfOk result (λ status. IfSome (R.left source.old) (λ input. (readings : List Reading) → AreReadings (lines_of input) readings → (status ≡ Status.Done) ↔ IsCoordinating (pool_left readings) choices.now)) }
-    ensures said { IfOk result (λ status. status ≡ Status.Done → Appends (W.taken sink.old) (W.taken sink.new) (codes "coordinating\n")) }
-    ensures denied { IfOk result (λ status. status ≡ Status.NotSo → Appends (W.taken sink.old) (W.taken sink.new) (codes "not coordinating\n")) }
-    ensures either { IfOk result (λ status. (status ≡ Status.Done) ⊎ (status ≡ Status.NotSo)) }
-    ensures failures { EndsRun (counts R.reads_made R.failures_met W.write_failures source.old sink.old) (counts R.reads_made R.failures_met W.write_failures source.new sink.new) result }
-{
-    let script = read_script(heap, source)?;
-    Ok(write_choice(script.board(), choices, sink)?)
-}
+impl<'a, A: Allocator + Copy> View<A> for Choose<'a, A> {
+    ghost use Rattle.cq_cli.specs.Views.{IsSought};
 
-/// Reads the script that the source gives, and tells of the board that it leaves what is asked of it and of these names, or tells a fault.
-fn answer_named<A: Allocator + Copy, R: Source, W: Sink, E: Sink>(
-    alloc: Global,
-    heap: A,
-    view: View,
-    names: &[Name<A>],
-    source: &mut R,
-    sink: &mut W,
-    errors: &mut E,
-) -> Status
-    requires devices { HaveRoom (counts R.reads_made R.failures_met W.write_failures source.old sink.old) }
-    requires errors { E.write_failures errors.old < 2 ^ 62 }
-    ensures told { IsTold result → IfSome (R.left source.old) (λ input. (readings : List Reading) → AreReadings (lines_of input) readings → IsShown view names.now (floor_left readings) result (W.taken sink.old) (W.taken sink.new)) }
-    ensures usage { result ≢ Status.Usage }
-    ensures failures { ReportsFailures (counts R.reads_made R.failures_met W.write_failures source.old sink.old) (counts R.reads_made R.failures_met W.write_failures source.new sink.new) result }
-    ensures refused { LeavesRefused source.old source.new sink.old sink.new result }
-{
-    let shown = show_view(heap, view, names, source, sink);
-    end_with(alloc, shown, errors)
-}
+    ghost tells = { λ choose. IsSought choose.names.now };
 
-/// Reads the script that the source gives, and tells of the board that it leaves what is asked of it, or tells a fault.
-pub(crate) fn answer_view<A: Allocator + Copy, R: Source, W: Sink, E: Sink>(
-    alloc: Global,
-    heap: A,
-    view: View,
-    source: &mut R,
-    sink: &mut W,
-    errors: &mut E,
-) -> Status
-    requires devices { HaveRoom (counts R.reads_made R.failures_met W.write_failures source.old sink.old) }
-    requires errors { E.write_failures errors.old < 2 ^ 62 }
-    ensures told { IsTold result → IfSome (R.left source.old) (λ input. (readings : List Reading) → AreReadings (lines_of input) readings → IsShown view [] (floor_left readings) result (W.taken sink.old) (W.taken sink.new)) }
-    ensures failures { ReportsFailures (counts R.reads_made R.failures_met W.write_failures source.old sink.old) (counts R.reads_made R.failures_met W.write_failures source.new sink.new) result }
-    ensures refused { LeavesRefused source.old source.new sink.old sink.new result }
-{
-    let names = Vec::new(heap);
-    answer_named(alloc, heap, view, &names, source, sink, errors)
-}
-
-/// Reads the script that the source gives, and says whether the choices coordinate on the board that it leaves, or tells a fault.
-fn say_choice<A: Allocator + Copy, R: Source, W: Sink, E: Sink>(
-    alloc: Global,
-    heap: A,
-    choices: &[Choice<A>],
-    source: &mut R,
-    sink: &mut W,
-    errors: &mut E,
-) -> Status
-    requires devices { HaveRoom (counts R.reads_made R.failures_met W.write_failures source.old sink.old) }
-    requires errors { E.write_failures errors.old < 2 ^ 62 }
-    ensures so { result ≡ Status.Done → IfSome (R.left source.old) (λ input. (readings : List Reading) → AreReadings (lines_of input) readings → IsCoordinating (pool_left readings) choices.now) }
-    ensures not_so { result ≡ Status.NotSo → IfSome (R.left source.old) (λ input. (readings : List Reading) → AreReadings (lines_of input) readings → IsCoordinating (pool_left readings) choices.now → ⊥) }
-    ensures usage { result ≢ Status.Usage }
-    ensures said { result ≡ Status.Done → Appends (W.taken sink.old) (W.taken sink.new) (codes "coordinating\n") }
-    ensures denied { result ≡ Status.NotSo → Appends (W.taken sink.old) (W.taken sink.new) (codes "not coordinating\n") }
-    ensures failures { ReportsFailures (counts R.reads_made R.failures_met W.write_failures source.old sink.old) (counts R.reads_made R.failures_met W.write_failures source.new sink.new) result }
-    ensures refused { LeavesRefused source.old source.new sink.old sink.new result }
-{
-    let shown = show_choice(heap, choices, source, sink);
-    end_with(alloc, shown, errors)
-}
-
-/// Reads choices from words, and says of them the same, or what is wrong with the words.
-pub(crate) fn answer_choice<A: Allocator + Copy, R: Source, W: Sink, E: Sink>(
-    alloc: Global,
-    heap: A,
-    words: &[&str],
-    source: &mut R,
-    sink: &mut W,
-    errors: &mut E,
-) -> Status
-    requires devices { HaveRoom (counts R.reads_made R.failures_met W.write_failures source.old sink.old) }
-    requires errors { E.write_failures errors.old < 2 ^ 62 }
-    ensures so { result ≡ Status.Done → IfSome (R.left source.old) (λ input. (readings : List Reading) → AreReadings (lines_of input) readings → AreCoordinating (pool_left readings) (map (λ word. word.now) words.now)) }
-    ensures not_so { result ≡ Status.NotSo → IfSome (R.left source.old) (λ input. (readings : List Reading) → AreReadings (lines_of input) readings → AreNotCoordinating (pool_left readings) (map (λ word. word.now) words.now)) }
-    ensures bad { result ≡ Status.Usage → StandForNone (map (λ word. word.now) words.now) }
-    ensures said { result ≡ Status.Done → Appends (W.taken sink.old) (W.taken sink.new) (codes "coordinating\n") }
-    ensures denied { result ≡ Status.NotSo → Appends (W.taken sink.old) (W.taken sink.new) (codes "not coordinating\n") }
-    ensures failures { ReportsFailures (counts R.reads_made R.failures_met W.write_failures source.old sink.old) (counts R.reads_made R.failures_met W.write_failures source.new sink.new) result }
-    ensures refused { LeavesRefused source.old source.new sink.old sink.new result }
-{
-    match read_choices(heap, words) {
-        Ok(choices) => say_choice(alloc, heap, &choices, source, sink, errors),
-        Err(fault) => {
-            tell_fault(alloc, &fault, errors);
-            Status::of_choices(fault)
-        }
+    fn look(&self, heap: A, script: &Played<A>) -> Result<Seen<A>, AllocError> {
+        let told = tell_choice(heap, script.board(), self.names, self.steps)?;
+        Ok(Seen {
+            status: Status::of_outcome(told.outcome),
+            text: told.text,
+            notes: String::new(heap),
+        })
     }
 }
 
-/// Reads names from words, and looks for a coordinating choice on the board that the script leaves which has the queries of these names; or tells what is
-/// wrong with the words.
-pub(crate) fn answer_choose<A: Allocator + Copy, R: Source, W: Sink, E: Sink>(
-    alloc: Global,
-    heap: A,
-    words: &[&str],
-    steps: u64,
-    source: &mut R,
-    sink: &mut W,
-    errors: &mut E,
-) -> Status
-    requires devices { HaveRoom (counts R.reads_made R.failures_met W.write_failures source.old sink.old) }
-    requires errors { E.write_failures errors.old < 2 ^ 62 }
-    ensures told { IsTold result → IfSome (R.left source.old) (λ input. (readings : List Reading) → AreReadings (lines_of input) readings → IsChosen (pool_left readings) (map (λ word. word.now) words.now) result (W.taken sink.old) (W.taken sink.new)) }
-    ensures bad { result ≡ Status.Usage → list_all is_name (map (λ word. word.now) words.now) ≡ false }
-    ensures failures { ReportsFailures (counts R.reads_made R.failures_met W.write_failures source.old sink.old) (counts R.reads_made R.failures_met W.write_failures source.new sink.new) result }
-    ensures refused { LeavesRefused source.old source.new sink.old sink.new result }
+/// Whether choices coordinate.
+#[derive(Drop)]
+pub(crate) struct Judge<'a, A: Allocator> {
+    pub(crate) choices: &'a [Choice<A>],
+}
+
+/// What is said of choices that coordinate, or that do not.
+fn verdict(is_coordinating: bool) -> (Status, &'static str)
+    ensures { (is_coordinating ≡ true) × (result.0 ≡ Status.Done) × (result.1.now ≡ codes "coordinating\n") ⊎ (is_coordinating ≡ false) × (result.0 ≡ Status.NotSo) × (result.1.now ≡ codes "not coordinating\n") }
 {
-    match read_names(heap, words) {
-        Ok(names) => {
-            let view = View::Choose { steps };
-            answer_named(alloc, heap, view, &names, source, sink, errors)
-        }
-        Err(bad) => {
-            tell_fault(alloc, &bad, errors);
-            Status::of_choices(bad)
-        }
+    if is_coordinating {
+        (Status::Done, "coordinating\n")
+    } else {
+        (Status::NotSo, "not coordinating\n")
+    }
+}
+
+impl<'a, A: Allocator + Copy> View<A> for Judge<'a, A> {
+    ghost use Rattle.cq_cli.specs.Views.{IsJudged};
+
+    ghost tells = { λ judge. IsJudged judge.choices.now };
+
+    fn look(&self, heap: A, script: &Played<A>) -> Result<Seen<A>, AllocError> {
+        let (status, text) = verdict(script.board().check_choice(self.choices));
+        Ok(Seen {
+            status,
+            text: String::from_str(heap, text)?,
+            notes: String::new(heap),
+        })
+    }
+}
+
+/// Why the queries of these names wait, or all that do.
+#[derive(Drop)]
+pub(crate) struct Explain<'a> {
+    pub(crate) names: &'a [&'a str],
+}
+
+impl<'a, A: Allocator + Copy> View<A> for Explain<'a> {
+    ghost use Rattle.std.specs.Prelude.{map};
+    ghost use Rattle.cq_cli.specs.Views.{AreExplained};
+
+    ghost tells = { λ explain. AreExplained (map (λ name. name.now) explain.names.now) };
+
+    fn look(&self, heap: A, script: &Played<A>) -> Result<Seen<A>, AllocError> {
+        let board = script.board();
+        let text = explain_these(heap, board, self.names)?;
+        let mut notes = String::new(heap);
+        put_absent(heap, board, self.names, &mut notes)?;
+        Ok(Seen {
+            status: status_of_absent(&notes),
+            text,
+            notes,
+        })
     }
 }

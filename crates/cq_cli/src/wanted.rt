@@ -1,13 +1,18 @@
 //! The words of the command line, by the kit's `clap`.
 
+use crate::replaying::Replaying;
 use clap::{Arg, ArgAction, ArgMatches, Command, Error, value_parser};
 use cq_going::MOST_STEPS;
 use cq_report::Numbering;
 use std::alloc::{AllocError, Global};
 use std::convert::AsStr;
 
-/// The number that `--version` tells; CHANGELOG.md says what came with each.
-const VERSION: &str = "0.7.0";
+/// What `--version` tells: the number, of which CHANGELOG.md says what came with it, and the logic in which the program is proved.
+const VERSION: &str = "0.7.0, proved in the logic dac8208d650f15bf";
+
+/// What `version` writes.
+pub(crate) const VERSION_LINE: &str = "board 0.7.0, proved in the logic dac8208d650f15bf
+";
 
 const ABOUT: &str = "A live coordination board for entangled queries.";
 
@@ -23,10 +28,11 @@ Exit status:
   4  a record of CSV at fault; then nothing is written to standard output
   5  a choice that does not coordinate, none that does, or a name under which no query is pending
   6  a coordinating choice was neither found nor ruled out in so many steps
+  7  a line was refused, and the replay is strict
 
 docs/formats.md describes the language, its replies, the report, CSV, sessions, and what is told of a board.";
 
-const ABOUT_REPLAY: &str = "Reads a script on standard input, and writes its replies and reports.";
+const ABOUT_REPLAY: &str = "Reads a script, and writes its replies and reports.";
 
 const BEHIND_REPLAY: &str = "Lines of a script:
   board FORM                                 the form of the script, 1 or 2 (first line)
@@ -50,11 +56,13 @@ Example:
 Where a line needs more memory than there is, or than --memory allows, the lines before it are answered, it has no
 reply, and `board: out of memory` is told.
 
-Exit status: 0 done (refused lines included), 1 a device failed, 2 usage, 3 out of memory.
+With --strict the replay ends at the first line that is refused, once its reply is written.
+
+Exit status: 0 done (refused lines included), 1 a device failed, 2 usage, 3 out of memory, 7 a line was refused (--strict).
 docs/formats.md describes the language.";
 
 const ABOUT_LIVE: &str =
-    "Reads lines of a script on standard input, and answers each at once, as long as there are any.";
+    "Reads lines of a script, and answers each at once, as long as there are any.";
 
 const BEHIND_LIVE: &str =
     "The lines are those of `board replay`, and are answered as it answers them: each before the next one is read. So a program can
@@ -80,8 +88,7 @@ writes
 Exit status: 0 the lines ended, 1 a device failed, 2 usage, 3 no memory to begin with.
 docs/formats.md describes the language.";
 
-const ABOUT_ROWS: &str =
-    "Reads CSV on standard input, and writes an insert line for each record, in order.";
+const ABOUT_ROWS: &str = "Reads CSV, and writes an insert line for each record, in order.";
 
 const BEHIND_ROWS: &str =
     "There is no header row. A field that is a number of the script language is that number; any other is a
@@ -117,8 +124,7 @@ Example:
 Exit status: 0 done (refused lines included), 1 a device failed, 2 usage, 3 out of memory.
 docs/formats.md describes sessions.";
 
-const ABOUT_EXPLAIN: &str =
-    "Reads a script on standard input, and tells why queries of its board wait.";
+const ABOUT_EXPLAIN: &str = "Reads a script, and tells why queries of its board wait.";
 
 const BEHIND_EXPLAIN: &str =
     "The script is read as by `board replay`, and no reply is written. What is told is of the published board, which a `show`
@@ -137,8 +143,7 @@ tells
 Exit status: 0 done, 1 a device failed, 2 usage, 3 out of memory, 5 no query of a NAME is pending.
 docs/formats.md describes the lines.";
 
-const ABOUT_GRAPH: &str =
-    "Reads a script on standard input, and writes the graph of its board for Graphviz.";
+const ABOUT_GRAPH: &str = "Reads a script, and writes the graph of its board for Graphviz.";
 
 const BEHIND_GRAPH: &str =
     "The script is read as by `board replay`, and no reply is written. The graph is of the published board, which a `show`
@@ -150,8 +155,7 @@ Example:
 Exit status: 0 done, 1 a device failed, 2 usage, 3 out of memory.
 docs/formats.md describes the graph.";
 
-const ABOUT_JSON: &str =
-    "Reads a script on standard input, and writes the report on its board in JSON.";
+const ABOUT_JSON: &str = "Reads a script, and writes the report on its board in JSON.";
 
 const BEHIND_JSON: &str =
     "The script is read as by `board replay`, and no reply is written. The report is on the published board, which a `show`
@@ -163,8 +167,7 @@ Example:
 Exit status: 0 done, 1 a device failed, 2 usage, 3 out of memory.
 docs/formats.md describes the shape.";
 
-const ABOUT_CHOICE: &str =
-    "Reads a script on standard input, and says whether a choice coordinates on its board.";
+const ABOUT_CHOICE: &str = "Reads a script, and says whether a choice coordinates on its board.";
 
 const BEHIND_CHOICE: &str =
     "The script is read as by `board replay`, and no reply is written. A CHOICE is a query's name with a value for each variable of
@@ -180,8 +183,7 @@ writes
 Exit status: 0 coordinating, 1 a device failed, 2 usage, 3 out of memory, 5 not coordinating.
 docs/formats.md describes values and choices.";
 
-const ABOUT_CHOOSE: &str =
-    "Reads a script on standard input, and looks for a choice that coordinates on its board.";
+const ABOUT_CHOOSE: &str = "Reads a script, and looks for a choice that coordinates on its board.";
 
 const BEHIND_CHOOSE: &str =
     "The script is read as by `board replay`, and no reply is written. A choice is sought that coordinates, as `board choice` has it, and
@@ -202,8 +204,10 @@ writes
 Exit status: 0 found, 1 a device failed, 2 usage, 3 out of memory, 5 none, 6 undecided.
 docs/formats.md describes what is written.";
 
+const ABOUT_VERSION: &str = "Tells the version, and the logic in which the program is proved.";
+
 const ABOUT_GROUPS: &str =
-    "Reads a script on standard input, and tells which queries of its board hang together, and whether they can go.";
+    "Reads a script, and tells which queries of its board hang together, and whether they can go.";
 
 const BEHIND_GROUPS: &str =
     "The script is read as by `board replay`, and no reply is written. Matched queries hang together where one may supply the other, and
@@ -224,18 +228,17 @@ docs/formats.md describes what is written.";
 pub(crate) struct Wanted<'a> {
     /// What is to be done.
     pub(crate) task: Task<'a>,
-    /// How many bytes of memory that may take at a time; no bound where none is given.
-    pub(crate) memory: Option<usize>,
+    /// The word for how many bytes of memory that may take at a time; no bound where there is none.
+    pub(crate) memory: Option<&'a str>,
+    /// The path of the file that is read in the place of standard input, which `-` stands for.
+    pub(crate) file: Option<&'a str>,
 }
 
 /// What is to be done.
 #[derive(Drop, Debug)]
 pub(crate) enum Task<'a> {
     /// A script is replayed.
-    Replay {
-        /// Whether replies have the numbers of their lines.
-        numbering: Numbering,
-    },
+    Replay(Replaying),
     /// Lines are answered one at a time.
     Live {
         /// Whether answers are JSON objects.
@@ -281,6 +284,8 @@ pub(crate) enum Task<'a> {
         /// The words that stand for the choices.
         words: Vec<&'a str>,
     },
+    /// The version is told.
+    Version,
 }
 
 /// The option that bounds memory.
@@ -288,8 +293,19 @@ fn memory<'a>(alloc: Global, help: &'a str) -> Arg<'a> {
     Arg::new(alloc, "memory")
         .long("memory")
         .value_name("BYTES")
-        .value_parser(value_parser!(usize))
         .help(help)
+}
+
+/// The word for a file in the place of standard input.
+fn file<'a>(alloc: Global) -> Arg<'a> {
+    Arg::new(alloc, "source").value_name("FILE").help(
+        "The file that is read; standard input where there is none or it is -",
+    )
+}
+
+/// The same as an option, for a command that takes other words.
+fn file_option<'a>(alloc: Global) -> Arg<'a> {
+    file(alloc).long("file")
 }
 
 fn replay_command<'a>(alloc: Global) -> Result<Command<'a>, AllocError> {
@@ -302,6 +318,19 @@ fn replay_command<'a>(alloc: Global) -> Result<Command<'a>, AllocError> {
                 .action(ArgAction::SetTrue)
                 .help("Write the number of its line, from 1, before each reply"),
         )?
+        .arg(
+            Arg::new(alloc, "strict")
+                .long("strict")
+                .action(ArgAction::SetTrue)
+                .help("End at the first line that is refused, with status 7"),
+        )?
+        .arg(
+            Arg::new(alloc, "summary")
+                .long("summary")
+                .action(ArgAction::SetTrue)
+                .help("Sum the script up on standard error in the end"),
+        )?
+        .arg(file(alloc))?
         .arg(memory(
             alloc,
             "The most bytes of memory that the script may have at a time",
@@ -318,6 +347,7 @@ fn live_command<'a>(alloc: Global) -> Result<Command<'a>, AllocError> {
                 .action(ArgAction::SetTrue)
                 .help("Answer each line by a JSON object"),
         )?
+        .arg(file(alloc))?
         .arg(memory(
             alloc,
             "The most bytes of memory that the board may have at a time",
@@ -346,6 +376,7 @@ fn rows_command<'a>(alloc: Global) -> Result<Command<'a>, AllocError> {
             "ARITY",
             "How many fields a record has: a number, 1 to 16",
         ))?
+        .arg(file(alloc))?
         .arg(memory(
             alloc,
             "The most bytes of memory that the rows may have at a time",
@@ -386,6 +417,7 @@ fn explain_command<'a>(alloc: Global) -> Result<Command<'a>, AllocError> {
                 "The queries that are told of; all that wait where there is no name",
             ),
         )?
+        .arg(file_option(alloc))?
         .arg(view_memory(alloc))
 }
 
@@ -393,6 +425,7 @@ fn graph_command<'a>(alloc: Global) -> Result<Command<'a>, AllocError> {
     Command::new(alloc, "graph")
         .about(ABOUT_GRAPH)
         .after_help(BEHIND_GRAPH)
+        .arg(file(alloc))?
         .arg(view_memory(alloc))
 }
 
@@ -400,6 +433,7 @@ fn json_command<'a>(alloc: Global) -> Result<Command<'a>, AllocError> {
     Command::new(alloc, "json")
         .about(ABOUT_JSON)
         .after_help(BEHIND_JSON)
+        .arg(file(alloc))?
         .arg(view_memory(alloc))
 }
 
@@ -413,6 +447,7 @@ fn choice_command<'a>(alloc: Global) -> Result<Command<'a>, AllocError> {
             "A query's name, and a value for each variable of its body: NAME(V, ..)",
         )
         .num_args(1..))?
+        .arg(file_option(alloc))?
         .arg(view_memory(alloc))
 }
 
@@ -435,6 +470,7 @@ fn choose_command<'a>(alloc: Global) -> Result<Command<'a>, AllocError> {
                 .help("The queries that the choice has to have"),
         )?
         .arg(steps(alloc))?
+        .arg(file_option(alloc))?
         .arg(view_memory(alloc))
 }
 
@@ -443,6 +479,7 @@ fn groups_command<'a>(alloc: Global) -> Result<Command<'a>, AllocError> {
         .about(ABOUT_GROUPS)
         .after_help(BEHIND_GROUPS)
         .arg(steps(alloc))?
+        .arg(file(alloc))?
         .arg(view_memory(alloc))
 }
 
@@ -471,7 +508,8 @@ fn board_command<'a>(alloc: Global) -> Result<Command<'a>, AllocError> {
     let board = with(board, json_command(alloc))?;
     let board = with(board, choice_command(alloc))?;
     let board = with(board, choose_command(alloc))?;
-    with(board, groups_command(alloc))
+    let board = with(board, groups_command(alloc))?;
+    board.subcommand(Command::new(alloc, "version").about(ABOUT_VERSION))
 }
 
 /// All the words that stand for that argument.
@@ -535,9 +573,12 @@ fn task_of<'a>(
         "choice" => Task::Choice {
             words: words_of(alloc, matches, "CHOICE")?,
         },
-        _ => Task::Replay {
+        "version" => Task::Version,
+        _ => Task::Replay(Replaying {
             numbering: numbered(matches, "number", Numbering::Numbered),
-        },
+            is_strict: matches.get_flag("strict"),
+            is_summed: matches.get_flag("summary"),
+        }),
     })
 }
 
@@ -550,14 +591,18 @@ pub(crate) fn read_words<'a, S: AsStr>(alloc: Global, words: &'a [S]) -> Result<
     let matches = board_command(alloc)?.try_get_matches_from(words)?;
     let Some((name, behind)) = matches.subcommand() else {
         return Ok(Wanted {
-            task: Task::Replay {
+            task: Task::Replay(Replaying {
                 numbering: Numbering::Plain,
-            },
+                is_strict: false,
+                is_summed: false,
+            }),
             memory: None,
+            file: None,
         });
     };
     Ok(Wanted {
         task: task_of(alloc, name, behind)?,
-        memory: behind.get_one::<usize>("memory"),
+        memory: behind.get_str("memory"),
+        file: behind.get_str("source"),
     })
 }

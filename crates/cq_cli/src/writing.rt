@@ -27,11 +27,16 @@ pub(crate) fn tell<E: Sink>(errors: &mut E, text: &str)
     let _ = write_text(errors, text);
 }
 
-/// Tells a fault in one line on the sink of errors.
-pub(crate) fn tell_fault<F: Display, E: Sink>(alloc: Global, fault: &F, errors: &mut E)
+/// Tells a fault in one line on the sink of errors, behind the name of the file that it is of, if it is of one.
+pub(crate) fn tell_fault<F: Display, E: Sink>(
+    alloc: Global,
+    origin: &str,
+    fault: &F,
+    errors: &mut E,
+)
     requires { E.write_failures errors.old < 2 ^ 62 }
 {
-    match format!(in alloc; "board: {fault}\n") {
+    match format!(in alloc; "board: {origin}{fault}\n") {
         Ok(text) => tell(errors, &text),
         Err(_) => tell(errors, "board: out of memory\n"),
     }

@@ -8,13 +8,11 @@ use Rattle.cq_text.specs.declared.form.Form.{Form}
 use Rattle.cq_text.specs.Grammar.{CommandContent, StandsFor}
 use Rattle.cq_text.specs.Fault.{FirstFault}
 use Rattle.cq_text.specs.Views.{OrNoMemory, OfFault}
-use Rattle.cq_report.specs.declared.numbering.Numbering.{Numbering}
-use Rattle.cq_report.specs.declared.numbering.Numbering.TheVariants.{Plain, Numbered, Json}
 use Rattle.cq_report.specs.declared.output.Output.{Output}
 use Rattle.cq_report.specs.declared.fault.RunFault.TheVariants as faults
 use Rattle.cq_report.specs.Steps.Written.{Breaks}
 use Rattle.cq_report.specs.Reading.{Reading, Reads, Faulty, IsReading}
-use Rattle.cq_report.specs.Machine.{State, one_more, counted}
+use Rattle.cq_report.specs.Machine.{State, counted}
 use Rattle.cq_report.specs.Steps.Count.{lines_before}
 use Rattle.cq_report.specs.Steps.Writing.{Puts-nothing, Puts-starved}
 
@@ -58,11 +56,6 @@ of_each form line reading only P p other is = subst P (sym (only other is)) p
 pub starved : {W A : Type 0} (taken : W → Option (List ℕ)) (failures : W → ℕ) (output : Output W A) (bytes : List ℕ) → Breaks taken failures output output bytes faults.NoMemory
 starved taken failures output bytes = Puts-starved taken failures output output [] bytes (Puts-nothing taken failures output)
 
--- a count rises by one at most
-pub one_more_most : (numbering : Numbering) (lines : ℕ) → one_more numbering lines ≤ lines + 1
-one_more_most Plain lines = omega arith
-one_more_most Numbered lines = omega arith
-one_more_most Json lines = omega arith
-
+-- a count rises by one
 pub counted_most : (state : State) → lines_before (counted state) ≤ lines_before state + 1
-counted_most state = one_more_most state.numbering state.lines
+counted_most state = omega arith

@@ -1,5 +1,6 @@
 -- What a whole run wrote.
-use Rattle.std.proofs.Common.{◌≡◌, ℕ, List, [], ◌++◌, Option, IfSome, sym, ap, subst, ◌∙◌, append-nil}
+use Rattle.std.proofs.Common.{◌≡◌, ℕ, Bool, false, List, [], ◌++◌, Option, None, Some, IfSome, inl, inr, refl, sym, ap, subst, ◌∙◌, append-nil, append_assoc}
+use Rattle.std.specs.Prelude.{◌⊎◌}
 use Rattle.std.specs.Io.KnownBytes.{Appends, Consumes}
 use Rattle.std.proofs.KnownBytes.{Consumes-whole, Consumes-trans}
 use Rattle.cq_report.specs.declared.output.Output.{Output}
@@ -12,13 +13,15 @@ use Rattle.cq_report.specs.declared.numbering.Numbering.{Numbering}
 use Rattle.cq_report.specs.declared.numbering.Numbering.TheVariants.{Plain}
 use Rattle.cq_report.specs.Lines.{lines_of, whole_lines}
 use Rattle.cq_report.specs.Reading.{Reading}
-use Rattle.cq_report.specs.Machine.{State, begin_state, serving_of}
-use Rattle.cq_report.specs.Output.{AreReadings, output, floor_left}
+use Rattle.cq_report.specs.Machine.{State, begin_state}
+use Rattle.cq_report.specs.Output.{AreReadings, Heard, output, left_in, left_after}
 use Rattle.cq_report.specs.Steps.Replies.{fault_of_reply}
 use Rattle.cq_report.specs.Steps.Written.{Passes}
 use Rattle.cq_report.specs.Run.{IfRead, WroteWholeLines, WroteFront}
-use Rattle.cq_report.specs.Steps.Replay.{Replayed, BrokeOff, Ended}
+use Rattle.cq_report.specs.Steps.Replay.{Halted, Replayed, BrokeOff, Ended}
+use Rattle.cq_report.specs.Steps.Serving.{Finished}
 use Rattle.cq_report.proofs.Cutting.{whole_lines_all_ended}
+use Rattle.cq_report.proofs.Served.{lines_of_behind}
 
 -- a read that took nothing
 pub Consumes-none : (a b c : Option (List ℕ)) (bytes : List ℕ) → Consumes a b bytes → Consumes b c [] → Consumes a c bytes
@@ -40,27 +43,71 @@ pub reply_read : (fault : ReplyFault) (P : ℕ → Type 0) → IfRead (fault_of_
 reply_read replies.Write P = tt
 reply_read replies.NoMemory P = tt
 
+-- known bytes, of which a front was read
+pub Consumes-front : (left left' : Option (List ℕ)) (bytes : List ℕ) (P : List ℕ → Type 0) → Consumes left left' bytes → ((rest : List ℕ) → P (bytes ++ rest)) → IfSome left P
+Consumes-front None left' bytes P read all = tt
+Consumes-front (Some input) None bytes P read all = absurd read
+Consumes-front (Some input) (Some rest) bytes P read all = subst P (sym read) (all rest)
+
+-- a script that is not strict was read whole
+never_halts : {W A : Type 0} (taken : W → Option (List ℕ)) (failures : W → ℕ) (first : Output W A) (opening : State) (now : Output W A) (state : State) (bytes : List ℕ) (P : Type 0) → P ⊎ Halted false taken failures first opening now state bytes → P
+never_halts taken failures first opening now state bytes P (inl p) = p
+never_halts taken failures first opening now state bytes P (inr halted) = absurd (let no = halted.strict in cc)
+
 module _ {W A : Type 0} (taken : W → Option (List ℕ)) (failures : W → ℕ) (numbering : Numbering) (opening : State) (left left' : Option (List ℕ)) (first now : Output W A) where
-  -- all was read, and its output written
-  pub Replayed-wrote : (state : State) (t t' : Option (List ℕ)) → opening ≡ begin_state numbering → first.held.now.items ≡ [] → taken first.sink.now ≡ t → taken now.sink.now ≡ t' → Replayed taken failures opening state left left' first now
-      → IfSome left (λ input. (rs : List Reading) → AreReadings (lines_of input) rs → Appends t t' (output numbering rs))
-  Replayed-wrote state t t' begins none e e' r0 =
-      let r = subst (λ (s : State). Replayed taken failures s state left left' first now) begins r0 in
-      Consumes-whole left left' r.bytes (λ input. (rs : List Reading) → AreReadings (lines_of input) rs → Appends t t' (output numbering rs)) r.read r.at_end
-      (λ rs h. rw (← e, ← e') (Passes-all _ _ _ _ _ (r.finished.all rs h).1.passed none r.held))
+  -- all was read and its output written
+  heard_whole : (is_strict : Bool) (state : State) (t t' : Option (List ℕ)) (bytes : List ℕ) → first.held.now.items ≡ [] → now.held.now.items ≡ [] → taken first.sink.now ≡ t → taken now.sink.now ≡ t'
+      → Finished taken failures first (begin_state numbering) now state bytes → Heard is_strict numbering bytes t t' state
+  heard_whole is_strict state t t' bytes none held e e' finished = record {
+    lines = lines_of bytes;
+    more = [];
+    cut = sym (append-nil (lines_of bytes));
+    ends = inl refl;
+    readings = finished.readings;
+    are = finished.are;
+    wrote = λ rs h. let all = finished.all rs h in (all.0, rw (← e, ← e') (Passes-all _ _ _ _ _ all.1.passed none held));
+  }
 
-  -- all was read, and has readings
-  pub Replayed-readings : (state : State) → opening ≡ begin_state numbering → Replayed taken failures opening state left left' first now → IfSome left (λ input. (rs : List Reading) × AreReadings (lines_of input) rs)
+  -- the bytes were served down to a line that was refused, whatever stands after them
+  heard_front : (is_strict : Bool) (state : State) (t t' : Option (List ℕ)) (bytes behind : List ℕ) → first.held.now.items ≡ [] → now.held.now.items ≡ [] → taken first.sink.now ≡ t → taken now.sink.now ≡ t'
+      → Halted is_strict taken failures first (begin_state numbering) now state bytes → Heard is_strict numbering (bytes ++ behind) t t' state
+  heard_front is_strict state t t' bytes behind none held e e' halted =
+      let s = halted.served in
+      let whole : bytes ++ behind ≡ halted.done ++ (halted.rest ++ behind) = ap (λ (l : List ℕ). l ++ behind) (sym halted.cut) ∙ append_assoc halted.done halted.rest behind in
+      record {
+        lines = s.lines;
+        more = lines_of (s.pending ++ (halted.rest ++ behind));
+        cut = ap lines_of whole ∙ lines_of_behind s.lines s.pending halted.done (halted.rest ++ behind) s.cut s.no_end;
+        ends = inr (halted.strict, halted.refused);
+        readings = s.readings;
+        are = s.are;
+        wrote = λ rs h. let all = s.answered rs h in (all.0, rw (← e, ← e') (Passes-all _ _ _ _ _ all.1.passed none held));
+      }
+
+  -- what was heard is known
+  pub Replayed-heard : (is_strict : Bool) (state : State) (t t' : Option (List ℕ)) → opening ≡ begin_state numbering → first.held.now.items ≡ [] → taken first.sink.now ≡ t → taken now.sink.now ≡ t' → Replayed is_strict taken failures opening state left left' first now
+      → IfSome left (λ input. Heard is_strict numbering input t t' state)
+  Replayed-heard is_strict state t t' begins none e e' r0 =
+      let r = subst (λ (s : State). Replayed is_strict taken failures s state left left' first now) begins r0 in
+      elim r.ends [
+        | inl ended ↦ Consumes-whole left left' r.bytes (λ input. Heard is_strict numbering input t t' state) r.read ended.0 (heard_whole is_strict state t t' r.bytes none r.held e e' ended.1)
+        | inr halted ↦ Consumes-front left left' r.bytes (λ input. Heard is_strict numbering input t t' state) r.read (λ behind. heard_front is_strict state t t' r.bytes behind none r.held e e' halted)
+      ]
+
+  -- all of a script that is not strict was read, and has readings
+  pub Replayed-readings : (state : State) → opening ≡ begin_state numbering → Replayed false taken failures opening state left left' first now → IfSome left (λ input. (rs : List Reading) × AreReadings (lines_of input) rs)
   Replayed-readings state begins r0 =
-      let r = subst (λ (s : State). Replayed taken failures s state left left' first now) begins r0 in
-      Consumes-whole left left' r.bytes (λ input. (rs : List Reading) × AreReadings (lines_of input) rs) r.read r.at_end (r.finished.readings, r.finished.are)
+      let r = subst (λ (s : State). Replayed false taken failures s state left left' first now) begins r0 in
+      let ended = never_halts taken failures first (begin_state numbering) now state r.bytes _ r.ends in
+      Consumes-whole left left' r.bytes (λ input. (rs : List Reading) × AreReadings (lines_of input) rs) r.read ended.0 (ended.1.readings, ended.1.are)
 
-  -- all was read, and the floor is the one after it
-  pub Replayed-left : (state : State) → opening ≡ begin_state Plain → Replayed taken failures opening state left left' first now → IfSome left (λ input. (rs : List Reading) → AreReadings (lines_of input) rs → serving_of state.stage ≡ floor_left rs)
+  -- and what is left is so after it
+  pub Replayed-left : (state : State) → opening ≡ begin_state Plain → Replayed false taken failures opening state left left' first now → IfSome left (λ input. (rs : List Reading) → AreReadings (lines_of input) rs → left_in state ≡ left_after rs)
   Replayed-left state begins r0 =
-      let r = subst (λ (s : State). Replayed taken failures s state left left' first now) begins r0 in
-      Consumes-whole left left' r.bytes (λ input. (rs : List Reading) → AreReadings (lines_of input) rs → serving_of state.stage ≡ floor_left rs) r.read r.at_end
-      (λ rs h. ap (λ (s : State). serving_of s.stage) (r.finished.all rs h).0)
+      let r = subst (λ (s : State). Replayed false taken failures s state left left' first now) begins r0 in
+      let ended = never_halts taken failures first (begin_state Plain) now state r.bytes _ r.ends in
+      Consumes-whole left left' r.bytes (λ input. (rs : List Reading) → AreReadings (lines_of input) rs → left_in state ≡ left_after rs) r.read ended.0
+      (λ rs h. ap left_in (ended.1.all rs h).0)
 
   -- the whole lines were answered
   pub BrokeOff-wrote : (t t' : Option (List ℕ)) → opening ≡ begin_state numbering → first.held.now.items ≡ [] → taken first.sink.now ≡ t → taken now.sink.now ≡ t' → BrokeOff taken failures opening left left' first now → WroteWholeLines numbering left left' t t'

@@ -5,7 +5,8 @@ use Rattle.cq_devices.specs.declared.fault.WholeFault.{WholeFault}
 use Rattle.cq_devices.specs.declared.fault.WholeFault.TheVariants as reads
 use Rattle.cq_devices.specs.Device.{IfAtTurn, IsAtTurn}
 use Rattle.cq_report.specs.declared.fault.RunFault.{RunFault}
-use Rattle.cq_report.specs.Machine.{State, ServingRecord, serving_of}
+use Rattle.cq_report.specs.Machine.{State}
+use Rattle.cq_report.specs.Output.{Left, left_in}
 use Rattle.cq_report.specs.Run.{IfRead, IsOfRead, fault_of_reading, failures_of}
 use Rattle.cq_report.specs.Steps.Playing.{IsPlayed}
 
@@ -27,31 +28,31 @@ not_at_turn (reads.Read turn) h = h
 not_at_turn reads.NoMemory h = h
 
 module _ (state : State) where
-  -- what holds of the floor holds of the one that was left
-  pub IsPlayed-floor : (ended : Result (Unit {0}) RunFault) (result : Result ServingRecord WholeFault) (P : ServingRecord → Type 0) → IsPlayed ended state result → OnOk ended (P (serving_of state.stage)) → IfOk result P
-  IsPlayed-floor (Ok done) (Ok floor) P played h = subst P (sym played.0) h
-  IsPlayed-floor (Ok done) (Err told) P played h = tt
-  IsPlayed-floor (Err fault) (Ok floor) P played h = absurd played.0
-  IsPlayed-floor (Err fault) (Err told) P played h = tt
+  -- what holds of what the state leaves holds of what was left
+  pub IsPlayed-left : (ended : Result (Unit {0}) RunFault) (result : Result Left WholeFault) (P : Left → Type 0) → IsPlayed ended state result → OnOk ended (P (left_in state)) → IfOk result P
+  IsPlayed-left (Ok done) (Ok left) P played h = subst P (sym played.0) h
+  IsPlayed-left (Ok done) (Err told) P played h = tt
+  IsPlayed-left (Err fault) (Ok left) P played h = absurd played.0
+  IsPlayed-left (Err fault) (Err told) P played h = tt
 
   -- what holds where it ended well
-  pub IsPlayed-on : (ended : Result (Unit {0}) RunFault) (result : Result ServingRecord WholeFault) (P : Type 0) → IsPlayed ended state result → OnOk ended P → OnOk result P
-  IsPlayed-on (Ok done) (Ok floor) P played h = h
+  pub IsPlayed-on : (ended : Result (Unit {0}) RunFault) (result : Result Left WholeFault) (P : Type 0) → IsPlayed ended state result → OnOk ended P → OnOk result P
+  IsPlayed-on (Ok done) (Ok left) P played h = h
   IsPlayed-on (Ok done) (Err told) P played h = tt
-  IsPlayed-on (Err fault) (Ok floor) P played h = absurd played.0
+  IsPlayed-on (Err fault) (Ok left) P played h = absurd played.0
   IsPlayed-on (Err fault) (Err told) P played h = tt
 
   -- what holds of the turn that it tells
-  pub IsPlayed-turn : (ended : Result (Unit {0}) RunFault) (result : Result ServingRecord WholeFault) (P : ℕ → Type 0) → IsPlayed ended state result → IfErr ended (λ fault. IfRead fault P) → IfErr result (λ told. IfAtTurn told P)
-  IsPlayed-turn (Ok done) (Ok floor) P played h = tt
+  pub IsPlayed-turn : (ended : Result (Unit {0}) RunFault) (result : Result Left WholeFault) (P : ℕ → Type 0) → IsPlayed ended state result → IfErr ended (λ fault. IfRead fault P) → IfErr result (λ told. IfAtTurn told P)
+  IsPlayed-turn (Ok done) (Ok left) P played h = tt
   IsPlayed-turn (Ok done) (Err told) P played h = subst (λ (f : WholeFault). IfAtTurn f P) (sym played.1) tt
-  IsPlayed-turn (Err fault) (Ok floor) P played h = absurd played.0
+  IsPlayed-turn (Err fault) (Ok left) P played h = absurd played.0
   IsPlayed-turn (Err fault) (Err told) P played h = at_turn told P (subst (λ (f : RunFault). IfRead f P) (sym played.1) h)
 
   -- what holds where no read failed
-  pub IsPlayed-unread : (ended : Result (Unit {0}) RunFault) (result : Result ServingRecord WholeFault) (P : Type 0) → IsPlayed ended state result
+  pub IsPlayed-unread : (ended : Result (Unit {0}) RunFault) (result : Result Left WholeFault) (P : Type 0) → IsPlayed ended state result
       → MatchResult ended (λ _. P) (λ fault. (IsOfRead fault → ⊥) → P) → MatchResult result (λ _. P) (λ told. (IsAtTurn told → ⊥) → P)
-  IsPlayed-unread (Ok done) (Ok floor) P played h = h
+  IsPlayed-unread (Ok done) (Ok left) P played h = h
   IsPlayed-unread (Ok done) (Err told) P played h = λ _. h
-  IsPlayed-unread (Err fault) (Ok floor) P played h = absurd played.0
+  IsPlayed-unread (Err fault) (Ok left) P played h = absurd played.0
   IsPlayed-unread (Err fault) (Err told) P played h = λ no. h (subst (λ (f : RunFault). IsOfRead f → ⊥) played.1 (not_at_turn told no))

@@ -21,7 +21,7 @@ use Rattle.cq_report.specs.Steps.Serving.{IsSound, ended}
 use Rattle.cq_report.specs.Steps.Living.{Turns, TurnBreaks, Keeps, KeepsOn, is_new, Answers, AnswerBreaks, FailsOnce, Lived, LiveBreaks, LiveEnds, LiveQuits, LivesOn, BreaksOn, LivedOut, LiveBrokeOff, LiveEnded, LiveFails}
 use Rattle.cq_report.specs.Steps.Writing.{Puts-nothing, Puts-then, Puts-breaks}
 use Rattle.cq_report.proofs.Cutting.{kept_nil, kept_again, kept_none, kept_some, lines_of_all_ended, lines_of_ended, lines_of_open, whole_lines_all_ended, HasNoEnd-append, HaveNoEnd-more, ended-more}
-use Rattle.cq_report.proofs.Ending.{Passes-all}
+use Rattle.cq_report.proofs.Ending.{Consumes-front, Passes-all}
 use Rattle.cq_report.proofs.Kept.{IsReading-kept, IsReading-whole, asked_kept}
 use Rattle.cq_report.proofs.Served.{lines_of_behind}
 
@@ -353,12 +353,6 @@ LiveQuits-all taken failures first opening now bytes rest q =
       are = subst (λ (ls : List (List ℕ)). AreTurns opening ls (s.turns ++ unheard_turns more)) (sym cut) (turns_then opening s.lines more s.turns (unheard_turns more) s.are (unheard_are (life_turned opening s.turns) more over));
       puts = subst (Puts taken failures first now) same s.puts;
     }
-
--- known bytes, of which a front was read
-Consumes-front : (left left' : Option (List ℕ)) (bytes : List ℕ) (P : List ℕ → Type 0) → Consumes left left' bytes → ((rest : List ℕ) → P (bytes ++ rest)) → IfSome left P
-Consumes-front None left' bytes P read all = tt
-Consumes-front (Some input) None bytes P read all = absurd read
-Consumes-front (Some input) (Some rest) bytes P read all = subst P (sym read) (all rest)
 
 -- and what waited was passed on
 pub LiveQuits-passed : {W A : Type 0} (taken : W → Option (List ℕ)) (failures : W → ℕ) (first : Output W A) (opening : Life) (now now' : Output W A) (life : Life) (line : Option (List ℕ)) (bytes : List ℕ)

@@ -14,3 +14,7 @@ some_digit n small = some_length (length (decimal n)) (decimal_nonempty n small)
 -- what is told, its end and a tail, as they are put
 pub ended : (told end tail : List ℕ) → told ++ (end ++ [] ++ tail) ≡ told ++ end ++ tail
 ended told end tail = ap (λ (last : List ℕ). told ++ (last ++ tail)) (append-nil end) ∙ sym (append_assoc told end tail)
+
+-- the same with what stands in front of it
+pub in_front : (front told end tail : List ℕ) → front ++ (told ++ end ++ tail) ≡ front ++ told ++ end ++ tail
+in_front front told end tail = sym (append_assoc front (told ++ end) tail) ∙ ap (λ (l : List ℕ). l ++ tail) (sym (append_assoc front told end))

@@ -2,8 +2,6 @@
 use Rattle.std.specs.Prelude.{ℕ, List, [], ◌++◌, codes, decimal, Result, Ok, Err}
 use Rattle.json.specs.Print.{print}
 use Rattle.json.specs.Tree.{json_tokens}
-use Rattle.cq_rel.specs.declared.fault.CatalogFault.{CatalogFault}
-use Rattle.cq_rel.specs.declared.fault.CatalogFault.TheVariants as catalogs
 use Rattle.cq_text.specs.declared.fault.Kind.{Kind}
 use Rattle.cq_board.specs.declared.edit.Why.{Why}
 use Rattle.cq_board.specs.declared.edit.Why.TheVariants.{PoolFull, NameTaken, NotAnswer, UnknownRelation, Arity, NoSuchName, RowPresent, RowAbsent}
@@ -16,7 +14,7 @@ use Rattle.cq_desk.specs.declared.reply.Reply.TheVariants.{Entered, JournalFull,
 use Rattle.cq_render.specs.Json.{json_of}
 use Rattle.cq_report.specs.declared.reply.Prepared.{Prepared}
 use Rattle.cq_report.specs.declared.reply.Prepared.TheVariants.{Accepted, Late, Undeclared}
-use Rattle.cq_report.specs.Reply.{Told, Nothing, Prepares, Misread, Happened, kind_word, part_word}
+use Rattle.cq_report.specs.Reply.{Told, Nothing, Prepares, Misread, Happened, kind_word, catalog_word, part_word}
 
 -- A refusal, by its word.
 abbrev pub refused : List ℕ → List ℕ
@@ -25,14 +23,6 @@ refused word = codes ",\"refused\":\"" ++ word ++ codes "\""
 -- Where an atom is at fault: its number.
 abbrev pub at_place : ℕ → List ℕ
 at_place place = codes ",\"place\":" ++ decimal place
-
--- Why a relation is not declared. Out of memory is told of no line of a setup.
-abbrev pub catalog_word : CatalogFault → List ℕ
-catalog_word catalogs.BadName = codes "BadName"
-catalog_word catalogs.BadArity = codes "BadArity"
-catalog_word catalogs.Declared = codes "Declared"
-catalog_word catalogs.CatalogFull = codes "CatalogFull"
-catalog_word catalogs.NoMemory = codes "Memory"
 
 -- What came of a line of a setup.
 abbrev pub prepared_data : Prepared → List ℕ

@@ -3,8 +3,10 @@ pub mod Lines
 pub mod Reading
 pub mod Reply
 pub mod Data
+pub mod Refusals
 pub mod Machine
 pub mod Output
+pub mod Summary
 pub mod Live
 pub mod Run
 pub mod Steps

@@ -25,6 +25,8 @@ use Rattle.cq_report.specs.declared.reply.Prepared.{Prepared}
 use Rattle.cq_report.specs.declared.reply.Prepared.TheVariants.{Accepted, Late, Undeclared}
 use Rattle.cq_report.specs.Reply.{Told, Nothing, Prepares, Misread, Happened, told_lines}
 use Rattle.cq_report.specs.Data.{told_data}
+use Rattle.cq_report.specs.declared.refusal.Tally.{Tally}
+use Rattle.cq_report.specs.Refusals.{refusal, no_refusal, tallied}
 
 -- The relations that were declared so far, and the latest limits.
 pub record SetupRecord : Type 0 where
@@ -39,14 +41,15 @@ ServingRecord = StandingRecord PoolRecord Edit
 abbrev pub Staged : Type 0
 Staged = Stage SetupRecord ServingRecord
 
--- How replies are numbered, and how many lines came before, where they are; which form a script is in, once a line was read that is not blank; what
--- serves its lines; and how many entries were published before the last publish.
+-- How replies are numbered, and how many lines came before; which form a script is in, once a line was read that is not blank; what serves its lines; how
+-- many entries were published before the last publish; and which lines were refused.
 pub record State : Type 0 where
   pub numbering : Numbering
   pub lines : ℕ
   pub heading : Option Form
   pub stage : Staged
   pub before : ℕ
+  pub tally : Tally
 
 -- At first nothing is declared, and the limits are those of a script that names none.
 abbrev pub begin_setup : SetupRecord
@@ -57,7 +60,7 @@ begin_stage = Setup begin_setup
 
 -- Before the first line.
 abbrev pub begin_state : Numbering → State
-begin_state numbering = record { numbering = numbering; lines = 0; heading = None; stage = begin_stage; before = 0 }
+begin_state numbering = record { numbering = numbering; lines = 0; heading = None; stage = begin_stage; before = 0; tally = no_refusal }
 
 -- ---- the form
 
@@ -170,19 +173,14 @@ before_after state reading = state.before
 abbrev pub served : State → Reading → State
 served state reading = record state { heading = headed state.heading reading; stage = (staged state.stage state.heading reading).0; before = before_after state reading }
 
--- One line more came; lines are counted where replies have their numbers.
-abbrev pub one_more : Numbering → ℕ → ℕ
-one_more Plain lines = lines
-one_more Numbered lines = lines + 1
-one_more Json lines = lines + 1
-
--- A line was counted, where lines are.
+-- One line more came.
 abbrev pub counted : State → State
-counted state = record state { lines = one_more state.numbering state.lines }
+counted state = record state { lines = state.lines + 1 }
 
--- The state after a line.
+-- The state after a line, which may be refused.
 abbrev pub next : State → Reading → State
-next state reading = counted (served state reading)
+next state reading =
+    record (counted (served state reading)) { tally = tallied state.tally (state.lines + 1) (refusal (staged state.stage state.heading reading).1) }
 
 -- The reply to a line, without a number.
 abbrev pub unnumbered : State → Reading → List ℕ

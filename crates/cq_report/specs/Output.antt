@@ -1,9 +1,12 @@
 -- What is written for a script (this project's profile).
-use Rattle.std.specs.Prelude.{ℕ, List, [], ◌∷◌, ◌++◌, Option, None}
+use Rattle.std.specs.Prelude.{◌≡◌, ◌⊎◌, ℕ, Bool, true, List, [], ◌∷◌, ◌++◌, Option, Some, None}
+use Rattle.std.specs.Io.KnownBytes.{Appends}
 use Rattle.cq_text.specs.declared.form.Form.{Form}
 use Rattle.cq_board.specs.Pool.{PoolRecord}
 use Rattle.cq_report.specs.declared.numbering.Numbering.{Numbering}
 use Rattle.cq_report.specs.declared.numbering.Numbering.TheVariants.{Plain}
+use Rattle.cq_report.specs.declared.refusal.Tally.{Tally}
+use Rattle.cq_report.specs.Lines.{lines_of}
 use Rattle.cq_report.specs.Reading.{Reading, IsReading}
 use Rattle.cq_report.specs.Machine.{State, ServingRecord, begin_state, form_of, headed, next, reply, serving_of, shown}
 
@@ -32,9 +35,38 @@ output_from state (reading ∷ readings) = reply state reading ++ output_from (n
 abbrev pub output : Numbering → List Reading → List ℕ
 output numbering readings = output_from (begin_state numbering) readings
 
--- The floor that lines leave which are read so: where they end no setup, the one that it opens.
+-- The last of the lines so far was refused, and none before it.
+abbrev pub IsRefusedLast : State → Type 0
+IsRefusedLast state = (why : List ℕ) × (state.tally ≡ record { refused = 1; first = Some (record { line = state.lines; why = why }) })
+
+-- All lines of a script, or, where it is strict, those down to the first that is refused: they have readings, and however they are read, their output was
+-- written, and this state is left.
+pub record Heard (is_strict : Bool) (numbering : Numbering) (input : List ℕ) (taken taken' : Option (List ℕ)) (state : State) : Type 0 where
+  pub lines : List (List ℕ)
+  pub more : List (List ℕ)
+  pub cut : lines_of input ≡ lines ++ more
+  pub ends : (more ≡ []) ⊎ ((is_strict ≡ true) × IsRefusedLast state)
+  pub readings : List Reading
+  pub are : AreReadings lines readings
+  pub wrote : (rs : List Reading) → AreReadings lines rs → (state ≡ state_after (begin_state numbering) rs) × Appends taken taken' (output numbering rs)
+
+-- What a script leaves: its floor, how many lines it had, and which of them were refused.
+pub record Left : Type 0 where
+  pub floor : ServingRecord
+  pub lines : ℕ
+  pub tally : Tally
+
+-- Where the lines end no setup, the floor is the one that it opens.
+abbrev pub left_in : State → Left
+left_in state = record { floor = serving_of state.stage; lines = state.lines; tally = state.tally }
+
+-- What lines leave that are read so.
+abbrev pub left_after : List Reading → Left
+left_after readings = left_in (state_after (begin_state Plain) readings)
+
+-- The floor of it.
 abbrev pub floor_left : List Reading → ServingRecord
-floor_left readings = serving_of (state_after (begin_state Plain) readings).stage
+floor_left readings = (left_after readings).floor
 
 -- The pool that a look would show after them.
 abbrev pub pool_left : List Reading → PoolRecord

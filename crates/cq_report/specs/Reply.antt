@@ -36,13 +36,16 @@ kind_word kinds.Shape = codes "Shape"
 kind_word kinds.Limit = codes "Limit"
 kind_word kinds.Unbound = codes "Unbound"
 
--- A fault of text, by its kind and its offset in the line.
-abbrev pub fault_line : Kind → ℕ → List ℕ
-fault_line kind offset = line (codes "refused " ++ kind_word kind ++ codes " at " ++ decimal offset)
-
 -- A refusal in words.
 abbrev pub refused_line : List ℕ → List ℕ
 refused_line words = line (codes "refused " ++ words)
+
+-- A fault of text, by its kind and its offset in the line.
+abbrev pub fault_words : Kind → ℕ → List ℕ
+fault_words kind offset = kind_word kind ++ codes " at " ++ decimal offset
+
+abbrev pub fault_line : Kind → ℕ → List ℕ
+fault_line kind offset = refused_line (fault_words kind offset)
 
 -- What is accepted before the floor serves.
 abbrev pub ok_line : List ℕ
@@ -52,19 +55,19 @@ ok_line = line (codes "ok")
 abbrev pub late_line : List ℕ
 late_line = refused_line (codes "Late")
 
--- Why a relation is not declared. Out of memory has no line: it ends the run.
-abbrev pub catalog_line : CatalogFault → List ℕ
-catalog_line catalogs.BadName = refused_line (codes "BadName")
-catalog_line catalogs.BadArity = refused_line (codes "BadArity")
-catalog_line catalogs.Declared = refused_line (codes "Declared")
-catalog_line catalogs.CatalogFull = refused_line (codes "CatalogFull")
-catalog_line catalogs.NoMemory = []
+-- Why a relation is not declared. Out of memory is told of no line of a setup.
+abbrev pub catalog_word : CatalogFault → List ℕ
+catalog_word catalogs.BadName = codes "BadName"
+catalog_word catalogs.BadArity = codes "BadArity"
+catalog_word catalogs.Declared = codes "Declared"
+catalog_word catalogs.CatalogFull = codes "CatalogFull"
+catalog_word catalogs.NoMemory = codes "Memory"
 
 -- What comes of a line of a setup.
 abbrev pub prepared_line : Prepared → List ℕ
 prepared_line Accepted = ok_line
 prepared_line Late = late_line
-prepared_line (Undeclared fault) = catalog_line fault
+prepared_line (Undeclared fault) = refused_line (catalog_word fault)
 
 abbrev pub part_word : Part → List ℕ
 part_word Posts = codes "posts"

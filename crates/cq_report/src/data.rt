@@ -1,8 +1,8 @@
 //! Replies as members of a JSON object.
 
 ghost use Rattle.std.specs.Prelude.{◌≡◌, ◌++◌, codes};
-ghost use Rattle.cq_report.specs.Reply.{kind_word, part_word};
-ghost use Rattle.cq_report.specs.Data.{refused, catalog_word, prepared_data, fault_data, why_data, reply_data};
+ghost use Rattle.cq_report.specs.Reply.{kind_word, catalog_word, part_word};
+ghost use Rattle.cq_report.specs.Data.{refused, prepared_data, fault_data, why_data, reply_data};
 
 use crate::reply::{Prepared, ReplyLine};
 use cq_atom::Part;

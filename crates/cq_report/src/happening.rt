@@ -7,10 +7,12 @@ ghost use Rattle.cq_desk.specs.declared.event.Event.TheVariants.{Look};
 ghost use Rattle.cq_report.specs.Reply.{Happened, answer_lines, show_block};
 ghost use Rattle.cq_report.specs.Data.{answer_data};
 ghost use Rattle.cq_report.specs.Machine.{opened, after, told, spoken};
-ghost use Rattle.cq_report.specs.Steps.Happening.{HasNoLine, IsNoLook};
+ghost use Rattle.cq_report.specs.Steps.Happening.{HasNoLine, IsNoBoard, IsNoLook};
+ghost use Rattle.cq_report.specs.Steps.Saying.{saying};
 
 use crate::data::reply_data;
 use crate::numbering::Numbering;
+use crate::refusal::answer_refusal;
 use crate::reply::{ReplyLine, end_line, published_line, reply_line, show_line};
 use crate::said::Said;
 use crate::setup::Setup;
@@ -63,7 +65,7 @@ fn shown<A: Allocator + Copy>(
     board: &Board<A>,
     count: u64,
 ) -> Result<Said<A>, AllocError>
-    ensures { IfOk result (λ said. said ≡ spoken numbering (Happened board.now (Ok (Looked count)))) }
+    ensures { IfOk result (λ said. said ≡ saying numbering (Happened board.now (Ok (Looked count)))) }
 {
     match numbering {
         Numbering::Json => {
@@ -85,7 +87,7 @@ fn look<A: Allocator + Copy>(
     session: usize,
 ) -> Result<Said<A>, AllocError>
     ensures state { IfOk result (λ said. floor.new ≡ after floor.old (Look session)) }
-    ensures said { IfOk result (λ said. said ≡ spoken numbering (told floor.old (Look session))) }
+    ensures said { IfOk result (λ said. said ≡ saying numbering (told floor.old (Look session))) }
     ensures err { OnErr result (floor.new ≡ floor.old) }
     ensures opening { floor.new.opening ≡ floor.old.opening }
 {
@@ -132,7 +134,17 @@ fn told_of(numbering: Numbering, answer: &Answer<Why>) -> Option<ReplyLine>
     }
 }
 
-/// Takes an event that is no look. Nobody is told of anything.
+/// What is said of an answer that is no board. Nobody is told of anything.
+fn said_of<A: Allocator>(numbering: Numbering, answer: &Answer<Why>) -> Said<A>
+    ensures { (shown : PoolRecord) → IsNoBoard answer.now → result ≡ saying numbering (Happened shown (Ok answer.now)) }
+{
+    match told_of(numbering, answer) {
+        Some(line) => Said::of_line(line, answer_refusal(answer)),
+        None => Said::nothing(),
+    }
+}
+
+/// Takes an event that is no look.
 fn act<A: Allocator + Copy>(
     numbering: Numbering,
     floor: &mut BoardFloor<A>,
@@ -140,15 +152,12 @@ fn act<A: Allocator + Copy>(
 ) -> Result<Said<A>, AllocError>
     requires other { IsNoLook event }
     ensures state { IfOk result (λ said. floor.new ≡ after floor.old event) }
-    ensures said { IfOk result (λ said. said ≡ spoken numbering (told floor.old event)) }
+    ensures said { IfOk result (λ said. said ≡ saying numbering (told floor.old event)) }
     ensures err { OnErr result (floor.new ≡ floor.old) }
     ensures opening { floor.new.opening ≡ floor.old.opening }
 {
     match floor.step(event) {
-        Ok(answer) => match told_of(numbering, &answer) {
-            Some(line) => Ok(Said::of_line(line)),
-            None => Ok(Said::nothing()),
-        },
+        Ok(answer) => Ok(said_of(numbering, &answer)),
         Err(fault) => match fault {
             StepFault::NoMemory => Err(AllocError),
             _ => Ok(Said::nothing()),
@@ -165,7 +174,7 @@ pub(crate) fn happen<A: Allocator + Copy>(
     event: Event<Edit<A>>,
 ) -> Result<Said<A>, AllocError>
     ensures state { IfOk result (λ said. floor.new ≡ after floor.old event) }
-    ensures said { IfOk result (λ said. said ≡ spoken numbering (told floor.old event)) }
+    ensures said { IfOk result (λ said. said ≡ saying numbering (told floor.old event)) }
     ensures err { OnErr result (floor.new ≡ floor.old) }
     ensures opening { floor.new.opening ≡ floor.old.opening }
 {

@@ -8,10 +8,12 @@ ghost use Rattle.cq_report.specs.Reading.{Reads};
 ghost use Rattle.cq_report.specs.Reply.{Prepares};
 ghost use Rattle.cq_report.specs.Machine.{begin_stage, serving_of, prepare, happen, staged, spoken};
 ghost use Rattle.cq_report.specs.Steps.Happening.{IsInSetup};
+ghost use Rattle.cq_report.specs.Steps.Saying.{saying};
 
 use crate::data::prepared_data;
 use crate::happening::{BoardFloor, happen, open};
 use crate::numbering::Numbering;
+use crate::refusal::prepared_refusal;
 use crate::reply::{Prepared, ReplyLine, prepared_line};
 use crate::said::Said;
 use crate::setup::Setup;
@@ -25,11 +27,11 @@ use std::marker::Model;
 use std::mem;
 
 /// What is told of a line of a setup.
-fn told_of(numbering: Numbering, prepared: Prepared) -> &'static str
-    ensures { result.now ≡ spoken numbering (Prepares prepared) }
+fn told_of(numbering: Numbering, prepared: Prepared) -> ReplyLine
+    ensures { result ≡ spoken numbering (Prepares prepared) }
 {
     match numbering {
-        Numbering::Json => prepared_data(prepared),
+        Numbering::Json => ReplyLine::just(prepared_data(prepared)),
         Numbering::Plain | Numbering::Numbered => prepared_line(prepared),
     }
 }
@@ -89,11 +91,12 @@ impl<A: Allocator + Copy> Interpreter<A> {
         line: &SetupLine<Name<A>>,
     ) -> Result<Said<A>, AllocError>
         ensures state { IfOk result (λ said. self.new ≡ (prepare self.old heading line.now).0) }
-        ensures said { IfOk result (λ said. said ≡ spoken numbering (Prepares (prepare self.old heading line.now).1)) }
+        ensures said { IfOk result (λ said. said ≡ saying numbering (Prepares (prepare self.old heading line.now).1)) }
         ensures err { OnErr result (self.new ≡ self.old) }
     {
         let prepared = self.prepare(heading, line)?;
-        Ok(Said::of_line(ReplyLine::just(told_of(numbering, prepared))))
+        let line = told_of(numbering, prepared);
+        Ok(Said::of_line(line, prepared_refusal(prepared)))
     }
 
     /// How many entries are published.
@@ -155,7 +158,7 @@ impl<A: Allocator + Copy> Interpreter<A> {
     ) -> Result<Said<A>, AllocError>
         requires setup { IsInSetup self.old }
         ensures state { IfOk result (λ said. self.new ≡ (happen self.old event).0) }
-        ensures said { IfOk result (λ said. said ≡ spoken numbering (happen self.old event).1) }
+        ensures said { IfOk result (λ said. said ≡ saying numbering (happen self.old event).1) }
         ensures err { OnErr result (self.new ≡ self.old) }
     {
         let Stage::Setup(setup) = &self.stage else {
@@ -171,7 +174,7 @@ impl<A: Allocator + Copy> Interpreter<A> {
     /// Answers an event of the session.
     fn happen(&mut self, numbering: Numbering, event: Event<Edit<A>>) -> Result<Said<A>, AllocError>
         ensures state { IfOk result (λ said. self.new ≡ (happen self.old event).0) }
-        ensures said { IfOk result (λ said. said ≡ spoken numbering (happen self.old event).1) }
+        ensures said { IfOk result (λ said. said ≡ saying numbering (happen self.old event).1) }
         ensures err { OnErr result (self.new ≡ self.old) }
     {
         match &mut self.stage {
@@ -183,7 +186,7 @@ impl<A: Allocator + Copy> Interpreter<A> {
     /// Answers an edit.
     fn enter(&mut self, numbering: Numbering, edit: Edit<A>) -> Result<Said<A>, AllocError>
         ensures state { IfOk result (λ said. self.new ≡ (happen self.old (Enter 0 edit)).0) }
-        ensures said { IfOk result (λ said. said ≡ spoken numbering (happen self.old (Enter 0 edit)).1) }
+        ensures said { IfOk result (λ said. said ≡ saying numbering (happen self.old (Enter 0 edit)).1) }
         ensures err { OnErr result (self.new ≡ self.old) }
     {
         self.happen(
@@ -203,7 +206,7 @@ impl<A: Allocator + Copy> Interpreter<A> {
         command: Command<A>,
     ) -> Result<Said<A>, AllocError>
         ensures stage { IfOk result (λ said. self.new ≡ (staged self.old heading (Reads command)).0) }
-        ensures said { IfOk result (λ said. said ≡ spoken numbering (staged self.old heading (Reads command)).1) }
+        ensures said { IfOk result (λ said. said ≡ saying numbering (staged self.old heading (Reads command)).1) }
         ensures err { OnErr result (self.new ≡ self.old) }
     {
         match command {

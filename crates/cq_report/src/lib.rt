@@ -14,6 +14,7 @@ mod fault;
 mod happening;
 mod heading;
 mod interpreter;
+mod left;
 mod life;
 mod limits;
 mod line_buffer;
@@ -23,18 +24,22 @@ mod machine;
 mod numbering;
 mod output;
 mod playing;
+mod refusal;
 mod reply;
 mod running;
 mod said;
 mod setup;
 mod stage;
+mod summary;
 
 pub use fault::{LiveFault, RunFault};
 pub use heading::{form_of, headed};
+pub use left::{Played, Ran};
 pub use limits::{JOURNAL_LIMIT, POOL_LIMIT};
 pub use living::live;
 pub use numbering::Numbering;
-pub use playing::{Played, read_script};
+pub use playing::read_script;
+pub use refusal::{Refusal, Refused, Tally};
 pub use reply::{
     Prepared, ReplyLine, fault_line, late_line, prepared_line, published_line, reply_line,
     show_line,
@@ -42,3 +47,4 @@ pub use reply::{
 pub use running::{first_line, run};
 pub use setup::Setup;
 pub use stage::Stage;
+pub use summary::{put_summary, put_warning};

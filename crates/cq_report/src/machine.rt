@@ -1,25 +1,27 @@
 //! The machine of a script, line by line.
 
 ghost use Rattle.std.specs.Prelude.{◌≡◌, ◌<◌, ◌≤◌, ◌+◌, ◌^◌, List, ℕ, [], string_bytes, OnOk, OnErr, IfOk, IfErr};
+ghost use Rattle.std.specs.Option.{is_some};
 ghost use Rattle.cq_ask.specs.Ask.{asked};
 ghost use Rattle.cq_ask.specs.Data.{IsMember};
 ghost use Rattle.cq_report.specs.Reading.{Reading, Reads, IsReading};
 ghost use Rattle.cq_report.specs.Reply.{Misread};
-ghost use Rattle.cq_report.specs.Machine.{begin_state, numbered, form_in, served, spoken, one_more, counted, unnumbered, before_after, next, reply, serving_of};
+ghost use Rattle.cq_report.specs.Machine.{begin_state, numbered, form_in, served, spoken, counted, before_after, next, reply, serving_of};
 ghost use Rattle.cq_report.specs.Live.{memory_told, IsAnswer, IsAskTold};
 ghost use Rattle.cq_report.specs.Run.{IfMemory};
 ghost use Rattle.cq_report.specs.Steps.Living.{IsAnswered};
 ghost use Rattle.cq_report.specs.Steps.Replies.{UnlessStarved, fault_of_reply};
+ghost use Rattle.cq_report.specs.Steps.Saying.{said_in};
 ghost use Rattle.cq_report.specs.Steps.Written.{Puts, Breaks, Fails};
-ghost use Rattle.cq_report.specs.Steps.Count.{lines_before};
+ghost use Rattle.cq_report.specs.Steps.Count.{IsTallied, lines_before};
 
 use crate::data::fault_data;
 use crate::fault::ReplyFault;
-use crate::happening::BoardFloor;
 use crate::heading::{form_of, headed};
 use crate::interpreter::Interpreter;
 use crate::numbering::Numbering;
 use crate::output::Output;
+use crate::refusal::{Tally, fault_refusal};
 use crate::reply::{ReplyLine, fault_line, memory_line};
 use crate::said::{Said, Spoken};
 use cq_ask::{Ask, ending, read_ask};
@@ -27,17 +29,6 @@ use cq_devices::Sink;
 use cq_text::{Command, CommandKind, Form, Kind, TextFault, read_command};
 use std::alloc::{AllocError, Allocator};
 use std::marker::Model;
-
-/// How many lines came before, with one line more, where they are counted.
-fn one_more(numbering: Numbering, lines: u128) -> u128
-    requires { lines < 2 ^ 100 }
-    ensures { result ≡ one_more numbering lines }
-{
-    match numbering {
-        Numbering::Plain => lines,
-        Numbering::Numbered | Numbering::Json => lines + 1,
-    }
-}
 
 /// What is told of a line that is no command.
 fn fault_told(numbering: Numbering, kind: Kind, offset: usize) -> ReplyLine
@@ -59,7 +50,8 @@ fn memory_told(numbering: Numbering) -> ReplyLine
     }
 }
 
-/// What serves the next line: how replies are numbered, and how many lines came before, where they are, the form that is settled, if any, what answers commands, and how many entries were published before the last publish. Contracts see the state.
+/// What serves the next line: how replies are numbered, and how many lines came before, the form that is settled, if any, what answers commands, how many
+/// entries were published before the last publish, and which lines were refused. Contracts see the state.
 #[derive(Drop)]
 pub(crate) struct Machine<A: Allocator + Copy> {
     alloc: A,
@@ -68,14 +60,18 @@ pub(crate) struct Machine<A: Allocator + Copy> {
     heading: Option<Form>,
     interpreter: Interpreter<A>,
     before: u64,
+    tally: Tally,
 }
 
 impl<A: Allocator + Copy> Model for Machine<A> {
+    ghost use Rattle.std.specs.Prelude.{◌≤◌};
     ghost use Rattle.cq_report.specs.Machine.{State};
 
     ghost Value = { State };
 
-    ghost view = { λ m. record { numbering = m.numbering; lines = m.lines; heading = m.heading; stage = m.interpreter; before = m.before } };
+    ghost view = { λ m. record { numbering = m.numbering; lines = m.lines; heading = m.heading; stage = m.interpreter; before = m.before; tally = m.tally } };
+
+    ghost invariant = { λ m. m.tally.refused ≤ m.lines };
 }
 
 impl<A: Allocator + Copy> Machine<A> {
@@ -91,6 +87,7 @@ impl<A: Allocator + Copy> Machine<A> {
             heading: None,
             interpreter: Interpreter::begin(alloc),
             before: 0,
+            tally: Tally::begin(),
         }
     }
 
@@ -99,7 +96,14 @@ impl<A: Allocator + Copy> Machine<A> {
         requires { lines_before self.old < 2 ^ 100 }
         ensures { self.new ≡ counted self.old }
     {
-        self.lines = one_more(self.numbering, self.lines);
+        self.lines += 1;
+    }
+
+    /// Whether a line was refused.
+    pub(crate) fn has_refused(&self) -> bool
+        ensures { result ≡ is_some self.now.tally.first }
+    {
+        self.tally.first.is_some()
     }
 
     /// The form in which the next line is read.
@@ -129,7 +133,8 @@ impl<A: Allocator + Copy> Machine<A> {
     /// Answers a command.
     fn serve(&mut self, command: Command<A>) -> Result<Said<A>, AllocError>
         ensures state { IfOk result (λ said. self.new ≡ served self.old (Reads command)) }
-        ensures said { IfOk result (λ said. said ≡ unnumbered self.old (Reads command)) }
+        ensures said { IfOk result (λ said. said ≡ said_in self.old (Reads command)) }
+        ensures counts { (self.new.lines ≡ self.old.lines) × (self.new.tally ≡ self.old.tally) }
         ensures err { OnErr result (self.new ≡ self.old) }
     {
         let heading = headed(self.heading, &command);
@@ -145,7 +150,8 @@ impl<A: Allocator + Copy> Machine<A> {
     /// Reads a line, and gives what is told of it.
     fn serve_line(&mut self, line: &[u8]) -> Result<Said<A>, AllocError>
         ensures read { OnOk result ((reading : Reading) × IsReading (form_in self.old) line.now reading) }
-        ensures ok { IfOk result (λ said. (reading : Reading) → IsReading (form_in self.old) line.now reading → (self.new ≡ served self.old reading) × (said ≡ unnumbered self.old reading)) }
+        ensures ok { IfOk result (λ said. (reading : Reading) → IsReading (form_in self.old) line.now reading → (self.new ≡ served self.old reading) × (said ≡ said_in self.old reading)) }
+        ensures counts { (self.new.lines ≡ self.old.lines) × (self.new.tally ≡ self.old.tally) }
         ensures err { OnErr result (self.new ≡ self.old) }
     {
         let form = self.form();
@@ -153,7 +159,8 @@ impl<A: Allocator + Copy> Machine<A> {
             Ok(command) => self.serve(command),
             Err(TextFault::At { kind, offset }) => {
                 self.settle(form);
-                Ok(Said::of_line(fault_told(self.numbering, kind, offset)))
+                let line = fault_told(self.numbering, kind, offset);
+                Ok(Said::of_line(line, Some(fault_refusal(kind, offset))))
             }
             Err(TextFault::NoMemory) => Err(AllocError),
         }
@@ -172,7 +179,8 @@ impl<A: Allocator + Copy> Machine<A> {
     {
         let lines = self.lines;
         let said = self.serve_line(line)?;
-        self.lines = one_more(self.numbering, lines);
+        self.tally.add(lines + 1, said.why());
+        self.lines = lines + 1;
         Ok(Spoken::numbered(self.numbering, lines, said))
     }
 
@@ -190,6 +198,7 @@ impl<A: Allocator + Copy> Machine<A> {
         requires lines { lines_before self.old < 2 ^ 100 }
         ensures lines { OnOk result (lines_before self.new ≤ lines_before self.old + 1) }
         ensures read { UnlessStarved result ((reading : Reading) × IsReading (form_in self.old) line.now reading) }
+        ensures tally { OnOk result (IsTallied self.old self.new) }
         ensures ok { OnOk result ((reading : Reading) → IsReading (form_in self.old) line.now reading → (self.new ≡ next self.old reading) × Puts W.taken W.write_failures output.old output.new (reply self.old reading)) }
         ensures err { IfErr result (λ fault. (reading : Reading) → IsReading (form_in self.old) line.now reading → Breaks W.taken W.write_failures output.old output.new (reply self.old reading) (fault_of_reply fault)) }
         ensures fails { IfErr result (λ fault. Fails W.write_failures output.old output.new (fault_of_reply fault)) }
@@ -206,7 +215,7 @@ impl<A: Allocator + Copy> Machine<A> {
         requires { lines_before self.now < 2 ^ 100 }
         ensures { result ≡ numbered self.now.numbering self.now.lines (memory_told self.now.numbering) }
     {
-        let told = Said::of_line(memory_told(self.numbering));
+        let told = Said::of_line(memory_told(self.numbering), None);
         Spoken::numbered(self.numbering, self.lines, told)
     }
 
@@ -219,7 +228,7 @@ impl<A: Allocator + Copy> Machine<A> {
 
     /// The answer to what is asked, of what is published, in lines.
     fn tell_lines(&self, ask: &Ask<A>) -> Result<Said<A>, AllocError>
-        ensures { IfOk result (λ said. IsAnswer (serving_of self.now.stage) self.now.before ask.now said) }
+        ensures { IfOk result (λ said. IsAnswer (serving_of self.now.stage) self.now.before ask.now said.bytes) }
     {
         let text = self.interpreter.tell(self.before, ask)?;
         Ok(Said::of_text("", text, ending(ask.kind())))
@@ -227,7 +236,7 @@ impl<A: Allocator + Copy> Machine<A> {
 
     /// The same, as a member of a JSON object.
     fn tell_data(&self, ask: &Ask<A>) -> Result<Said<A>, AllocError>
-        ensures { IfOk result (λ said. IsMember (serving_of self.now.stage) self.now.before ask.now said) }
+        ensures { IfOk result (λ said. IsMember (serving_of self.now.stage) self.now.before ask.now said.bytes) }
     {
         let text = self.interpreter.tell_data(self.before, ask)?;
         Ok(Said::of_text("", text, ""))
@@ -235,7 +244,7 @@ impl<A: Allocator + Copy> Machine<A> {
 
     /// The answer to what is asked, of what is published.
     fn tell_either(&self, ask: &Ask<A>) -> Result<Said<A>, AllocError>
-        ensures { IfOk result (λ said. IsAskTold self.now.numbering (serving_of self.now.stage) self.now.before ask.now said) }
+        ensures { IfOk result (λ said. IsAskTold self.now.numbering (serving_of self.now.stage) self.now.before ask.now said.bytes) }
     {
         match self.numbering {
             Numbering::Json => self.tell_data(ask),
@@ -252,10 +261,10 @@ impl<A: Allocator + Copy> Machine<A> {
         Ok(Spoken::numbered(self.numbering, self.lines, told))
     }
 
-    /// The floor, which opens where the setup lasts.
-    pub(crate) fn into_floor(self) -> Result<BoardFloor<A>, AllocError>
-        ensures { IfOk result (λ floor. floor ≡ serving_of self.stage) }
+    /// What answered the commands, how many lines there were, and which were refused.
+    pub(crate) fn into_parts(self) -> (Interpreter<A>, u128, Tally)
+        ensures { result ≡ (self.stage, self.lines, self.tally) }
     {
-        self.interpreter.into_floor()
+        (self.interpreter, self.lines, self.tally)
     }
 }

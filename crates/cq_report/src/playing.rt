@@ -3,54 +3,21 @@
 ghost use Rattle.std.specs.Prelude.{◌≡◌, ◌<◌, ◌≤◌, ◌+◌, ◌^◌, List, OnOk, IfOk, IfErr, IfSome, MatchResult};
 ghost use Rattle.cq_devices.specs.Device.{FailedAtTurn, IfAtTurn, IsAtTurn};
 ghost use Rattle.cq_report.specs.Lines.{lines_of};
-ghost use Rattle.cq_report.specs.Machine.{shown};
 ghost use Rattle.cq_report.specs.Reading.{Reading};
-ghost use Rattle.cq_report.specs.Output.{AreReadings, floor_left};
+ghost use Rattle.cq_report.specs.Output.{AreReadings, left_after};
 ghost use Rattle.cq_report.specs.Run.{fault_of_reading, failures_of};
 ghost use Rattle.cq_report.specs.Steps.Playing.{IsPlayed};
 
 use crate::discard::Discard;
 use crate::fault::RunFault;
-use crate::happening::BoardFloor;
+use crate::left::{Played, left_of};
 use crate::machine::Machine;
 use crate::numbering::Numbering;
 use crate::output::Output;
 use crate::running::replay;
-use cq_board::Board;
 use cq_devices::{MAX_READS, Source, WholeFault};
 use std::alloc::Allocator;
-use std::marker::Model;
 use std::mem;
-
-/// A script that was served to its end. Contracts see the floor that its lines leave.
-#[derive(Drop)]
-pub struct Played<A: Allocator + Copy> {
-    floor: BoardFloor<A>,
-}
-
-impl<A: Allocator + Copy> Model for Played<A> {
-    ghost use Rattle.cq_report.specs.Machine.{ServingRecord};
-
-    ghost Value = { ServingRecord };
-
-    ghost view = { λ p. p.floor };
-}
-
-impl<A: Allocator + Copy> Played<A> {
-    /// The board that is published after the script: what was entered after the last publish is not on it.
-    pub fn board(&self) -> &Board<A>
-        ensures { result.now ≡ shown self.now }
-    {
-        self.floor.board()
-    }
-
-    /// How many entries of the journal that board is of.
-    pub fn entries(&self) -> u64
-        ensures { result ≡ self.now.machine.published }
-    {
-        self.floor.published_count()
-    }
-}
 
 /// The fault of a run that did not fail to write, as one of reading.
 fn reading_fault(fault: RunFault) -> WholeFault
@@ -74,8 +41,8 @@ fn left_by<A: Allocator + Copy>(
 {
     match ended {
         Ok(()) => {
-            let floor = machine.into_floor()?;
-            Ok(Played { floor })
+            let played = left_of(machine)?;
+            Ok(played)
         }
         Err(fault) => {
             mem::drop(machine);
@@ -99,8 +66,8 @@ pub fn read_script<A: Allocator + Copy, R: Source>(
     requires reads { R.reads_made reader.old < 2 ^ 62 }
     requires failures { R.failures_met reader.old < 2 ^ 62 }
 
-    // Where all went well, the floor is the one that the lines leave, however they are read.
-    ensures board { IfOk result (λ played. IfSome (R.left reader.old) (λ input. (readings : List Reading) → AreReadings (lines_of input) readings → played ≡ floor_left readings)) }
+    // Where all went well, it is what the lines leave, however they are read.
+    ensures left { IfOk result (λ played. IfSome (R.left reader.old) (λ input. (readings : List Reading) → AreReadings (lines_of input) readings → played ≡ left_after readings)) }
 
     // And they can be read.
     ensures readings { OnOk result (IfSome (R.left reader.old) (λ input. (readings : List Reading) × AreReadings (lines_of input) readings)) }
@@ -114,6 +81,6 @@ pub fn read_script<A: Allocator + Copy, R: Source>(
     let mut room = Vec::new(alloc);
     let mut output = Output::new(&mut discard, &mut room);
     let mut machine = Machine::begin(alloc, Numbering::Plain);
-    let ended = replay(alloc, &mut machine, reader, &mut output);
+    let ended = replay(alloc, &mut machine, false, reader, &mut output);
     left_by(machine, ended)
 }

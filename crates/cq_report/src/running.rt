@@ -1,20 +1,19 @@
 //! Runs a script.
 
-ghost use Rattle.std.specs.Prelude.{◌≡◌, ◌==◌, ◌<◌, ◌≤◌, ◌+◌, ◌^◌, ℕ, List, length, position, ◌++◌, ◌∷◌, [], OnOk, OnErr, IfOk, IfErr, IfSome, IfNone, MatchResult};
-ghost use Rattle.std.specs.Io.KnownBytes.{Appends};
-ghost use Rattle.cq_report.specs.Lines.{lines_of};
-ghost use Rattle.cq_report.specs.Reading.{Reading};
-ghost use Rattle.cq_report.specs.Output.{AreReadings, output};
+ghost use Rattle.std.specs.Prelude.{◌≡◌, ◌==◌, ◌<◌, ◌≤◌, ◌+◌, ◌^◌, ℕ, List, length, position, ◌++◌, ◌∷◌, [], OnOk, OnErr, IfOk, IfErr, IfSome, IfNone, MatchResult, true};
+ghost use Rattle.cq_report.specs.Refusals.{no_refusal};
+ghost use Rattle.cq_report.specs.Output.{Heard};
 ghost use Rattle.cq_devices.specs.Device.{FailedAtTurn};
 ghost use Rattle.cq_report.specs.Run.{IfRead, IfMemory, IsOfRead, failures_of, WroteWholeLines, WroteFirstLines, WroteFront};
 ghost use Rattle.cq_report.specs.Steps.Replies.{fault_of_reply};
 ghost use Rattle.cq_report.specs.Steps.Written.{Fails, Puts};
-ghost use Rattle.cq_report.specs.Steps.Count.{lines_before};
+ghost use Rattle.cq_report.specs.Steps.Count.{IsTallied, lines_before};
 ghost use Rattle.cq_report.specs.Steps.Replay.{Replayed, BrokeOff, Ended, RanOut};
-ghost use Rattle.cq_report.specs.Steps.Serving.{ServesOn, StopsOn, StarvesOn, Finishes, IsSound};
+ghost use Rattle.cq_report.specs.Steps.Serving.{FeedsOn, ServesOn, StopsOn, StarvesOn, Finishes, IsSound};
 ghost use Rattle.cq_report.specs.Lines.{HasNoEnd};
 
 use crate::fault::{ReplyFault, RunFault};
+use crate::left::{Ran, run_of};
 use crate::line_buffer::LineBuffer;
 use crate::machine::Machine;
 use crate::numbering::Numbering;
@@ -54,6 +53,7 @@ fn serve_line<W: Sink, A: Allocator + Copy>(
     requires last { HasNoEnd last.now }
     requires lines { lines_before machine.old < 2 ^ 62 }
     ensures lines { OnOk result (lines_before machine.new ≤ lines_before machine.old + 1) }
+    ensures tally { OnOk result (IsTallied machine.old machine.new) }
     ensures ok { OnOk result (ServesOn W.taken W.write_failures output.old output.new machine.old machine.new line.old line.new (last.now ++ 10 ∷ [])) }
     ensures sound { OnOk result (IsSound W.write_failures output.old output.new) }
     ensures err { IfErr result (λ fault. (rest : List ℕ) → StopsOn W.taken W.write_failures output.old output.new machine.old line.old (last.now ++ (10 ∷ rest)) (fault_of_reply fault)) }
@@ -70,17 +70,20 @@ fn serve_line<W: Sink, A: Allocator + Copy>(
     Ok(())
 }
 
-/// Answers each line that the piece ends, and keeps what begins the next one.
+/// Answers each line that the piece ends, and keeps what begins the next one. Where the script is strict, it ends at the first line that is refused; says
+/// whether it did.
 fn feed<W: Sink, A: Allocator + Copy>(
     machine: &mut Machine<A>,
+    is_strict: bool,
     line: &mut LineBuffer<A>,
     output: &mut Output<'_, W, A>,
     piece: &[u8],
-) -> Result<(), ReplyFault>
+) -> Result<bool, ReplyFault>
     requires failures { W.write_failures output.old.sink.now < 2 ^ 62 }
     requires lines { lines_before machine.old + length piece.now < 2 ^ 62 }
+    requires clean { is_strict ≡ true → machine.old.tally ≡ no_refusal }
     ensures lines { OnOk result (lines_before machine.new ≤ lines_before machine.old + length piece.now) }
-    ensures ok { OnOk result (ServesOn W.taken W.write_failures output.old output.new machine.old machine.new line.old line.new piece.now) }
+    ensures ok { IfOk result (λ halted. FeedsOn is_strict halted W.taken W.write_failures output.old output.new machine.old machine.new line.old line.new piece.now) }
     ensures sound { OnOk result (IsSound W.write_failures output.old output.new) }
     ensures err { IfErr result (λ fault. StopsOn W.taken W.write_failures output.old output.new machine.old line.old piece.now (fault_of_reply fault)) }
     ensures fails { IfErr result (λ fault. Fails W.write_failures output.old output.new (fault_of_reply fault)) }
@@ -90,9 +93,12 @@ fn feed<W: Sink, A: Allocator + Copy>(
     while let Some((last, behind)) = first_line(rest) {
         serve_line(machine, line, output, last)?;
         rest = behind;
+        if is_strict && machine.has_refused() {
+            return Ok(true);
+        }
     }
     line.extend(rest)?;
-    Ok(())
+    Ok(false)
 }
 
 /// Answers the last line, where no LF ends it, and passes on all that waits.
@@ -120,23 +126,25 @@ fn finish<W: Sink, A: Allocator + Copy>(
 }
 
 /// Reads pieces to the end and answers the lines: all whole lines that were read are answered, and
-/// the replies passed on, before the next read. All that it works with is
+/// the replies passed on, before the next read. Where the script is strict, it ends at the first line that is refused. All that it works with is
 /// lent, so that no exit has anything to let go.
 fn serve_all<A: Allocator + Copy, R: Source, W: Sink>(
     machine: &mut Machine<A>,
+    is_strict: bool,
     line: &mut LineBuffer<A>,
     piece: &mut [u8],
     reader: &mut R,
     output: &mut Output<'_, W, A>,
 ) -> Result<(), RunFault>
     requires lines { lines_before machine.old ≡ 0 }
+    requires clean { machine.old.tally ≡ no_refusal }
     requires line { line.old ≡ [] }
     requires piece { length piece.old ≡ MAX_PIECE }
     requires reads { R.reads_made reader.old < 2 ^ 62 }
     requires failures { R.failures_met reader.old < 2 ^ 62 }
     requires write_failures { W.write_failures output.old.sink.now < 2 ^ 62 }
     requires held { output.old.held.now.items ≡ [] }
-    ensures ok { OnOk result (Replayed W.taken W.write_failures machine.old machine.new (R.left reader.old) (R.left reader.new) output.old output.new) }
+    ensures ok { OnOk result (Replayed is_strict W.taken W.write_failures machine.old machine.new (R.left reader.old) (R.left reader.new) output.old output.new) }
     ensures read { IfErr result (λ fault. IfRead fault (λ turn. BrokeOff W.taken W.write_failures machine.old (R.left reader.old) (R.left reader.new) output.old output.new)) }
     ensures memory { IfErr result (λ fault. IfMemory fault (RanOut W.taken W.write_failures machine.old (R.left reader.old) (R.left reader.new) output.old output.new)) }
     ensures turn { IfErr result (λ fault. IfRead fault (λ turn. FailedAtTurn turn (R.reads_made reader.old) (R.reads_made reader.new) (R.failures_met reader.old) (R.failures_met reader.new))) }
@@ -154,7 +162,11 @@ fn serve_all<A: Allocator + Copy, R: Source, W: Sink>(
             finish(machine, line, output)?;
             return Ok(());
         }
-        feed(machine, line, output, &piece[..len])?;
+        let halted = feed(machine, is_strict, line, output, &piece[..len])?;
+        if halted {
+            output.finish()?;
+            return Ok(());
+        }
         output.write_out()?;
     }
     Err(RunFault::Read {
@@ -166,15 +178,17 @@ fn serve_all<A: Allocator + Copy, R: Source, W: Sink>(
 pub(crate) fn replay<A: Allocator + Copy, R: Source, W: Sink>(
     alloc: A,
     machine: &mut Machine<A>,
+    is_strict: bool,
     reader: &mut R,
     output: &mut Output<'_, W, A>,
 ) -> Result<(), RunFault>
     requires lines { lines_before machine.old ≡ 0 }
+    requires clean { machine.old.tally ≡ no_refusal }
     requires reads { R.reads_made reader.old < 2 ^ 62 }
     requires failures { R.failures_met reader.old < 2 ^ 62 }
     requires write_failures { W.write_failures output.old.sink.now < 2 ^ 62 }
     requires held { output.old.held.now.items ≡ [] }
-    ensures ok { OnOk result (Replayed W.taken W.write_failures machine.old machine.new (R.left reader.old) (R.left reader.new) output.old output.new) }
+    ensures ok { OnOk result (Replayed is_strict W.taken W.write_failures machine.old machine.new (R.left reader.old) (R.left reader.new) output.old output.new) }
     ensures read { IfErr result (λ fault. IfRead fault (λ turn. BrokeOff W.taken W.write_failures machine.old (R.left reader.old) (R.left reader.new) output.old output.new)) }
     ensures memory { IfErr result (λ fault. IfMemory fault (RanOut W.taken W.write_failures machine.old (R.left reader.old) (R.left reader.new) output.old output.new × (output.new.held.now.items ≡ []))) }
     ensures turn { IfErr result (λ fault. IfRead fault (λ turn. FailedAtTurn turn (R.reads_made reader.old) (R.reads_made reader.new) (R.failures_met reader.old) (R.failures_met reader.new))) }
@@ -186,7 +200,7 @@ pub(crate) fn replay<A: Allocator + Copy, R: Source, W: Sink>(
 {
     let mut line = LineBuffer::new(alloc);
     let mut piece = [0u8; MAX_PIECE];
-    let served = serve_all(machine, &mut line, &mut piece, reader, output);
+    let served = serve_all(machine, is_strict, &mut line, &mut piece, reader, output);
     mem::drop(line);
     if let Err(RunFault::NoMemory) = served {
         output.write_out()?;
@@ -194,12 +208,13 @@ pub(crate) fn replay<A: Allocator + Copy, R: Source, W: Sink>(
     served
 }
 
-/// Runs a script: reads it to its end, and writes what its lines answer.
+/// Runs a script: reads it to its end, writes what its lines answer, and gives what they leave.
 ///
 /// The bytes are cut into lines at LF. Each line has its reply before the next read; a last line
 /// without LF has its reply at the end, and then the writer is flushed once. Reads are of up to
 /// 4,096 bytes, and there are at most 1,048,576 of them. Where replies are numbered, the number of the line, from 1, and `: `
-/// stand before each reply that is not empty, once, also where it has several lines; blank lines and comments count.
+/// stand before each reply that is not empty, once, also where it has several lines; blank lines and comments count. A strict script ends at the first
+/// line that is refused, once its reply is written: no line after it is heard, and nothing more is read.
 ///
 /// # Errors
 ///
@@ -210,18 +225,16 @@ pub(crate) fn replay<A: Allocator + Copy, R: Source, W: Sink>(
 pub fn run<A: Allocator + Copy, R: Source, W: Sink>(
     alloc: A,
     numbering: Numbering,
+    is_strict: bool,
     reader: &mut R,
     writer: &mut W,
-) -> Result<(), RunFault>
+) -> Result<Ran<A>, RunFault>
     requires reads { R.reads_made reader.old < 2 ^ 62 }
     requires failures { R.failures_met reader.old < 2 ^ 62 }
     requires write_failures { W.write_failures writer.old < 2 ^ 62 }
 
-    // Where all went well, the output of the lines was written, however they are read.
-    ensures output { OnOk result (IfSome (R.left reader.old) (λ input. (readings : List Reading) → AreReadings (lines_of input) readings → Appends (W.taken writer.old) (W.taken writer.new) (output numbering readings))) }
-
-    // And they can be read.
-    ensures readings { OnOk result (IfSome (R.left reader.old) (λ input. (readings : List Reading) × AreReadings (lines_of input) readings)) }
+    // Where all went well, the output of the lines that are heard was written, however they are read, and what is left is the state after them.
+    ensures heard { IfOk result (λ ran. IfSome (R.left reader.old) (λ input. Heard is_strict numbering input (W.taken writer.old) (W.taken writer.new) ran)) }
 
     // After a fault of reading the output of the whole lines was written; where memory ran out, that of the first lines, down to
     // somewhere in the last piece that was read; after any fault no more than a front of the output of what was read.
@@ -238,7 +251,6 @@ pub fn run<A: Allocator + Copy, R: Source, W: Sink>(
     let mut room = Vec::with_capacity(alloc, ROOM)?;
     let mut output = Output::new(writer, &mut room);
     let mut machine = Machine::begin(alloc, numbering);
-    let ended = replay(alloc, &mut machine, reader, &mut output);
-    mem::drop(machine);
-    ended
+    let ended = replay(alloc, &mut machine, is_strict, reader, &mut output);
+    run_of(machine, ended)
 }

@@ -4,10 +4,12 @@ ghost use Rattle.std.specs.Prelude.{◌≡◌, ◌++◌, ◌==◌, ◌<◌, ◌^
 ghost use Rattle.cq_report.specs.declared.fault.RunFault.TheVariants.{Write};
 ghost use Rattle.cq_report.specs.Machine.{numbered};
 ghost use Rattle.cq_report.specs.Steps.Lines.{number_bytes, text_bytes};
+ghost use Rattle.cq_report.specs.Steps.Saying.{unrefused};
 ghost use Rattle.cq_report.specs.Steps.Written.{Puts, Breaks};
 
 use crate::numbering::Numbering;
 use crate::output::Output;
+use crate::refusal::Refusal;
 use crate::reply::ReplyLine;
 use cq_devices::{Failed, Sink};
 use std::alloc::Allocator;
@@ -43,78 +45,95 @@ fn wide(number: Option<u64>) -> Option<u128>
     }
 }
 
-/// What is told of a line, in words or as members of a JSON object, by its parts: words, a number and a text, where there are any, and what ends them.
-/// Contracts see its bytes.
+/// What is told of a line, in words or as members of a JSON object, by its parts: what it begins with, words, a number and a text, where there are any,
+/// and what ends them; and why the line is refused, where it is. Contracts see the bytes and the reason.
 #[derive(Drop)]
 pub(crate) struct Said<A: Allocator> {
+    front: &'static str,
     words: &'static str,
     number: Option<u64>,
     text: Option<String<A>>,
     end: &'static str,
+    why: Option<Refusal>,
 }
 
 impl<A: Allocator> Model for Said<A> {
-    ghost use Rattle.std.specs.Prelude.{ℕ, List, ◌++◌};
-    ghost use Rattle.cq_report.specs.Steps.Lines.{number_bytes, text_bytes};
+    ghost use Rattle.std.specs.Prelude.{◌++◌};
+    ghost use Rattle.cq_report.specs.Steps.Lines.{line_bytes, text_bytes};
+    ghost use Rattle.cq_report.specs.Steps.Saying.{Saying};
 
-    ghost Value = { List ℕ };
+    ghost Value = { Saying };
 
-    ghost view = { λ s. s.words.now ++ number_bytes s.number ++ text_bytes s.text ++ s.end.now };
+    ghost view = { λ s. record { bytes = s.front.now ++ line_bytes s.words.now s.number (text_bytes s.text) ++ s.end.now; why = s.why } };
 }
 
 impl<A: Allocator> Said<A> {
     /// Nothing is told.
     pub(crate) fn nothing() -> Said<A>
-        ensures { result ≡ [] }
+        ensures { result ≡ unrefused [] }
     {
         Said {
+            front: "",
             words: "",
             number: None,
             text: None,
             end: "",
+            why: None,
         }
     }
 
-    /// A line.
-    pub(crate) fn of_line(line: ReplyLine) -> Said<A>
-        ensures { result ≡ line }
+    /// The reply to a line that is refused for this reason, if there is one.
+    pub(crate) fn of_line(line: ReplyLine, why: Option<Refusal>) -> Said<A>
+        ensures { result ≡ record { bytes = line; why = why } }
     {
-        let (words, number, end) = line.into_parts();
+        let (front, words, number, end) = line.into_parts();
         Said {
+            front,
             words,
             number,
             text: None,
             end,
+            why,
         }
     }
 
-    /// A text between words and an end.
+    /// A text between words and an end, of a line that is not refused.
     pub(crate) fn of_text(words: &'static str, text: String<A>, end: &'static str) -> Said<A>
-        ensures { result ≡ words.now ++ string_bytes text ++ end.now }
+        ensures { result ≡ unrefused (words.now ++ string_bytes text ++ end.now) }
     {
         Said {
-            words,
+            front: words,
+            words: "",
             number: None,
             text: Some(text),
             end,
+            why: None,
         }
+    }
+
+    /// Why the line is refused, where it is.
+    pub(crate) fn why(&self) -> &Option<Refusal>
+        ensures { result.now ≡ self.now.why }
+    {
+        &self.why
     }
 
     /// Puts what is told, and a tail after it.
     fn put<W: Sink>(&self, tail: &str, output: &mut Output<'_, W, A>) -> Result<(), Failed>
         requires { W.write_failures output.old.sink.now < 2 ^ 62 }
-        ensures ok { OnOk result (Puts W.taken W.write_failures output.old output.new (self.now ++ tail.now)) }
-        ensures err { OnErr result (Breaks W.taken W.write_failures output.old output.new (self.now ++ tail.now) Write) }
+        ensures ok { OnOk result (Puts W.taken W.write_failures output.old output.new (self.now.bytes ++ tail.now)) }
+        ensures err { OnErr result (Breaks W.taken W.write_failures output.old output.new (self.now.bytes ++ tail.now) Write) }
     {
+        output.put(self.front.as_bytes())?;
         output.put_part(self.words, wide(self.number), text_of(&self.text))?;
         output.put_part(self.end, None, tail)
     }
 
     /// Whether nothing is told.
     fn is_empty(&self) -> bool
-        ensures { result ≡ (length self.now == 0) }
+        ensures { result ≡ (length self.now.bytes == 0) }
     {
-        if !self.words.is_empty() || !is_none(self.number) {
+        if !self.front.is_empty() || !self.words.is_empty() || !is_none(self.number) {
             return false;
         }
         text_of(&self.text).is_empty() && self.end.is_empty()
@@ -137,13 +156,13 @@ impl<A: Allocator> Model for Spoken<A> {
 
     ghost Value = { List ℕ };
 
-    ghost view = { λ s. s.front.now ++ number_bytes s.line ++ s.behind.now ++ s.said ++ s.tail.now };
+    ghost view = { λ s. s.front.now ++ number_bytes s.line ++ s.behind.now ++ s.said.bytes ++ s.tail.now };
 }
 
 impl<A: Allocator> Spoken<A> {
     /// What is told, and no number.
     fn plain(said: Said<A>) -> Spoken<A>
-        ensures { result ≡ said }
+        ensures { result ≡ said.bytes }
     {
         Spoken {
             front: "",
@@ -164,7 +183,7 @@ impl<A: Allocator> Spoken<A> {
     /// What is told of a line before which so many came.
     pub(crate) fn numbered(numbering: Numbering, before: u128, said: Said<A>) -> Spoken<A>
         requires { before < 2 ^ 100 }
-        ensures { result ≡ numbered numbering before said }
+        ensures { result ≡ numbered numbering before said.bytes }
     {
         match numbering {
             Numbering::Plain => Spoken::plain(said),

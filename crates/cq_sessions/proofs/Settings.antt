@@ -13,14 +13,15 @@ use Rattle.cq_sessions.specs.declared.sheet.Line.{Line}
 use Rattle.cq_sessions.specs.declared.sheet.Line.TheVariants.{Told}
 use Rattle.cq_report.specs.Lines.{lines_of}
 use Rattle.cq_report.specs.Reading.{Reading, Reads, Faulty, IsReading, AreReadIn}
+use Rattle.cq_report.specs.declared.numbering.Numbering.{Numbering}
 use Rattle.cq_report.specs.declared.numbering.Numbering.TheVariants.{Plain}
 use Rattle.cq_report.specs.declared.stage.Stage.TheVariants as stages
-use Rattle.cq_report.specs.Machine.{State, SetupRecord, begin_state, begin_setup, form_of, form_in, headed, declared, set_up, before_after, next, reply}
+use Rattle.cq_report.specs.Machine.{State, SetupRecord, Staged, begin_state, begin_setup, form_of, form_in, headed, declared, set_up, staged, spoken, numbered, next, reply}
 use Rattle.cq_report.specs.declared.reply.Prepared.{Prepared}
-use Rattle.cq_report.specs.Reply.{prepared_line}
+use Rattle.cq_report.specs.Reply.{prepared_line, told_lines}
 use Rattle.cq_report.specs.Output.{AreReadFrom, state_after}
 use Rattle.cq_sessions.specs.Script.{Sheet}
-use Rattle.cq_sessions.specs.Sessions.{is_of_setup, in_setup, IsSetBy, BeginsBoard, setup_sheet, told_or_none}
+use Rattle.cq_sessions.specs.Sessions.{is_of_setup, IsInSetup, IsSetBy, BeginsBoard, setup_sheet, told_or_none}
 use Rattle.cq_report.specs.Lines.{HasNoEnd}
 use Rattle.cq_sessions.specs.Steps.Sheets.{SheetRecord, blank}
 use Rattle.cq_sessions.specs.Steps.Settings.{Sets, Stays, SetsLine, IsBehind, SetTo, RestBegins}
@@ -35,42 +36,53 @@ AreReadFrom-snoc state (l ∷ lines) [] line reading are is = absurd are
 AreReadFrom-snoc state (l ∷ lines) (r ∷ front) line reading are is = (are.0, AreReadFrom-snoc (next state r) lines front line reading are.1 is)
 
 -- the state after lines of a setup
-set_state : (state : State) (front : List Reading) (heading : Option Form) (setup : SetupRecord) → IsSetBy state front heading setup → state_after state front ≡ in_setup heading setup
+set_state : (state : State) (front : List Reading) (heading : Option Form) (setup : SetupRecord) → IsSetBy state front heading setup → IsInSetup (state_after state front) heading setup
 set_state state [] heading setup set = set
 set_state state (r ∷ front) heading setup set = set_state (next state r) front heading setup set.1
 
-IsSetBy-snoc : (state : State) (front : List Reading) (heading heading' : Option Form) (setup setup' : SetupRecord) (reading : Reading) → IsSetBy state front heading setup → is_of_setup reading ≡ true → next (in_setup heading setup) reading ≡ in_setup heading' setup'
-    → IsSetBy state (front ++ reading ∷ []) heading' setup'
-IsSetBy-snoc state [] heading heading' setup setup' reading set of moves = (of, ap (λ (s : State). next s reading) set ∙ moves)
-IsSetBy-snoc state (r ∷ front) heading heading' setup setup' reading set of moves = (set.0, IsSetBy-snoc (next state r) front heading heading' setup setup' reading set.1 of moves)
+-- the stage and the reply of a line of a setup are told by what stands before it
+stage_in : (state : State) (heading : Option Form) (setup : SetupRecord) (reading : Reading) → IsInSetup state heading setup → (staged state.stage state.heading reading).0 ≡ (staged (stages.Setup setup) heading reading).0
+stage_in state heading setup reading set = ap (λ (h : Option Form). (staged state.stage h reading).0) set.settled ∙ ap (λ (stage : Staged). (staged stage heading reading).0) set.stage
 
-setup_sheet-snoc : (state : State) (front : List Reading) (heading : Option Form) (setup : SetupRecord) (reading : Reading) → IsSetBy state front heading setup → setup_sheet state (front ++ reading ∷ []) ≡ setup_sheet state front ++ told_or_none (reply (in_setup heading setup) reading) ∷ []
-setup_sheet-snoc state [] heading setup reading set = ap (λ (s : State). told_or_none (reply s reading) ∷ []) set
+reply_in : (state : State) (heading : Option Form) (setup : SetupRecord) (reading : Reading) → IsInSetup state heading setup → reply state reading ≡ told_lines (staged (stages.Setup setup) heading reading).1
+reply_in state heading setup reading set =
+    ap (λ (n : Numbering). numbered n state.lines (spoken n (staged state.stage state.heading reading).1)) set.unnumbered
+    ∙ ap (λ (h : Option Form). told_lines (staged state.stage h reading).1) set.settled
+    ∙ ap (λ (stage : Staged). told_lines (staged stage heading reading).1) set.stage
+
+IsSetBy-snoc : (state : State) (front : List Reading) (heading heading' : Option Form) (setup setup' : SetupRecord) (reading : Reading) → IsSetBy state front heading setup → is_of_setup reading ≡ true → heading' ≡ headed heading reading
+    → (staged (stages.Setup setup) heading reading).0 ≡ stages.Setup setup' → IsSetBy state (front ++ reading ∷ []) heading' setup'
+IsSetBy-snoc state [] heading heading' setup setup' reading set of settles moves = (
+  of,
+  record {
+    unnumbered = set.unnumbered;
+    settled = ap (λ (h : Option Form). headed h reading) set.settled ∙ sym settles;
+    stage = stage_in state heading setup reading set ∙ moves;
+  },
+)
+IsSetBy-snoc state (r ∷ front) heading heading' setup setup' reading set of settles moves = (set.0, IsSetBy-snoc (next state r) front heading heading' setup setup' reading set.1 of settles moves)
+
+setup_sheet-snoc : (state : State) (front : List Reading) (heading : Option Form) (setup : SetupRecord) (reading : Reading) → IsSetBy state front heading setup
+    → setup_sheet state (front ++ reading ∷ []) ≡ setup_sheet state front ++ told_or_none (told_lines (staged (stages.Setup setup) heading reading).1) ∷ []
+setup_sheet-snoc state [] heading setup reading set = ap (λ (told : List ℕ). told_or_none told ∷ []) (reply_in state heading setup reading set)
 setup_sheet-snoc state (r ∷ front) heading setup reading set = ap (λ (z : Sheet). told_or_none (reply state r) ∷ z) (setup_sheet-snoc (next state r) front heading setup reading set.1)
 
 pub set_begin : (bytes : List ℕ) (heading : Option Form) (setup : SetupRecord) (sheet : SheetRecord) → heading ≡ None → setup ≡ begin_setup → sheet ≡ blank → SetTo bytes bytes heading setup sheet
-set_begin bytes heading setup sheet fresh is empty = record { lines = []; cut = refl; front = []; are = tt; set = rw (fresh, is) refl; told = empty }
-
--- no line of a setup is a publish
-no_publish : (state : State) (reading : Reading) → is_of_setup reading ≡ true → before_after state reading ≡ state.before
-no_publish state (Faulty kind offset) of_setup = refl
-no_publish state (Reads commands.Blank) of_setup = refl
-no_publish state (Reads (commands.Setup setup)) of_setup = refl
-no_publish state (Reads (commands.Edit edit)) of_setup = refl
-no_publish state (Reads commands.Publish) of_setup = cc
-no_publish state (Reads commands.Show) of_setup = refl
+set_begin bytes heading setup sheet fresh is empty = record { lines = []; cut = refl; front = []; are = tt; set = record { unnumbered = refl; settled = sym fresh; stage = ap stages.Setup (sym is) }; told = empty }
 
 set_on : (bytes rest rest' line : List ℕ) (heading heading' : Option Form) (setup setup' : SetupRecord) (sheet sheet' : SheetRecord) → lines_of rest ≡ line ∷ lines_of rest' → SetTo bytes rest heading setup sheet → SetsLine heading setup sheet heading' setup' sheet' line → SetTo bytes rest' heading' setup' sheet'
-set_on bytes rest rest' line heading heading' setup setup' sheet sheet' cut so l = record {
-  lines = so.lines ++ line ∷ [];
-  cut = so.cut ∙ ap (λ (z : List (List ℕ)). so.lines ++ z) cut ∙ sym (append_assoc so.lines (line ∷ []) (lines_of rest'));
-  front = so.front ++ l.reading ∷ [];
-  are = AreReadFrom-snoc (begin_state Plain) so.lines so.front line l.reading so.are (subst (λ (s : State). IsReading (form_in s) line l.reading) (sym (set_state (begin_state Plain) so.front heading setup so.set)) l.is);
-  set = IsSetBy-snoc (begin_state Plain) so.front heading heading' setup setup' l.reading so.set l.sets.of_setup (rw (l.sets.stage, l.settles, no_publish (in_setup heading setup) l.reading l.sets.of_setup) refl);
-  told = l.sets.told ∙ ap (λ (z : SheetRecord). record z { batch = z.batch ++ Told (told_or_none (reply (in_setup heading setup) l.reading)) ∷ [] }) so.told
-      ∙ ap (λ (z : List (Line (List ℕ))). record blank { batch = z })
-      (sym (map-snoc Told (setup_sheet (begin_state Plain) so.front) (told_or_none (reply (in_setup heading setup) l.reading))) ∙ ap (map Told) (sym (setup_sheet-snoc (begin_state Plain) so.front heading setup l.reading so.set)));
-}
+set_on bytes rest rest' line heading heading' setup setup' sheet sheet' cut so l =
+    let reply = told_or_none (told_lines (staged (stages.Setup setup) heading l.reading).1) in
+    record {
+      lines = so.lines ++ line ∷ [];
+      cut = so.cut ∙ ap (λ (z : List (List ℕ)). so.lines ++ z) cut ∙ sym (append_assoc so.lines (line ∷ []) (lines_of rest'));
+      front = so.front ++ l.reading ∷ [];
+      are = AreReadFrom-snoc (begin_state Plain) so.lines so.front line l.reading so.are (subst (λ (h : Option Form). IsReading (form_of h) line l.reading) (sym (set_state (begin_state Plain) so.front heading setup so.set).settled) l.is);
+      set = IsSetBy-snoc (begin_state Plain) so.front heading heading' setup setup' l.reading so.set l.sets.of_setup l.settles l.sets.stage;
+      told = l.sets.told ∙ ap (λ (z : SheetRecord). record z { batch = z.batch ++ Told reply ∷ [] }) so.told
+          ∙ ap (λ (z : List (Line (List ℕ))). record blank { batch = z })
+          (sym (map-snoc Told (setup_sheet (begin_state Plain) so.front) reply) ∙ ap (map Told) (sym (setup_sheet-snoc (begin_state Plain) so.front heading setup l.reading so.set)));
+    }
 
 pub set_line : (bytes rest line behind : List ℕ) (heading heading' : Option Form) (setup setup' : SetupRecord) (sheet sheet' : SheetRecord) → rest ≡ line ++ (10 ∷ behind) → HasNoEnd line → SetTo bytes rest heading setup sheet → SetsLine heading setup sheet heading' setup' sheet' line
     → SetTo bytes behind heading' setup' sheet'

@@ -101,13 +101,15 @@ abbrev pub setup_sheet : State → List Reading → Sheet
 setup_sheet state [] = []
 setup_sheet state (line ∷ lines) = told_or_none (reply state line) ∷ setup_sheet (next state line) lines
 
--- A script in its setup, where this form is settled, if any.
-abbrev pub in_setup : Option Form → SetupRecord → State
-in_setup heading setup = record { numbering = Plain; lines = 0; heading = heading; stage = stages.Setup setup; before = 0 }
+-- A script is in its setup, where this form is settled, if any, and its replies have no numbers.
+pub record IsInSetup (state : State) (heading : Option Form) (setup : SetupRecord) : Type 0 where
+  pub unnumbered : state.numbering ≡ Plain
+  pub settled : state.heading ≡ heading
+  pub stage : state.stage ≡ stages.Setup setup
 
 -- The state after lines of a setup is that of a replay.
 abbrev pub IsSetBy : State → List Reading → Option Form → SetupRecord → Type 0
-IsSetBy state [] heading setup = state ≡ in_setup heading setup
+IsSetBy state [] heading setup = IsInSetup state heading setup
 IsSetBy state (line ∷ lines) heading setup = (is_of_setup line ≡ true) × IsSetBy (next state line) lines heading setup
 
 -- The pool that a setup opens.

@@ -36,7 +36,7 @@ fn set_up<A: Allocator + Copy>(
     ensures { OnOk result (Sets heading setup.old sheet.old setup.new sheet.new (Reads (commands.Setup line.now))) }
 {
     let prepared = setup.set_up(heading, line)?;
-    sheet.tell(Some(String::from_str(alloc, prepared_line(prepared))?))
+    sheet.tell(Some(prepared_line(prepared).to_text(alloc)?))
 }
 
 /// Answers a command of the setup, and says whether it was one; another command ends the setup.

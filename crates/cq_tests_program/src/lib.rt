@@ -19,3 +19,5 @@ mod runs;
 mod sessions;
 #[cfg(test)]
 mod show;
+#[cfg(test)]
+mod sums;

@@ -2,10 +2,11 @@
 
 use crate::devices::{Expecting, Pieces};
 use cq_devices::{Counted, WholeFault, read_whole};
-use cq_report::{Numbering, RunFault, run};
+use cq_report::{Numbering, Ran, RunFault, run};
 use std::alloc::{Allocator, Global};
 use std::fmt::Display;
 use std::io::{Read, Write};
+use std::mem;
 
 /// How the run of what the reader gives ends, and the writer.
 pub fn ran<A: Allocator + Copy, D: Read + Drop, W: Write + Drop>(
@@ -16,8 +17,19 @@ pub fn ran<A: Allocator + Copy, D: Read + Drop, W: Write + Drop>(
 ) -> (Result<(), RunFault>, W) {
     let mut reader = Counted::new(device);
     let mut writer = Counted::new(writer);
-    let ended = run(alloc, numbering, &mut reader, &mut writer);
+    let ended = end_of(run(alloc, numbering, false, &mut reader, &mut writer));
     (ended, writer.into_inner())
+}
+
+/// How the run ended.
+fn end_of<A: Allocator + Copy>(ended: Result<Ran<A>, RunFault>) -> Result<(), RunFault> {
+    match ended {
+        Ok(ran) => {
+            mem::drop(ran);
+            Ok(())
+        }
+        Err(fault) => Err(fault),
+    }
 }
 
 /// How a run ended, how many of the expected bytes were not written, and how often the writer was flushed.

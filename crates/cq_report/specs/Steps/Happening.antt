@@ -20,6 +20,11 @@ HasNoLine (answers.Looked count) = ⊤
 HasNoLine (answers.Heard count) = ⊤
 HasNoLine _ = ⊥
 
+-- The answer is no board.
+abbrev pub IsNoBoard : Answer Why → Type 0
+IsNoBoard (answers.Looked count) = ⊥
+IsNoBoard _ = ⊤
+
 -- The setup lasts.
 abbrev pub IsInSetup : Staged → Type 0
 IsInSetup (Setup setup) = ⊤

@@ -6,6 +6,10 @@ abbrev pub number_bytes : Option ℕ → List ℕ
 number_bytes None = []
 number_bytes (Some number) = decimal number
 
+-- What a reply begins with, words, a number, if there is one, and what ends them.
+abbrev pub reply_bytes : List ℕ → List ℕ → Option ℕ → List ℕ → List ℕ
+reply_bytes front words number end = front ++ (words ++ number_bytes number) ++ end
+
 -- Words, a number, if there is one, and what ends them.
 abbrev pub line_bytes : List ℕ → Option ℕ → List ℕ → List ℕ
 line_bytes words number end = words ++ number_bytes number ++ end

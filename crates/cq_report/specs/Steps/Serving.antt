@@ -1,11 +1,12 @@
 -- How far the lines of a script have been answered.
-use Rattle.std.specs.Prelude.{◌≡◌, ℕ, List, [], ◌∷◌, ◌++◌, Option}
+use Rattle.std.specs.Prelude.{◌≡◌, ℕ, Bool, true, false, List, [], ◌∷◌, ◌++◌, Option}
 use Rattle.cq_report.specs.declared.output.Output.{Output}
 use Rattle.cq_report.specs.declared.fault.RunFault.{RunFault}
 use Rattle.cq_report.specs.Lines.{lines_of, HasNoEnd}
 use Rattle.cq_report.specs.Reading.{Reading}
 use Rattle.cq_report.specs.Machine.{State}
-use Rattle.cq_report.specs.Output.{AreReadFrom, state_after, output_from}
+use Rattle.cq_report.specs.Refusals.{no_refusal}
+use Rattle.cq_report.specs.Output.{AreReadFrom, IsRefusedLast, state_after, output_from}
 use Rattle.cq_report.specs.Steps.Written.{Puts, Breaks}
 use Rattle.cq_report.specs.Steps.Kept.{kept}
 
@@ -48,6 +49,19 @@ Stopped taken failures first opening now bytes fault = (rs : List Reading) → A
 abbrev pub ServesOn : {W A : Type 0} → (W → Option (List ℕ)) → (W → ℕ) → (old new : Output W A) → (state state' : State) → (line line' piece : List ℕ) → Type 0
 ServesOn {W} {A} taken failures old new state state' line line' piece =
     (first : Output W A) (opening : State) (bytes : List ℕ) → Served taken failures first opening old state line bytes → Served taken failures first opening new state' line' (bytes ++ piece)
+
+-- Some bytes more were served, down to a line that was refused.
+pub record HaltsOn {W A : Type 0} (taken : W → Option (List ℕ)) (failures : W → ℕ) (old new : Output W A) (state state' : State) (line line' piece : List ℕ) : Type 0 where
+  pub done : List ℕ
+  pub rest : List ℕ
+  pub cut : done ++ rest ≡ piece
+  pub on : ServesOn taken failures old new state state' line line' done
+  pub refused : IsRefusedLast state'
+
+-- Some bytes more were served: all, or, where the script is strict, those down to the first line that is refused.
+abbrev pub FeedsOn : {W A : Type 0} → Bool → Bool → (W → Option (List ℕ)) → (W → ℕ) → (old new : Output W A) → (state state' : State) → (line line' piece : List ℕ) → Type 0
+FeedsOn is_strict false taken failures old new state state' line line' piece = ServesOn taken failures old new state state' line line' piece × (is_strict ≡ true → state'.tally ≡ no_refusal)
+FeedsOn is_strict true taken failures old new state state' line line' piece = HaltsOn taken failures old new state state' line line' piece × (is_strict ≡ true)
 
 -- A fault came while some bytes more were served, whatever was served before them.
 abbrev pub StopsOn : {W A : Type 0} → (W → Option (List ℕ)) → (W → ℕ) → (old new : Output W A) → State → (line piece : List ℕ) → RunFault → Type 0

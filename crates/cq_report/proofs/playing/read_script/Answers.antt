@@ -3,20 +3,19 @@ use Rattle.std.proofs.lemmas.Result.{on_ok_weaker}
 use Rattle.cq_devices.specs.Device.{FailedAtTurn}
 use Rattle.cq_report.specs.declared.numbering.Numbering.TheVariants.{Plain}
 use Rattle.cq_report.specs.Lines.{lines_of}
-use Rattle.cq_report.specs.Machine.{ServingRecord}
 use Rattle.cq_report.specs.Reading.{Reading}
-use Rattle.cq_report.specs.Output.{AreReadings, floor_left}
+use Rattle.cq_report.specs.Output.{AreReadings, Left, left_after}
 use Rattle.cq_report.proofs.Ending.{Replayed-left, Replayed-readings}
-use Rattle.cq_report.proofs.Leaving.{never_written, IsPlayed-floor, IsPlayed-on, IsPlayed-turn, IsPlayed-unread}
+use Rattle.cq_report.proofs.Leaving.{never_written, IsPlayed-left, IsPlayed-on, IsPlayed-turn, IsPlayed-unread}
 use Rattle.cq_report.proofs.playing.read_script.Goals as goal
 
 pub left_by-requires : goal.left_by-requires
 left_by-requires g c = never_written c.replay-ended.result _ c.replay-ended.ensures.write_failures
 
-pub returns-clause-board : goal.returns-clause-board
-returns-clause-board g c =
-    IsPlayed-floor _ c.replay-ended.result _
-    (λ (floor : ServingRecord). IfSome (g.R.Source.left c.args.reader.now) (λ input. (readings : List Reading) → AreReadings (lines_of input) readings → floor ≡ floor_left readings))
+pub returns-clause-left : goal.returns-clause-left
+returns-clause-left g c =
+    IsPlayed-left _ c.replay-ended.result _
+    (λ (left : Left). IfSome (g.R.Source.left c.args.reader.now) (λ input. (readings : List Reading) → AreReadings (lines_of input) readings → left ≡ left_after readings))
     c.left_by.ensures (on_ok_weaker c.replay-ended.result (λ r. Replayed-left _ _ Plain _ _ _ _ _ _ c.begin-machine.ensures.state r) c.replay-ended.ensures.ok)
 
 pub returns-clause-readings : goal.returns-clause-readings

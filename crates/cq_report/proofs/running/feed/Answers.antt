@@ -1,4 +1,4 @@
-use Rattle.std.proofs.Common.{◌∷◌, ◌++◌, [], ℕ, List, length, refl, ap, subst, length-append, arith}
+use Rattle.std.proofs.Common.{◌∷◌, ◌++◌, ◌∙◌, [], ℕ, List, length, refl, ap, sym, subst, length-append, arith}
 use Rattle.std.proofs.lemmas.Result.{err_from_is_err_and}
 use Rattle.cq_report.specs.declared.fault.RunFault.TheVariants.{NoMemory}
 use Rattle.cq_report.specs.Steps.Replies.{fault_of_reply}
@@ -6,6 +6,8 @@ use Rattle.cq_report.specs.Steps.Serving.{ServesOn, StopsOn}
 use Rattle.cq_report.proofs.Served.{cut_on, cut_past, ServesOn-nothing, ServesOn-then, ServesOn-front, StopsOn-then, StopsOn-starved, IsSound-nothing, IsSound-then}
 use Rattle.cq_report.specs.Steps.Writing.{Puts-nothing}
 use Rattle.cq_report.proofs.Starving.{IfMemory-weaker, StarvesOn-behind}
+use Rattle.cq_report.proofs.Tallying.{still_clean, refused_last}
+use Rattle.cq_report.proofs.running.feed.Goals.{else-is_strict-via-then-is_strict+else-has_refused, else-is_strict-via-else-is_strict}
 use Rattle.cq_report.proofs.running.feed.Goals as goal
 
 pub loop-last-init : goal.loop-last-init
@@ -14,6 +16,7 @@ loop-last-init g c = record {
   cut = refl;
   on = ServesOn-nothing _ _ _ _ _;
   counted = omega arith;
+  clean = c.requires.clean;
   sound = IsSound-nothing g.W.Sink.taken _ _;
 }
 
@@ -43,6 +46,10 @@ loop-last-preserved g c =
       cut = cut_past i.done c.loop-last.rest.now c.in-Some.last.now c.in-Some.behind.now c.args.piece.now i.cut c.in-Some.ensures.cut;
       on = ServesOn-then _ _ _ _ _ _ _ _ _ _ _ i.done (c.in-Some.last.now ++ 10 ∷ []) i.on c.in_ok-serve_line.ensures.ok;
       counted = omega (arith, parts, both, i.counted, c.in_ok-serve_line.ensures.lines);
+      clean = λ strict. elim c.else-is_strict.branch [
+        | else-is_strict-via-then-is_strict+else-has_refused w ↦ still_clean c.loop-last.machine c.serve_line.new.machine c.in_ok-serve_line.ensures.tally (i.clean strict) (sym w.has_refused.ensures ∙ w.if-has_refused.false)
+        | else-is_strict-via-else-is_strict w ↦ absurd (let never = w.if-is_strict.false in cc)
+      ];
       sound = IsSound-then g.W.Sink.taken _ _ _ _ i.sound c.in_ok-serve_line.ensures.sound;
     }
 
@@ -56,9 +63,11 @@ returns-in_err-extend-clause-err g c =
 
 pub returns-clause-ok : goal.returns-clause-ok
 returns-clause-ok g c =
-    let i = c.loop-last.invariant in
-    subst (λ (k : List ℕ). ServesOn g.W.Sink.taken g.W.Sink.write_failures c.args.output.now c.loop-last.output c.args.machine.now c.loop-last.machine c.args.line.now c.extend.new.self k) i.cut
-    (ServesOn-then _ _ _ _ _ _ _ _ _ _ _ i.done c.loop-last.rest.now i.on (ServesOn-front _ _ _ _ _ _ c.loop-last.rest.now c.in_default.ensures.none c.in_ok-extend.ensures.ok))
+    let i = c.loop-last.invariant in (
+      subst (λ (k : List ℕ). ServesOn g.W.Sink.taken g.W.Sink.write_failures c.args.output.now c.loop-last.output c.args.machine.now c.loop-last.machine c.args.line.now c.extend.new.self k) i.cut
+          (ServesOn-then _ _ _ _ _ _ _ _ _ _ _ i.done c.loop-last.rest.now i.on (ServesOn-front _ _ _ _ _ _ c.loop-last.rest.now c.in_default.ensures.none c.in_ok-extend.ensures.ok)),
+      i.clean,
+    )
 
 pub returns-in_err-serve_line-clause-starves : goal.returns-in_err-serve_line-clause-starves
 returns-in_err-serve_line-clause-starves g c =
@@ -71,3 +80,16 @@ returns-in_err-extend-clause-starves g c =
     let p = err_from_is_err_and c.from_residual-in_err-extend.result c.from_residual-in_err-extend.ensures.1 in
     let i = c.loop-last.invariant in
     rw (p.1, p.2) (StarvesOn-behind _ _ _ c.loop-last.output c.loop-last.output _ _ _ _ i.done c.loop-last.rest.now c.args.piece.now i.on i.cut (Puts-nothing _ _ c.loop-last.output))
+
+pub returns-then-has_refused-clause-ok : goal.returns-then-has_refused-clause-ok
+returns-then-has_refused-clause-ok g c =
+    let i = c.loop-last.invariant in (
+      record {
+        done = i.done ++ (c.in-Some.last.now ++ 10 ∷ []);
+        rest = c.in-Some.behind.now;
+        cut = cut_past i.done c.loop-last.rest.now c.in-Some.last.now c.in-Some.behind.now c.args.piece.now i.cut c.in-Some.ensures.cut;
+        on = ServesOn-then _ _ _ _ _ _ _ _ _ _ _ i.done (c.in-Some.last.now ++ 10 ∷ []) i.on c.in_ok-serve_line.ensures.ok;
+        refused = refused_last c.loop-last.machine c.serve_line.new.machine c.in_ok-serve_line.ensures.tally (i.clean c.if-is_strict.true) (sym c.has_refused.ensures ∙ c.if-has_refused.true);
+      },
+      c.if-is_strict.true,
+    )

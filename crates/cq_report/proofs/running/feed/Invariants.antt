@@ -1,4 +1,5 @@
-use Rattle.std.proofs.Common.{◌≡◌, ◌≤◌, ◌+◌, ◌++◌, ℕ, List, length}
+use Rattle.std.proofs.Common.{◌≡◌, ◌≤◌, ◌+◌, ◌++◌, ℕ, true, List, length}
+use Rattle.cq_report.specs.Refusals.{no_refusal}
 use Rattle.cq_report.specs.Steps.Count.{lines_before}
 use Rattle.cq_report.specs.Steps.Serving.{ServesOn, IsSound}
 use Rattle.cq_report.proofs.running.feed.Given as goal
@@ -10,6 +11,7 @@ invariant-loop-last g l = record {
   cut : done ++ l.rest ≡ l.piece;
   on : ServesOn g.W.Sink.taken g.W.Sink.write_failures l.fn.output l.output l.fn.machine l.machine l.fn.line l.line done;
   counted : lines_before l.machine + length l.rest ≤ lines_before l.fn.machine + length l.piece;
+  clean : l.is_strict ≡ true → l.machine.tally ≡ no_refusal;
   sound : IsSound g.W.Sink.write_failures l.fn.output l.output;
 }
 

@@ -1,4 +1,5 @@
-use Rattle.std.proofs.Common.{◌≡◌, ◌≤◌, ◌*◌, ◌+◌, length, []}
+use Rattle.std.proofs.Common.{◌≡◌, ◌≤◌, ◌*◌, ◌+◌, true, length, []}
+use Rattle.cq_report.specs.Refusals.{no_refusal}
 use Rattle.cq_report.specs.Steps.Count.{lines_before}
 use Rattle.cq_report.specs.Steps.Serving.{IsSound}
 use Rattle.cq_report.specs.Steps.Serving.{Served}
@@ -13,6 +14,7 @@ invariant-loop-i g l = record {
   served : Served g.W.Sink.taken g.W.Sink.write_failures l.fn.output l.fn.machine l.output l.machine l.line bytes;
   lines : lines_before l.machine ≤ l.i * 4096;
   sound : IsSound g.W.Sink.write_failures l.fn.output l.output;
+  clean : l.is_strict ≡ true → l.machine.tally ≡ no_refusal;
   held : l.output.held.now.items ≡ [];
   reads : g.R.Source.reads_made l.reader ≡ g.R.Source.reads_made l.fn.reader + l.i;
   failures : g.R.Source.failures_met l.reader ≡ g.R.Source.failures_met l.fn.reader;

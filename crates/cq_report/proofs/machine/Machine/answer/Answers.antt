@@ -4,6 +4,7 @@ use Rattle.cq_report.specs.declared.fault.RunFault.TheVariants.{Write}
 use Rattle.cq_report.specs.Steps.Written.{Puts, Breaks}
 use Rattle.cq_report.specs.Steps.Writing.{Puts-nothing}
 use Rattle.cq_report.proofs.Answering.{starved}
+use Rattle.cq_report.proofs.Tallying.{tallied_next}
 use Rattle.cq_report.proofs.machine.Machine.answer.Goals as goal
 
 pub returns-in_err-spoken-clause-err : goal.returns-in_err-spoken-clause-err
@@ -40,3 +41,8 @@ pub returns-clause-ok : goal.returns-clause-ok
 returns-clause-ok g c = λ reading is.
     let told = c.in_ok-spoken.ensures.ok reading is in
     (told.0, subst (Puts g.W.Sink.taken g.W.Sink.write_failures c.args.output.now c.put.new.output) told.1 c.in_ok-put.ensures.ok)
+
+pub returns-clause-tally : goal.returns-clause-tally
+returns-clause-tally g c =
+    let read = c.in_ok-spoken.ensures.read in
+    tallied_next c.args.self.now _ read.0 (c.in_ok-spoken.ensures.ok read.0 read.1).0

@@ -1,9 +1,10 @@
-use Rattle.std.proofs.Common.{◌≡◌, ◌∙◌, ℕ, Option, Some, None, refl, ap}
+use Rattle.std.proofs.Common.{◌≡◌, ◌∙◌, ℕ, List, Option, Some, None, refl, ap}
 use Rattle.cq_text.specs.declared.fault.Kind.{Kind}
 use Rattle.cq_text.specs.declared.form.Form.{Form}
 use Rattle.cq_report.specs.declared.numbering.Numbering.{Numbering}
 use Rattle.cq_report.specs.Reply.{Misread}
-use Rattle.cq_report.specs.Machine.{State, form_in, form_of, headed, served, spoken, unnumbered}
+use Rattle.cq_report.specs.Machine.{State, form_in, form_of, headed, served, spoken}
+use Rattle.cq_report.specs.Steps.Saying.{Saying, said_in}
 use Rattle.cq_report.specs.Reading.{Reading, Reads, Faulty}
 use Rattle.cq_report.proofs.Answering.{on_ok, both_ok, only_command, only_the_fault, the_fault, of_each}
 use Rattle.cq_report.proofs.machine.Machine.serve_line.Goals as goal
@@ -22,7 +23,7 @@ returns-in-Ok-clause-ok g c =
     let line = c.args.line.now in
     let only = only_command (form_in old) line c.in-Ok.command (rw c.form-form.ensures at c.in-Ok.ensures.only) (rw c.form-form.ensures at c.in-Ok.ensures.only_fault) in
     both_ok c.serve.result _ _ _
-    (λ said state is. of_each (form_in old) line (Reads c.in-Ok.command) only (λ (reading : Reading). (c.serve.new.self ≡ served old reading) × (said ≡ unnumbered old reading)) (state, is))
+    (λ said state is. of_each (form_in old) line (Reads c.in-Ok.command) only (λ (reading : Reading). (c.serve.new.self ≡ served old reading) × (said ≡ said_in old reading)) (state, is))
     c.serve.ensures.state c.serve.ensures.said
 
 pub returns-in-Err-At-clause-read : goal.returns-in-Err-At-clause-read
@@ -37,5 +38,8 @@ returns-in-Err-At-clause-ok g c =
     let only = only_the_fault (form_in old) line _ c.in-Err-At.kind c.in-Err-At.offset c.in-Err-At.field-0-is (rw c.form-form.ensures at c.in-Err-At.ensures.only) (rw c.form-form.ensures at c.in-Err-At.ensures.only_fault) in
     let state : c.settle.new.self ≡ served old reading = c.settle.ensures ∙ rw c.form-form.ensures (ap (λ (h : Option Form). record old { heading = h }) (settled old.heading c.in-Err-At.kind c.in-Err-At.offset)) in
     let same = ap (λ (s : State). s.numbering) (c.self-in-Err-At.view_is ∙ c.settle.ensures) in
-    let told : c.of_line.result ≡ unnumbered old reading = c.of_line.ensures ∙ c.fault_told.ensures ∙ ap (λ (numbering : Numbering). spoken numbering (Misread c.in-Err-At.kind c.in-Err-At.offset)) same in
-    of_each (form_in old) line reading only (λ (other : Reading). (c.settle.new.self ≡ served old other) × (c.of_line.result ≡ unnumbered old other)) (state, told)
+    let bytes = c.fault_told-line.ensures ∙ ap (λ (numbering : Numbering). spoken numbering (Misread c.in-Err-At.kind c.in-Err-At.offset)) same in
+    let told : c.of_line.result ≡ said_in old reading =
+    c.of_line.ensures ∙ ap (λ (b : List ℕ). let said : Saying = record { bytes = b; why = Some c.fault_refusal.result } in said) bytes
+    ∙ ap (λ (w : List ℕ). let said : Saying = record { bytes = spoken old.numbering (Misread c.in-Err-At.kind c.in-Err-At.offset); why = Some w } in said) c.fault_refusal.ensures in
+    of_each (form_in old) line reading only (λ (other : Reading). (c.settle.new.self ≡ served old other) × (c.of_line.result ≡ said_in old other)) (state, told)

@@ -4,7 +4,7 @@ use Rattle.cq_report.proofs.machine.Machine.tell.Goals as goal
 
 pub returns : goal.returns
 returns g c =
-    let told = c.in_ok-told.told in
+    let told = c.in_ok-told.told.bytes in
     record {
       told = told;
       is_told = c.in_ok-told.ensures;

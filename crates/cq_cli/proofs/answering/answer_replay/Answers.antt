@@ -1,8 +1,0 @@
-use Rattle.cq_cli.proofs.Telling.{not_refused, run_not_refused, run_reported}
-use Rattle.cq_cli.proofs.answering.answer_replay.Goals as goal
-
-pub returns-clause-failures : goal.returns-clause-failures
-returns-clause-failures g c = rw c.of_run.ensures (run_reported _ _ c.in-Err.fault c.in-Err.ensures.turn c.in-Err.ensures.read_failures c.in-Err.ensures.write_failures)
-
-pub returns-clause-refused : goal.returns-clause-refused
-returns-clause-refused g c = rw c.of_run.ensures (not_refused _ _ _ _ _ (run_not_refused c.in-Err.fault))
