@@ -1,5 +1,5 @@
 -- What a whole run wrote.
-use Rattle.std.proofs.Common.{◌≡◌, ℕ, Bool, false, List, [], ◌++◌, Option, None, Some, IfSome, inl, inr, refl, sym, ap, subst, ◌∙◌, append-nil, append_assoc}
+use Rattle.std.proofs.Common.{◌≡◌, ℕ, Bool, true, false, List, [], ◌++◌, Option, None, Some, IfSome, inl, inr, refl, sym, ap, subst, ◌∙◌, append-nil, append_assoc}
 use Rattle.std.specs.Prelude.{◌⊎◌}
 use Rattle.std.specs.Io.KnownBytes.{Appends, Consumes}
 use Rattle.std.proofs.KnownBytes.{Consumes-whole, Consumes-trans}
@@ -14,7 +14,8 @@ use Rattle.cq_report.specs.declared.numbering.Numbering.TheVariants.{Plain}
 use Rattle.cq_report.specs.Lines.{lines_of, whole_lines}
 use Rattle.cq_report.specs.Reading.{Reading}
 use Rattle.cq_report.specs.Machine.{State, begin_state}
-use Rattle.cq_report.specs.Output.{AreReadings, Heard, output, left_in, left_after}
+use Rattle.cq_report.specs.Refusals.{no_refusal}
+use Rattle.cq_report.specs.Output.{AreReadings, Heard, IsRefusedLast, output, left_in, left_after}
 use Rattle.cq_report.specs.Steps.Replies.{fault_of_reply}
 use Rattle.cq_report.specs.Steps.Written.{Passes}
 use Rattle.cq_report.specs.Run.{IfRead, WroteWholeLines, WroteFront}
@@ -54,15 +55,24 @@ never_halts : {W A : Type 0} (taken : W → Option (List ℕ)) (failures : W →
 never_halts taken failures first opening now state bytes P (inl p) = p
 never_halts taken failures first opening now state bytes P (inr halted) = absurd (let no = halted.strict in cc)
 
+-- all lines were heard: of a strict script none was refused, or the last one
+heard_all : (is_strict : Bool) (state : State) (more : List (List ℕ)) → more ≡ [] → (is_strict ≡ true → (state.tally ≡ no_refusal) ⊎ IsRefusedLast state)
+    → ((more ≡ []) × (is_strict ≡ true → state.tally ≡ no_refusal)) ⊎ ((is_strict ≡ true) × IsRefusedLast state)
+heard_all false state more none strict = inl (none, λ is. absurd (cc))
+heard_all true state more none strict = elim (strict refl) [
+  | inl clean ↦ inl (none, λ _. clean)
+  | inr last ↦ inr (refl, last)
+]
+
 module _ {W A : Type 0} (taken : W → Option (List ℕ)) (failures : W → ℕ) (numbering : Numbering) (opening : State) (left left' : Option (List ℕ)) (first now : Output W A) where
   -- all was read and its output written
   heard_whole : (is_strict : Bool) (state : State) (t t' : Option (List ℕ)) (bytes : List ℕ) → first.held.now.items ≡ [] → now.held.now.items ≡ [] → taken first.sink.now ≡ t → taken now.sink.now ≡ t'
-      → Finished taken failures first (begin_state numbering) now state bytes → Heard is_strict numbering bytes t t' state
-  heard_whole is_strict state t t' bytes none held e e' finished = record {
+      → (is_strict ≡ true → (state.tally ≡ no_refusal) ⊎ IsRefusedLast state) → Finished taken failures first (begin_state numbering) now state bytes → Heard is_strict numbering bytes t t' state
+  heard_whole is_strict state t t' bytes none held e e' strict finished = record {
     lines = lines_of bytes;
     more = [];
     cut = sym (append-nil (lines_of bytes));
-    ends = inl refl;
+    ends = heard_all is_strict state [] refl strict;
     readings = finished.readings;
     are = finished.are;
     wrote = λ rs h. let all = finished.all rs h in (all.0, rw (← e, ← e') (Passes-all _ _ _ _ _ all.1.passed none held));
@@ -90,7 +100,7 @@ module _ {W A : Type 0} (taken : W → Option (List ℕ)) (failures : W → ℕ)
   Replayed-heard is_strict state t t' begins none e e' r0 =
       let r = subst (λ (s : State). Replayed is_strict taken failures s state left left' first now) begins r0 in
       elim r.ends [
-        | inl ended ↦ Consumes-whole left left' r.bytes (λ input. Heard is_strict numbering input t t' state) r.read ended.0 (heard_whole is_strict state t t' r.bytes none r.held e e' ended.1)
+        | inl ended ↦ Consumes-whole left left' r.bytes (λ input. Heard is_strict numbering input t t' state) r.read ended.0 (heard_whole is_strict state t t' r.bytes none r.held e e' r.strict ended.1)
         | inr halted ↦ Consumes-front left left' r.bytes (λ input. Heard is_strict numbering input t t' state) r.read (λ behind. heard_front is_strict state t t' r.bytes behind none r.held e e' halted)
       ]
 

@@ -1,6 +1,6 @@
 -- Which lines were refused, line by line.
-use Rattle.std.proofs.Common.{◌≡◌, ◌+◌, ◌∙◌, ℕ, true, false, List, sym, ap}
-use Rattle.std.specs.Prelude.{Option, Some, None}
+use Rattle.std.proofs.Common.{◌≡◌, ◌+◌, ◌∙◌, ℕ, true, false, List, inl, inr, sym, ap}
+use Rattle.std.specs.Prelude.{◌⊎◌, Option, Some, None}
 use Rattle.std.specs.Option.{is_some}
 use Rattle.cq_report.specs.declared.refusal.Tally.{Tally}
 use Rattle.cq_report.specs.Refusals.{refusal, no_refusal, tallied}
@@ -31,3 +31,12 @@ last_by (Some w) line state same is some = (w, is ∙ ap (λ (n : ℕ). tallied 
 -- the last one was refused, and none before it, where none had been and there is a first one
 pub refused_last : (old new : State) → IsTallied old new → old.tally ≡ no_refusal → is_some new.tally.first ≡ true → IsRefusedLast new
 refused_last old new one clean some = last_by one.why (old.lines + 1) new one.lines (one.tally ∙ ap (λ (t : Tally). tallied t (old.lines + 1) one.why) clean) some
+
+one_by : (why : Option (List ℕ)) (line : ℕ) (state : State) → state.lines ≡ line → state.tally ≡ tallied no_refusal line why → (state.tally ≡ no_refusal) ⊎ IsRefusedLast state
+one_by None line state same is = inl is
+one_by (Some w) line state same is = inr (w, is ∙ ap (λ (n : ℕ). tallied no_refusal n (Some w)) (sym same))
+
+-- where none had been refused, no line was, or the last one
+pub clean_or_last : (old new : State) → (new ≡ old) ⊎ IsTallied old new → old.tally ≡ no_refusal → (new.tally ≡ no_refusal) ⊎ IsRefusedLast new
+clean_or_last old new (inl same) clean = inl (ap (λ (s : State). s.tally) same ∙ clean)
+clean_or_last old new (inr one) clean = one_by one.why (old.lines + 1) new one.lines (one.tally ∙ ap (λ (t : Tally). tallied t (old.lines + 1) one.why) clean)

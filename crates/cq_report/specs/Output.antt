@@ -8,6 +8,7 @@ use Rattle.cq_report.specs.declared.numbering.Numbering.TheVariants.{Plain}
 use Rattle.cq_report.specs.declared.refusal.Tally.{Tally}
 use Rattle.cq_report.specs.Lines.{lines_of}
 use Rattle.cq_report.specs.Reading.{Reading, IsReading}
+use Rattle.cq_report.specs.Refusals.{no_refusal}
 use Rattle.cq_report.specs.Machine.{State, ServingRecord, begin_state, form_of, headed, next, reply, serving_of, shown}
 
 -- Each line has its reading, in the form that is settled before it.
@@ -39,13 +40,13 @@ output numbering readings = output_from (begin_state numbering) readings
 abbrev pub IsRefusedLast : State → Type 0
 IsRefusedLast state = (why : List ℕ) × (state.tally ≡ record { refused = 1; first = Some (record { line = state.lines; why = why }) })
 
--- All lines of a script, or, where it is strict, those down to the first that is refused: they have readings, and however they are read, their output was
--- written, and this state is left.
+-- All lines of a script, or, where it is strict and a line is refused, those down to the first such line: they have readings, and however they are read,
+-- their output was written, and this state is left.
 pub record Heard (is_strict : Bool) (numbering : Numbering) (input : List ℕ) (taken taken' : Option (List ℕ)) (state : State) : Type 0 where
   pub lines : List (List ℕ)
   pub more : List (List ℕ)
   pub cut : lines_of input ≡ lines ++ more
-  pub ends : (more ≡ []) ⊎ ((is_strict ≡ true) × IsRefusedLast state)
+  pub ends : ((more ≡ []) × (is_strict ≡ true → state.tally ≡ no_refusal)) ⊎ ((is_strict ≡ true) × IsRefusedLast state)
   pub readings : List Reading
   pub are : AreReadings lines readings
   pub wrote : (rs : List Reading) → AreReadings lines rs → (state ≡ state_after (begin_state numbering) rs) × Appends taken taken' (output numbering rs)

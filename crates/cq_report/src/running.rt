@@ -1,6 +1,6 @@
 //! Runs a script.
 
-ghost use Rattle.std.specs.Prelude.{◌≡◌, ◌==◌, ◌<◌, ◌≤◌, ◌+◌, ◌^◌, ℕ, List, length, position, ◌++◌, ◌∷◌, [], OnOk, OnErr, IfOk, IfErr, IfSome, IfNone, MatchResult, true};
+ghost use Rattle.std.specs.Prelude.{◌≡◌, ◌==◌, ◌<◌, ◌≤◌, ◌+◌, ◌^◌, ◌⊎◌, ℕ, List, length, position, ◌++◌, ◌∷◌, [], OnOk, OnErr, IfOk, IfErr, IfSome, IfNone, MatchResult, true};
 ghost use Rattle.cq_report.specs.Refusals.{no_refusal};
 ghost use Rattle.cq_report.specs.Output.{Heard};
 ghost use Rattle.cq_devices.specs.Device.{FailedAtTurn};
@@ -110,6 +110,7 @@ fn finish<W: Sink, A: Allocator + Copy>(
     requires lines { lines_before machine.old < 2 ^ 62 }
     requires failures { W.write_failures output.old.sink.now < 2 ^ 62 }
     ensures ok { OnOk result (Finishes W.taken W.write_failures output.old output.new machine.old machine.new line.now) }
+    ensures tally { OnOk result ((machine.new ≡ machine.old) ⊎ IsTallied machine.old machine.new) }
     ensures held { OnOk result (output.new.held.now.items ≡ []) }
     ensures sound { OnOk result (IsSound W.write_failures output.old output.new) }
     ensures err { IfErr result (λ fault. StopsOn W.taken W.write_failures output.old output.new machine.old line.now [] (fault_of_reply fault)) }

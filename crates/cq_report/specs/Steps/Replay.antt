@@ -6,6 +6,7 @@ use Rattle.cq_report.specs.declared.output.Output.{Output}
 use Rattle.cq_report.specs.declared.fault.RunFault.{RunFault}
 use Rattle.cq_report.specs.Machine.{State}
 use Rattle.cq_report.specs.Output.{IsRefusedLast}
+use Rattle.cq_report.specs.Refusals.{no_refusal}
 use Rattle.cq_report.specs.Steps.Serving.{Served, Finished, Stopped, Starved}
 
 -- The bytes were served down to a line that was refused, of a strict script.
@@ -18,11 +19,13 @@ pub record Halted {W A : Type 0} (is_strict : Bool) (taken : W → Option (List 
   pub strict : is_strict ≡ true
   pub refused : IsRefusedLast state
 
--- Bytes were read, and all lines answered: no bytes were left, or a strict script came to a line that was refused.
+-- Bytes were read, and all lines answered: no bytes were left, or a strict script came to a line that was refused. Of a strict script no line was refused but
+-- the last.
 pub record Replayed {W A : Type 0} (is_strict : Bool) (taken : W → Option (List ℕ)) (failures : W → ℕ) (opening state : State) (left left' : Option (List ℕ)) (first now : Output W A) : Type 0 where
   pub bytes : List ℕ
   pub read : Consumes left left' bytes
   pub ends : (IsAtEnd left' × Finished taken failures first opening now state bytes) ⊎ Halted is_strict taken failures first opening now state bytes
+  pub strict : is_strict ≡ true → (state.tally ≡ no_refusal) ⊎ IsRefusedLast state
   pub held : now.held.now.items ≡ []
 
 -- Bytes were read and served, and nothing waits.

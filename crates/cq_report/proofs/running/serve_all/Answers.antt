@@ -7,6 +7,7 @@ use Rattle.std.proofs.lemmas.List.{length-take}
 use Rattle.std.proofs.lemmas.Result.{err_from_is_err_and}
 use Rattle.cq_report.proofs.Served.{Served-nothing, Served-passed, Stopped-passing, Stopped-reading, IsSound-nothing, IsSound-then, IsSound-puts}
 use Rattle.cq_report.proofs.Halting.{Halts-passed, Halts-breaks}
+use Rattle.cq_report.proofs.Tallying.{clean_or_last}
 use Rattle.cq_report.proofs.Starving.{IfMemory-weaker, RanOut-behind, RanOut-on}
 use Rattle.cq_report.proofs.running.serve_all.Goals as goal
 
@@ -46,6 +47,7 @@ returns-then-len-eq0-clause-ok g c =
       bytes = i.bytes;
       read = Consumes-none _ _ _ _ i.read none;
       ends = inl (c.in-Ok.ensures.bytes.1 c.if-len-eq0.true (omega arith), c.in_ok-finish.ensures.ok _ _ _ i.served);
+      strict = λ yes. clean_or_last _ _ c.in_ok-finish.ensures.tally (i.clean yes);
       held = c.in_ok-finish.ensures.held;
     }
 
@@ -174,5 +176,6 @@ returns-then-halted-clause-ok g c =
       bytes = i.bytes ++ piece;
       read = Consumes-trans _ _ _ i.bytes piece i.read c.in-Ok.ensures.bytes.0;
       ends = inr (Halts-passed _ _ _ _ _ _ _ _ _ _ _ _ i.bytes piece fed.1 i.served fed.0 c.in_ok-finish-2.ensures.ok);
+      strict = λ _. inr fed.0.refused;
       held = c.in_ok-finish-2.ensures.held;
     }
