@@ -7,7 +7,7 @@ _board_words() {
     '') options='-h --help -V --version' takes='commands' ;;
     replay) options='--number --strict --summary --memory -h --help' valued='--memory' takes='files' ;;
     live) options='--json --memory -h --help' valued='--memory' takes='files' ;;
-    rows) options='--memory -h --help' valued='--memory' takes='files' ;;
+    rows) options='--header --delimiter --memory -h --help' valued='--delimiter --memory' takes='files' ;;
     sessions) options='--memory -h --help' valued='--memory' takes='files' ;;
     explain) options='--file --memory -h --help' valued='--file --memory' filed='--file' ;;
     graph) options='--memory -h --help' valued='--memory' takes='files' ;;

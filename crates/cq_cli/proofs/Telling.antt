@@ -1,7 +1,7 @@
 -- What is said of a board that a script leaves.
 use Rattle.std.proofs.Common.{◌≡◌, ◌∙◌, ◌<◌, ℕ, Bool, true, false, ◌+◌, nat_le, List, Option, refl, sym, ap, subst, arith, inl, inr}
 use Rattle.std.proofs.lemmas.Bool.Decides.{nat_tests}
-use Rattle.std.specs.Prelude.{◌↔◌, ◌⊎◌, Result, Ok, Err, IfOk, IfErr, IfSome}
+use Rattle.std.specs.Prelude.{◌⊎◌, Result, Ok, Err, IfOk, IfErr, IfSome}
 use Rattle.std.proofs.lemmas.Option.{IfSome_then}
 use Rattle.cq_board.specs.Choice.{ChoiceRecord}
 use Rattle.cq_report.specs.declared.fault.RunFault.{RunFault}
@@ -155,8 +155,9 @@ rows_reported before after words writer of_record of_memory (rows.Read n) h read
 rows_reported before after words writer of_record of_memory rows.Write h reads writes = record { read = λ _. refl; write = λ _. refl; failed = λ _. inl (omega (arith, writes)) }
 rows_reported before after words writer of_record of_memory rows.BadName h reads writes = none_failed before after Usage (λ is. cc) (reads (λ no. no)) (omega (arith, writes))
 rows_reported before after words writer of_record of_memory rows.BadArity h reads writes = none_failed before after Usage (λ is. cc) (reads (λ no. no)) (omega (arith, writes))
-rows_reported before after words writer of_record of_memory (rows.Width index arity) h reads writes = none_failed before after BadRecord (λ is. cc) (reads (λ no. no)) (omega (arith, writes))
-rows_reported before after words writer of_record of_memory (rows.Text index) h reads writes = none_failed before after BadRecord (λ is. cc) (reads (λ no. no)) (omega (arith, writes))
+rows_reported before after words writer of_record of_memory rows.BadDelimiter h reads writes = none_failed before after Usage (λ is. cc) (reads (λ no. no)) (omega (arith, writes))
+rows_reported before after words writer of_record of_memory (rows.Width index arity fields) h reads writes = none_failed before after BadRecord (λ is. cc) (reads (λ no. no)) (omega (arith, writes))
+rows_reported before after words writer of_record of_memory (rows.Text index field flaw) h reads writes = none_failed before after BadRecord (λ is. cc) (reads (λ no. no)) (omega (arith, writes))
 rows_reported before after words writer of_record of_memory rows.NoMemory h reads writes = none_failed before after NoMemory (λ is. cc) (reads (λ no. no)) (omega (arith, writes))
 
 not_below : (m n : ℕ) → m < n → nat_le n m ≡ false

@@ -4,4 +4,5 @@ pub mod Rows
 pub mod Sessions
 pub mod Views
 pub mod Explained
+pub mod Noted
 pub mod Steps

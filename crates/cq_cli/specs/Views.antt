@@ -5,7 +5,6 @@ use Rattle.json.specs.Print.{print}
 use Rattle.json.specs.Tree.{json_tokens}
 use Rattle.cq_ask.specs.Choices.{StandForChoices}
 use Rattle.cq_board.specs.Choice.{ChoiceRecord, IsCoordinating}
-use Rattle.cq_board.specs.Pool.{PoolRecord}
 use Rattle.cq_render.specs.Report.{line}
 use Rattle.cq_render.specs.Graph.{graph}
 use Rattle.cq_render.specs.Json.{json_of}
@@ -15,11 +14,12 @@ use Rattle.cq_going.specs.Grouping.{AreGroupsTold}
 use Rattle.cq_report.specs.Machine.{shown}
 use Rattle.cq_report.specs.Output.{Left}
 use Rattle.cq_report.specs.Summary.{warning}
-use Rattle.cq_render.specs.Explain.{IsExplained}
+use Rattle.cq_render.specs.Explain.{ArePieces, IsExplained}
 use Rattle.cq_cli.specs.declared.status.Status.{Status}
 use Rattle.cq_cli.specs.declared.status.Status.TheVariants.{Done, NotSo}
 use Rattle.cq_cli.specs.Status.{status_of_outcome}
 use Rattle.cq_cli.specs.Explained.{absent_names, absent_lines, status_of_absent}
+use Rattle.cq_cli.specs.Noted.{IsNoted}
 
 -- Words that are told, behind the program's name and that of the file, where there is one; nothing where there are none.
 abbrev pub told_line : List ℕ → List ℕ → List ℕ
@@ -49,11 +49,12 @@ pub record IsSought (names : List (List ℕ)) (left : Left) (status : Status) (t
   pub told : IsSoughtTold (shown left.floor) names outcome text
   pub quiet : notes ≡ []
 
--- Whether the choices coordinate.
+-- Whether the choices coordinate; and beside it what is wrong with those that are none by themselves.
 abbrev pub IsJudged : List ChoiceRecord → Telling
 IsJudged choices left status text notes =
-    ((status ≡ Done) × IsCoordinating (shown left.floor) choices × (text ≡ codes "coordinating\n") × (notes ≡ []))
-    ⊎ ((status ≡ NotSo) × (IsCoordinating (shown left.floor) choices → ⊥) × (text ≡ codes "not coordinating\n") × (notes ≡ []))
+    (((status ≡ Done) × IsCoordinating (shown left.floor) choices × (text ≡ codes "coordinating\n"))
+    ⊎ ((status ≡ NotSo) × (IsCoordinating (shown left.floor) choices → ⊥) × (text ≡ codes "not coordinating\n")))
+    × ArePieces (IsNoted (shown left.floor)) choices notes
 
 -- Why the queries of these names wait, or all that do; and beside it the names under which no query is pending.
 abbrev pub AreExplained : List (List ℕ) → Telling

@@ -26,7 +26,8 @@ fn is_pending<A: Allocator + Copy>(
     }
 }
 
-fn absent_line<A: Allocator>(heap: A, name: &str) -> Result<String<A>, AllocError>
+/// That no query of that name is pending.
+pub(crate) fn absent_line<A: Allocator>(heap: A, name: &str) -> Result<String<A>, AllocError>
     ensures { IfOk result (λ text. string_bytes text ≡ absent_line name.now) }
 {
     format!(in heap; "board: no pending query {name}\n")

@@ -5,13 +5,12 @@ ghost use Rattle.cq_cli.specs.declared.status.Status.{Status};
 ghost use Rattle.cq_cli.specs.Status.{IsRefused};
 ghost use Rattle.cq_cli.specs.Devices.{counts, HaveRoom, LeavesRefused, ReportsFailures, ReportsWriting};
 
-use crate::looking::{answer_choice, answer_choose, answer_view};
+use crate::looking::answer_look;
 use crate::replaying::answer_replay;
-use crate::rows::write_rows;
+use crate::rows::{Hint, RowsFault, SheetWords, write_rows};
 use crate::sessions::{FileFault, serve_files};
 use crate::sizes::size_of;
 use crate::status::Status;
-use crate::views::{Explain, Graph, Groups, Json};
 use crate::wanted::{Task, VERSION_LINE, Wanted, read_words};
 use crate::writing::{tell, tell_fault, write_text};
 use clap::Error;
@@ -25,6 +24,20 @@ use std::fs;
 use std::fs::Files;
 use std::sync::Wait;
 use std::thread::Threads;
+
+/// That the first record of CSV seems to be a header.
+const HEADED: &str = "board: the first record seems to be a header; --header leaves it out
+";
+
+/// That the insert lines need a script of form 2.
+const OF_FORM_TWO: &str =
+    "board: a relation of more than 8 columns needs a script that begins with `board 2`
+";
+
+const HEADED_OF_FORM_TWO: &str =
+    "board: the first record seems to be a header; --header leaves it out
+board: a relation of more than 8 columns needs a script that begins with `board 2`
+";
 
 /// Writes a text, and tells where that failed.
 fn say<W: Sink, E: Sink>(alloc: Global, text: &str, sink: &mut W, errors: &mut E) -> Status
@@ -111,13 +124,30 @@ fn answer_live<A: Allocator + Copy, R: Source, W: Sink, E: Sink>(
     Status::of_live(fault)
 }
 
+/// What stands before a fault of rows: the file, which is not at fault for the words.
+fn origin_of(fault: RowsFault, origin: &str) -> &str {
+    match fault {
+        RowsFault::BadName | RowsFault::BadArity | RowsFault::BadDelimiter => "",
+        _ => origin,
+    }
+}
+
+/// What is told beside rows.
+fn hint_text(hint: Hint) -> &'static str {
+    match (hint.seems_headed, hint.needs_form_two) {
+        (false, false) => "",
+        (true, false) => HEADED,
+        (false, true) => OF_FORM_TWO,
+        (true, true) => HEADED_OF_FORM_TWO,
+    }
+}
+
 /// Writes the insert lines of the CSV that the source gives, and tells a fault of it.
 fn answer_rows<A: Allocator + Copy, R: Source, W: Sink, E: Sink>(
     alloc: Global,
     heap: A,
     origin: &str,
-    relation: &str,
-    arity: &str,
+    words: &SheetWords<'_>,
     source: &mut R,
     sink: &mut W,
     errors: &mut E,
@@ -127,11 +157,16 @@ fn answer_rows<A: Allocator + Copy, R: Source, W: Sink, E: Sink>(
     ensures failures { ReportsFailures (counts R.reads_made R.failures_met W.write_failures source.old sink.old) (counts R.reads_made R.failures_met W.write_failures source.new sink.new) result }
     ensures refused { LeavesRefused source.old source.new sink.old sink.new result }
 {
-    let Err(fault) = write_rows(heap, alloc, relation, arity, source, sink) else {
-        return Status::Done;
-    };
-    tell_fault(alloc, origin, &fault, errors);
-    Status::of_rows(fault)
+    match write_rows(heap, alloc, words, source, sink) {
+        Ok(hint) => {
+            tell(errors, hint_text(hint));
+            Status::Done
+        }
+        Err(fault) => {
+            tell_fault(alloc, origin_of(fault, origin), &fault, errors);
+            Status::of_rows(fault)
+        }
+    }
 }
 
 /// Serves the files, and tells a fault of it.
@@ -190,41 +225,12 @@ fn answer_task<
         Task::Live { numbering } => answer_live(
             alloc, heap, origin, *numbering, source, sink, errors,
         ),
-        Task::Rows { relation, arity } => {
-            answer_rows(alloc, heap, origin, relation, arity, source, sink, errors)
-        }
+        Task::Rows(words) => answer_rows(alloc, heap, origin, words, source, sink, errors),
         Task::Sessions { setup, files } => {
             answer_sessions(host, alloc, heap, setup, files, sink, errors)
         }
-        Task::Graph => answer_view(alloc, heap, origin, &Graph, source, sink, errors),
-        Task::Json => answer_view(alloc, heap, origin, &Json, source, sink, errors),
-        Task::Groups { steps } => {
-            answer_view(
-                alloc,
-                heap,
-                origin,
-                &Groups { steps: *steps },
-                source,
-                sink,
-                errors,
-            )
-        }
-        Task::Explain { names } => {
-            answer_view(
-                alloc,
-                heap,
-                origin,
-                &Explain { names },
-                source,
-                sink,
-                errors,
-            )
-        }
+        Task::Look(wanted) => answer_look(alloc, heap, origin, wanted, source, sink, errors),
         Task::Version => say(alloc, VERSION_LINE, sink, errors),
-        Task::Choice { words } => answer_choice(alloc, heap, origin, words, source, sink, errors),
-        Task::Choose { words, steps } => {
-            answer_choose(alloc, heap, origin, words, *steps, source, sink, errors)
-        }
     }
 }
 

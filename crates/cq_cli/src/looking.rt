@@ -18,7 +18,8 @@ ghost use Rattle.cq_ask.specs.Choices.{StandForNone};
 use crate::choices::{read_choices, read_names};
 use crate::fault::AnswerFault;
 use crate::status::Status;
-use crate::views::{Choose, Judge, View};
+use crate::views::{Choose, Explain, Graph, Groups, Json, Judge, View};
+use crate::wanted::Look;
 use crate::writing::{tell, tell_fault, write_text};
 use cq_devices::{Sink, Source};
 use cq_report::{Played, RunFault, put_warning, read_script};
@@ -105,7 +106,7 @@ fn end_with<E: Sink>(
 }
 
 /// Reads the script that the source gives, and writes what is asked of what it leaves, or tells a fault.
-pub(crate) fn answer_view<A: Allocator + Copy, V: View<A>, R: Source, W: Sink, E: Sink>(
+fn answer_view<A: Allocator + Copy, V: View<A>, R: Source, W: Sink, E: Sink>(
     alloc: Global,
     heap: A,
     origin: &str,
@@ -126,7 +127,7 @@ pub(crate) fn answer_view<A: Allocator + Copy, V: View<A>, R: Source, W: Sink, E
 }
 
 /// Reads choices from words, and says whether they coordinate on the board that the script leaves, or tells what is wrong with the words.
-pub(crate) fn answer_choice<A: Allocator + Copy, R: Source, W: Sink, E: Sink>(
+fn answer_choice<A: Allocator + Copy, R: Source, W: Sink, E: Sink>(
     alloc: Global,
     heap: A,
     origin: &str,
@@ -156,7 +157,7 @@ pub(crate) fn answer_choice<A: Allocator + Copy, R: Source, W: Sink, E: Sink>(
 
 /// Reads names from words, and looks for a coordinating choice on the board that the script leaves which has the queries of these names; or tells what is
 /// wrong with the words.
-pub(crate) fn answer_choose<A: Allocator + Copy, R: Source, W: Sink, E: Sink>(
+fn answer_choose<A: Allocator + Copy, R: Source, W: Sink, E: Sink>(
     alloc: Global,
     heap: A,
     origin: &str,
@@ -184,6 +185,39 @@ pub(crate) fn answer_choose<A: Allocator + Copy, R: Source, W: Sink, E: Sink>(
         Err(bad) => {
             tell_fault(alloc, "", &bad, errors);
             Status::of_choices(bad)
+        }
+    }
+}
+
+/// Reads the script that the source gives, and writes what is wanted of the board that it leaves, or tells a fault.
+pub(crate) fn answer_look<A: Allocator + Copy, R: Source, W: Sink, E: Sink>(
+    alloc: Global,
+    heap: A,
+    origin: &str,
+    wanted: &Look<'_>,
+    source: &mut R,
+    sink: &mut W,
+    errors: &mut E,
+) -> Status
+    requires devices { HaveRoom (counts R.reads_made R.failures_met W.write_failures source.old sink.old) }
+    requires errors { E.write_failures errors.old < 2 ^ 62 }
+    ensures failures { ReportsFailures (counts R.reads_made R.failures_met W.write_failures source.old sink.old) (counts R.reads_made R.failures_met W.write_failures source.new sink.new) result }
+    ensures refused { LeavesRefused source.old source.new sink.old sink.new result }
+{
+    match wanted {
+        Look::Graph => answer_view(alloc, heap, origin, &Graph, source, sink, errors),
+        Look::Json => answer_view(alloc, heap, origin, &Json, source, sink, errors),
+        Look::Groups { steps } => {
+            let groups = Groups { steps: *steps };
+            answer_view(alloc, heap, origin, &groups, source, sink, errors)
+        }
+        Look::Explain { names } => {
+            let explain = Explain { names };
+            answer_view(alloc, heap, origin, &explain, source, sink, errors)
+        }
+        Look::Choice { words } => answer_choice(alloc, heap, origin, words, source, sink, errors),
+        Look::Choose { words, steps } => {
+            answer_choose(alloc, heap, origin, words, *steps, source, sink, errors)
         }
     }
 }

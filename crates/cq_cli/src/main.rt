@@ -1,7 +1,7 @@
 //! The program `board`: replays a script, turns CSV into the insert lines of one, serves files, or tells something of the board that a script leaves.
 //!
 //! `wanted` says what the words ask for, `sizes` reads numbers of bytes from words, and `choices` choices. `replaying` replays a script, `rows` writes the insert lines of CSV,
-//! `views` says what is told of a board, `absent` of names under which no query is pending, and `looking` reads a script and writes that. `prompting` prompts at a
+//! `views` says what is told of a board, `absent` of names under which no query is pending, `noting` of choices that are none by themselves, and `looking` reads a script and writes that. `prompting` prompts at a
 //! terminal, and `answering` turns words, a source
 //! and two sinks into the status that `status` numbers; `main` only opens the three standard streams. What a
 //! script means stands in the crates below.
@@ -12,6 +12,7 @@ mod answering;
 mod choices;
 mod fault;
 mod looking;
+mod noting;
 mod prompting;
 mod replaying;
 mod rows;

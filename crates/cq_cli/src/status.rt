@@ -144,12 +144,10 @@ impl Status {
         ensures { result ≡ status_of_rows fault }
     {
         match fault {
-            RowsFault::BadName | RowsFault::BadArity => Status::Usage,
+            RowsFault::BadName | RowsFault::BadArity | RowsFault::BadDelimiter => Status::Usage,
             RowsFault::Read { turn: _ } | RowsFault::Write => Status::Failed,
             RowsFault::NoMemory => Status::NoMemory,
-            RowsFault::Width { index: _, arity: _ } | RowsFault::Text { index: _ } => {
-                Status::BadRecord
-            }
+            RowsFault::Width { .. } | RowsFault::Text { .. } => Status::BadRecord,
         }
     }
 }

@@ -10,6 +10,7 @@ ghost use Rattle.cq_cli.specs.Status.{IsTold};
 ghost use Rattle.cq_cli.specs.Views.{IsJudged};
 
 use crate::absent::{put_absent, status_of_absent};
+use crate::noting::put_notes;
 use crate::status::Status;
 use cq_atom::Name;
 use cq_board::{Board, Choice};
@@ -158,11 +159,14 @@ impl<'a, A: Allocator + Copy> View<A> for Judge<'a, A> {
     ghost tells = { λ judge. IsJudged judge.choices.now };
 
     fn look(&self, heap: A, script: &Played<A>) -> Result<Seen<A>, AllocError> {
-        let (status, text) = verdict(script.board().check_choice(self.choices));
+        let board = script.board();
+        let (status, text) = verdict(board.check_choice(self.choices));
+        let mut notes = String::new(heap);
+        put_notes(heap, board, self.choices, &mut notes)?;
         Ok(Seen {
             status,
             text: String::from_str(heap, text)?,
-            notes: String::new(heap),
+            notes,
         })
     }
 }

@@ -1,6 +1,7 @@
 //! The words of the command line, by the kit's `clap`.
 
 use crate::replaying::Replaying;
+use crate::rows::SheetWords;
 use clap::{Arg, ArgAction, ArgMatches, Command, Error, value_parser};
 use cq_going::MOST_STEPS;
 use cq_report::Numbering;
@@ -91,9 +92,10 @@ docs/formats.md describes the language.";
 const ABOUT_ROWS: &str = "Reads CSV, and writes an insert line for each record, in order.";
 
 const BEHIND_ROWS: &str =
-    "There is no header row. A field that is a number of the script language is that number; any other is a
-text. Where a record is at fault, the first such is told, counted from 0, and no line is written. Where the rows need more
-memory than there is, or than --memory allows, `board: out of memory` is told, and no line is written.
+    "A field that is a number of the script language is that number; any other is a text. Where a record is at fault, the first such
+is told, counted from 0 behind the header, with its fields, and no line is written. Where the rows need more memory than there is, or than
+--memory allows, `board: out of memory` is told, and no line is written. Where the first record seems to be a header, and none was
+to be left out, that is told on standard error.
 
 Example:
   printf '122,Paris\\n007,\"Pa\"\"ris\"\\n' | board rows Flights 2
@@ -172,8 +174,8 @@ const ABOUT_CHOICE: &str = "Reads a script, and says whether a choice coordinate
 const BEHIND_CHOICE: &str =
     "The script is read as by `board replay`, and no reply is written. A CHOICE is a query's name with a value for each variable of
 its body in brackets, in the order in which the report lists them. The choices coordinate where they are of distinct pending
-queries, each a grounding of its query, and each postcondition equals a head of one of them under these values. The board is the published
-one, which a `show` behind the last line would print.
+queries, each a grounding of its query, and each postcondition equals a head of one of them under these values. What is wrong with a choice
+by itself is told on standard error. The board is the published one, which a `show` behind the last line would print.
 
 Example:
   board choice 'kramer(122)' 'jerry(122)' <pool.board
@@ -245,12 +247,7 @@ pub(crate) enum Task<'a> {
         numbering: Numbering,
     },
     /// CSV becomes insert lines.
-    Rows {
-        /// The word that stands for the relation's name.
-        relation: &'a str,
-        /// The word that stands for its arity.
-        arity: &'a str,
-    },
+    Rows(SheetWords<'a>),
     /// Files are served over one board.
     Sessions {
         /// The path of the setup.
@@ -258,34 +255,41 @@ pub(crate) enum Task<'a> {
         /// The paths of the files.
         files: Vec<&'a str>,
     },
-    /// The graph of the board that a script leaves is written.
+    /// Something is told of the board that a script leaves.
+    Look(Look<'a>),
+    /// The version is told.
+    Version,
+}
+
+/// What is to be told of a board.
+#[derive(Drop, Debug)]
+pub(crate) enum Look<'a> {
+    /// Its graph.
     Graph,
-    /// The report on the board that a script leaves is written in JSON.
+    /// The report on it, in JSON.
     Json,
-    /// It is told which queries of the board that a script leaves hang together, and whether they can go.
+    /// Which of its queries hang together, and whether they can go.
     Groups {
         /// How many groundings are tried for a group.
         steps: u64,
     },
-    /// A coordinating choice is sought on the board that a script leaves.
+    /// A coordinating choice.
     Choose {
         /// The words that stand for the queries' names.
         words: Vec<&'a str>,
         /// How many groundings are tried.
         steps: u64,
     },
-    /// It is reported why queries of the board that a script leaves wait.
+    /// Why its queries wait.
     Explain {
         /// The words that stand for the queries' names; none for all that wait.
         names: Vec<&'a str>,
     },
-    /// It is said whether choices coordinate on the board that a script leaves.
+    /// Whether choices coordinate.
     Choice {
         /// The words that stand for the choices.
         words: Vec<&'a str>,
     },
-    /// The version is told.
-    Version,
 }
 
 /// The option that bounds memory.
@@ -377,6 +381,20 @@ fn rows_command<'a>(alloc: Global) -> Result<Command<'a>, AllocError> {
             "How many fields a record has: a number, 1 to 16",
         ))?
         .arg(file(alloc))?
+        .arg(
+            Arg::new(alloc, "header")
+                .long("header")
+                .action(ArgAction::SetTrue)
+                .help("Leave the first record out, which is a header"),
+        )?
+        .arg(
+            Arg::new(alloc, "delimiter")
+                .long("delimiter")
+                .value_name("BYTE")
+                .help(
+                    "What stands between two fields; a comma where it is left out, \\t for a tab",
+                ),
+        )?
         .arg(memory(
             alloc,
             "The most bytes of memory that the rows may have at a time",
@@ -550,29 +568,31 @@ fn task_of<'a>(
         "live" => Task::Live {
             numbering: numbered(matches, "json", Numbering::Json),
         },
-        "rows" => Task::Rows {
+        "rows" => Task::Rows(SheetWords {
             relation: matches.get_str("RELATION").unwrap_or(""),
             arity: matches.get_str("ARITY").unwrap_or(""),
-        },
+            delimiter: matches.get_str("delimiter").unwrap_or(","),
+            has_header: matches.get_flag("header"),
+        }),
         "sessions" => Task::Sessions {
             setup: matches.get_str("SETUP").unwrap_or(""),
             files: words_of(alloc, matches, "FILE")?,
         },
-        "explain" => Task::Explain {
+        "explain" => Task::Look(Look::Explain {
             names: words_of(alloc, matches, "NAME")?,
-        },
-        "graph" => Task::Graph,
-        "json" => Task::Json,
-        "groups" => Task::Groups {
+        }),
+        "graph" => Task::Look(Look::Graph),
+        "json" => Task::Look(Look::Json),
+        "groups" => Task::Look(Look::Groups {
             steps: steps_of(matches),
-        },
-        "choose" => Task::Choose {
+        }),
+        "choose" => Task::Look(Look::Choose {
             words: words_of(alloc, matches, "NAME")?,
             steps: steps_of(matches),
-        },
-        "choice" => Task::Choice {
+        }),
+        "choice" => Task::Look(Look::Choice {
             words: words_of(alloc, matches, "CHOICE")?,
-        },
+        }),
         "version" => Task::Version,
         _ => Task::Replay(Replaying {
             numbering: numbered(matches, "number", Numbering::Numbered),

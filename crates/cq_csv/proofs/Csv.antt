@@ -1,8 +1,11 @@
 -- The records of a text, and the faults of records.
-use Rattle.std.proofs.Common.{◌≡◌, ◌≤◌, ◌<◌, ℕ, ◌+◌, ◌-◌, suc, zero, List, [], ◌∷◌, ◌++◌, length, take, filter_map, Option, Some, None, Bool, true, false, refl, ap, ◌∙◌, append_assoc, arith, length-append, subst, sym}
-use Rattle.std.specs.Prelude.{if◌then◌else◌, ◌&&◌, Ok, Err, Result, IfOk, IfErr, IfSome}
-use Rattle.std.specs.List.{list_all, enumerate_from, cons_option}
-use Rattle.std.proofs.lemmas.List.{append-nil}
+use Rattle.std.proofs.Common.{◌≡◌, ◌≤◌, ◌<◌, ℕ, ◌+◌, ◌-◌, suc, zero, List, [], ◌∷◌, ◌++◌, length, map, take, drop, filter_map, nat_le, Option, Some, None, Bool, true, false, refl, ap, ◌∙◌, append_assoc, arith, length-append, subst, sym}
+use Rattle.std.specs.Str.{IsUtf8, is_utf8}
+use Rattle.std.proofs.lemmas.Str.{IsUtf8-from_is_utf8}
+use Rattle.std.specs.Prelude.{if◌then◌else◌, Ok, Err, Result, IfOk, IfErr, IfSome, option_map}
+use Rattle.std.specs.List.{enumerate_from, cons_option}
+use Rattle.std.proofs.lemmas.List.{append-nil, drop-append-le, drop_all, length-drop, map-append, take-append-drop}
+use Rattle.std.proofs.lemmas.Bool.{leb-true, leb-false}
 use Rattle.csv.specs.Machine.{Read, ends_at_end, field_after, fields_after, is_end, next_record, step}
 use Rattle.csv.specs.Reading.{AreRecords, Reached, records, records_from, records_next, strip_bom, is_bom}
 use Rattle.csv.specs.Records.{field_at}
@@ -15,7 +18,7 @@ use Rattle.cq_atom.specs.declared.fault.Bad.{Bad}
 use Rattle.cq_devices.specs.Device.{ReadWhole}
 use Rattle.cq_csv.specs.declared.fault.CsvFault.{CsvFault}
 use Rattle.cq_csv.specs.declared.fault.CsvFault.TheVariants.{BadName, BadArity, Device, Width, Text, NoMemory}
-use Rattle.cq_csv.specs.Csv.{CsvRecord, IfOfRecord, first_of, is_field, record_fault, records_fault}
+use Rattle.cq_csv.specs.Csv.{CsvRecord, IfOfRecord, first_of, first_wrong, field_flaw, flaw_of, is_field, record_fault, records_fault}
 use Rattle.std.proofs.lemmas.Bool.{eq-eqb}
 
 -- ---- the records of a text
@@ -172,42 +175,81 @@ strip_bom-length (a ∷ b ∷ c ∷ rest) = by (is_bom a b c)
     by true = omega arith
     by false = omega arith
 
+-- ---- the first of some with which something is wrong
+
+module _ {X Y : Type 0} (wrong : ℕ × X → Option Y) where
+  first_behind : (n : ℕ) (xs ys : List X) → first_of (filter_map wrong (enumerate_from n xs)) ≡ None
+      → first_of (filter_map wrong (enumerate_from n (xs ++ ys))) ≡ first_of (filter_map wrong (enumerate_from (n + length xs) ys))
+  first_behind n [] ys e = ap (λ (k : ℕ). first_of (filter_map wrong (enumerate_from k ys))) (omega arith)
+  first_behind n (x ∷ xs) ys e =
+      by (wrong (n, x)) e (first_behind (n + 1) xs ys) ∙ ap (λ (k : ℕ). first_of (filter_map wrong (enumerate_from k ys))) (omega arith)
+    where
+      by : (o : Option Y) → first_of (cons_option o (filter_map wrong (enumerate_from (n + 1) xs))) ≡ None
+          → (first_of (filter_map wrong (enumerate_from (n + 1) xs)) ≡ None → first_of (filter_map wrong (enumerate_from (n + 1) (xs ++ ys))) ≡ first_of (filter_map wrong (enumerate_from ((n + 1) + length xs) ys)))
+          → first_of (cons_option o (filter_map wrong (enumerate_from (n + 1) (xs ++ ys)))) ≡ first_of (filter_map wrong (enumerate_from ((n + 1) + length xs) ys))
+      by None e more = more e
+      by (Some y) e more = cc e
+
+  at_place : (k n : ℕ) (x : X) (more : List X) (o : Option Y) → k ≡ n → wrong (n, x) ≡ o
+      → first_of (filter_map wrong (enumerate_from k (x ∷ more))) ≡ first_of (cons_option o (filter_map wrong (enumerate_from (k + 1) more)))
+  at_place k n x more o same e =
+      ap (λ (p : Option Y). first_of (cons_option p (filter_map wrong (enumerate_from (k + 1) more)))) (ap (λ (m : ℕ). wrong (m, x)) same ∙ e)
+
+  -- one more, with which nothing is
+  pub good_more : (read : List X) (n : ℕ) (x : X) → first_wrong wrong read ≡ None → length read ≡ n → wrong (n, x) ≡ None → first_wrong wrong (read ++ (x ∷ [])) ≡ None
+  good_more read n x good count e = first_behind 0 read (x ∷ []) good ∙ at_place (0 + length read) n x [] None (omega (arith, count)) e
+
+  -- one behind good ones, with which something is
+  pub first_bad : (read : List X) (n : ℕ) (x : X) (more : List X) (y : Y) → first_wrong wrong read ≡ None → length read ≡ n → wrong (n, x) ≡ Some y
+      → first_wrong wrong ((read ++ (x ∷ [])) ++ more) ≡ Some y
+  first_bad read n x more y good count e =
+      ap (first_wrong wrong) (append_assoc read (x ∷ []) more) ∙ first_behind 0 read (x ∷ more) good ∙ at_place (0 + length read) n x more (Some y) (omega (arith, count)) e
+
 -- ---- the faults of records
 
-module _ (arity : ℕ) where
-  first_behind : (n : ℕ) (xs ys : List CsvRecord) → first_of (filter_map (record_fault arity) (enumerate_from n xs)) ≡ None
-      → first_of (filter_map (record_fault arity) (enumerate_from n (xs ++ ys))) ≡ first_of (filter_map (record_fault arity) (enumerate_from (n + length xs) ys))
-  first_behind n [] ys e = ap (λ (k : ℕ). first_of (filter_map (record_fault arity) (enumerate_from k ys))) (omega arith)
-  first_behind n (x ∷ xs) ys e =
-      by (record_fault arity (n, x)) e (first_behind (n + 1) xs ys) ∙ ap (λ (k : ℕ). first_of (filter_map (record_fault arity) (enumerate_from k ys))) (omega arith)
-    where
-      by : (o : Option CsvFault) → first_of (cons_option o (filter_map (record_fault arity) (enumerate_from (n + 1) xs))) ≡ None
-          → (first_of (filter_map (record_fault arity) (enumerate_from (n + 1) xs)) ≡ None → first_of (filter_map (record_fault arity) (enumerate_from (n + 1) (xs ++ ys))) ≡ first_of (filter_map (record_fault arity) (enumerate_from ((n + 1) + length xs) ys)))
-          → first_of (cons_option o (filter_map (record_fault arity) (enumerate_from (n + 1) (xs ++ ys)))) ≡ first_of (filter_map (record_fault arity) (enumerate_from ((n + 1) + length xs) ys))
-      by None e more = more e
-      by (Some fault) e more = cc e
-
-  at_place : (k n : ℕ) (r : CsvRecord) (more : List CsvRecord) (o : Option CsvFault) → k ≡ n → record_fault arity (n, r) ≡ o
-      → first_of (filter_map (record_fault arity) (enumerate_from k (r ∷ more))) ≡ first_of (cons_option o (filter_map (record_fault arity) (enumerate_from (k + 1) more)))
-  at_place k n r more o same e =
-      ap (λ (p : Option CsvFault). first_of (cons_option p (filter_map (record_fault arity) (enumerate_from (k + 1) more)))) (ap (λ (m : ℕ). record_fault arity (m, r)) same ∙ e)
-
-  -- a record more, without a fault
-  pub good_more : (read : List CsvRecord) (n : ℕ) (r : CsvRecord) → records_fault arity read ≡ None → length read ≡ n → record_fault arity (n, r) ≡ None → records_fault arity (read ++ (r ∷ [])) ≡ None
-  good_more read n r good count e = first_behind 0 read (r ∷ []) good ∙ at_place (0 + length read) n r [] None (omega (arith, count)) e
-
-  -- a record at fault after good ones
-  pub first_bad : (read : List CsvRecord) (n : ℕ) (r : CsvRecord) (more : List CsvRecord) (fault : CsvFault) → records_fault arity read ≡ None → length read ≡ n → record_fault arity (n, r) ≡ Some fault
-      → records_fault arity ((read ++ (r ∷ [])) ++ more) ≡ Some fault
-  first_bad read n r more fault good count e =
-      ap (records_fault arity) (append_assoc read (r ∷ []) more) ∙ first_behind 0 read (r ∷ more) good ∙ at_place (0 + length read) n r more (Some fault) (omega (arith, count)) e
-
 -- a record of the right width
-pub record_good : (arity n : ℕ) (fields : CsvRecord) → length fields ≡ arity → list_all is_field fields ≡ true → record_fault arity (n, fields) ≡ None
+pub record_good : (arity n : ℕ) (fields : CsvRecord) → length fields ≡ arity → first_wrong field_flaw fields ≡ None → record_fault arity (n, fields) ≡ None
 record_good arity n fields width good = rw (eq-eqb (length fields) arity width, good) refl
 
-pub record_bad : (arity n : ℕ) (fields : CsvRecord) → length fields ≡ arity → list_all is_field fields ≡ false → record_fault arity (n, fields) ≡ Some (Text n)
-record_bad arity n fields width bad = rw (eq-eqb (length fields) arity width, bad) refl
+pub record_bad : (arity n : ℕ) (fields : CsvRecord) (fault : CsvFault) → length fields ≡ arity → option_map (λ f. Text n f.0 f.1) (first_wrong field_flaw fields) ≡ Some fault → record_fault arity (n, fields) ≡ Some fault
+record_bad arity n fields fault width bad = rw (eq-eqb (length fields) arity width) bad
+
+-- ---- a header in front
+
+-- one record more, of the header or behind it
+pub read_more : {R : Type 0} (arity : ℕ) (row : CsvRecord → R) (h : ℕ) (read : List CsvRecord) (r : CsvRecord) (place : ℕ) (rows rows' : List R) → length read ≡ place
+    → records_fault arity (drop h read) ≡ None → rows ≡ map row (drop h read)
+    → (h ≤ place → (record_fault arity (place - h, r) ≡ None) × (rows' ≡ rows ++ (row r ∷ []))) → (place < h → rows' ≡ rows)
+    → (records_fault arity (drop h (read ++ (r ∷ []))) ≡ None) × (rows' ≡ map row (drop h (read ++ (r ∷ []))))
+read_more arity row h read r place rows rows' count good are past within = by (nat_le h place) refl
+  where
+    by : (b : Bool) → nat_le h place ≡ b → (records_fault arity (drop h (read ++ (r ∷ []))) ≡ None) × (rows' ≡ map row (drop h (read ++ (r ∷ []))))
+    by true e =
+        let low : h ≤ place = leb-true h place e in
+        let one = past low in
+        let cut = drop-append-le h read (r ∷ []) (omega (arith, low, count)) in
+        rw cut (good_more (record_fault arity) (drop h read) (place - h) r good (length-drop h read ∙ omega (arith, count)) one.0, one.1 ∙ ap (λ rs. rs ++ (row r ∷ [])) are ∙ sym (map-append row (drop h read) (r ∷ [])))
+    by false e =
+        let few : place < h = leb-false h place e in
+        let same : drop h (read ++ (r ∷ [])) ≡ drop h read = drop_all h (read ++ (r ∷ [])) (omega (arith, few, count, length-append read (r ∷ []))) ∙ sym (drop_all h read (omega (arith, few, count))) in
+        rw same (good, within few ∙ are)
+
+-- a record at fault behind the header
+pub bad_behind : (arity h : ℕ) (read more : List CsvRecord) (r : CsvRecord) (place : ℕ) (fault : CsvFault) → records_fault arity (drop h read) ≡ None → length read ≡ place
+    → (h ≤ place) × (record_fault arity (place - h, r) ≡ Some fault) → records_fault arity (drop h ((read ++ (r ∷ [])) ++ more)) ≡ Some fault
+bad_behind arity h read more r place fault good count (low, bad) =
+    let front = drop-append-le h read (r ∷ []) (omega (arith, low, count)) in
+    let whole : drop h ((read ++ (r ∷ [])) ++ more) ≡ (drop h read ++ (r ∷ [])) ++ more =
+    drop-append-le h (read ++ (r ∷ [])) more (omega (arith, low, count, length-append read (r ∷ []))) ∙ ap (λ (l : List CsvRecord). l ++ more) front
+    in
+    ap (records_fault arity) whole ∙ first_bad (record_fault arity) (drop h read) (place - h) r more fault good (length-drop h read ∙ omega (arith, count)) bad
+
+-- a field that is a value has no flaw
+pub no_flaw : (n : ℕ) (field : List ℕ) → is_field field ≡ true → field_flaw (n, field) ≡ None
+no_flaw n field is = rw is refl
+
+pub its_flaw : (n : ℕ) (field : List ℕ) → is_field field ≡ false → field_flaw (n, field) ≡ Some (n, flaw_of field)
+its_flaw n field none = rw none refl
 
 -- what a constructor answers that makes a row
 pub made_row : (fault : Option Bad) (v row : RowRecord) → Answers {V = RowRecord} Bad.NoMemory fault v (Ok row) → row ≡ v
@@ -218,52 +260,35 @@ pub if_of_record : (fault : CsvFault) (P : Type 0) → P → IfOfRecord fault P
 if_of_record BadName P h = tt
 if_of_record BadArity P h = tt
 if_of_record (Device turn) P h = tt
-if_of_record (Width index) P h = h
-if_of_record (Text index) P h = h
+if_of_record (Width index fields) P h = h
+if_of_record (Text index field flaw) P h = h
 if_of_record NoMemory P h = tt
 
 -- ---- the fields of a record
 
-module _ {V : Type 0} (h : List ℕ → Option V) (p : List ℕ → Bool) where
-  field_at_front : (fs : CsvRecord) (i : ℕ) (f : List ℕ) → field_at fs i ≡ Some f → take (suc i) fs ≡ take i fs ++ (f ∷ [])
-  unfolding field_at
-  field_at_front [] i f e = cc e
-  field_at_front (g ∷ fs) zero f e = cc e
-  field_at_front (g ∷ fs) (suc i) f e = ap (λ (l : CsvRecord). g ∷ l) (field_at_front fs i f e)
+field_at_front : (fs : CsvRecord) (i : ℕ) (f : List ℕ) → field_at fs i ≡ Some f → take (suc i) fs ≡ take i fs ++ (f ∷ [])
+unfolding field_at
+field_at_front [] i f e = cc e
+field_at_front (g ∷ fs) zero f e = cc e
+field_at_front (g ∷ fs) (suc i) f e = ap (λ (l : CsvRecord). g ∷ l) (field_at_front fs i f e)
 
-  fields_more : (fs : CsvRecord) (i : ℕ) (f : List ℕ) → field_at fs i ≡ Some f → take (i + 1) fs ≡ take i fs ++ (f ∷ [])
-  fields_more fs i f e =
-      let on : i + 1 ≡ suc i = omega arith in
-      ap (λ (n : ℕ). take n fs) on ∙ field_at_front fs i f e
+pub fields_more : (fs : CsvRecord) (i : ℕ) (f : List ℕ) → field_at fs i ≡ Some f → take (i + 1) fs ≡ take i fs ++ (f ∷ [])
+fields_more fs i f e =
+    let on : i + 1 ≡ suc i = omega arith in
+    ap (λ (n : ℕ). take n fs) on ∙ field_at_front fs i f e
 
-  pub fields_all : (fs : CsvRecord) (i : ℕ) → field_at fs i ≡ None → take i fs ≡ fs
-  unfolding field_at
-  fields_all [] zero e = refl
-  fields_all [] (suc i) e = refl
-  fields_all (g ∷ fs) zero e = cc e
-  fields_all (g ∷ fs) (suc i) e = ap (λ (l : CsvRecord). g ∷ l) (fields_all fs i e)
+pub fields_all : (fs : CsvRecord) (i : ℕ) → field_at fs i ≡ None → take i fs ≡ fs
+unfolding field_at
+fields_all [] zero e = refl
+fields_all [] (suc i) e = refl
+fields_all (g ∷ fs) zero e = cc e
+fields_all (g ∷ fs) (suc i) e = ap (λ (l : CsvRecord). g ∷ l) (fields_all fs i e)
 
-  pub field_bad : (fs : CsvRecord) (i : ℕ) (f : List ℕ) → field_at fs i ≡ Some f → p f ≡ false → list_all p fs ≡ false
-  unfolding field_at
-  field_bad [] i f e bad = cc e
-  field_bad (g ∷ fs) zero f e bad = let same : g ≡ f = cc e in rw (same, bad) refl
-  field_bad (g ∷ fs) (suc i) f e bad = by (p g) (field_bad fs i f e bad)
-    where
-      by : (b : Bool) → list_all p fs ≡ false → (b && list_all p fs) ≡ false
-      by true h = h
-      by false h = refl
+-- the fields from one on
+pub fields_from : (fs : CsvRecord) (i : ℕ) (f : List ℕ) → field_at fs i ≡ Some f → fs ≡ (take i fs ++ (f ∷ [])) ++ drop (i + 1) fs
+fields_from fs i f e = sym (take-append-drop (i + 1) fs) ∙ ap (λ (l : CsvRecord). l ++ drop (i + 1) fs) (fields_more fs i f e)
 
-  pub fields_good_more : (fs : CsvRecord) (i : ℕ) (f : List ℕ) → field_at fs i ≡ Some f → list_all p (take i fs) ≡ true → p f ≡ true → list_all p (take (i + 1) fs) ≡ true
-  fields_good_more fs i f e good is = rw (fields_more fs i f e) (all_more (take i fs) good)
-    where
-      all_more : (l : CsvRecord) → list_all p l ≡ true → list_all p (l ++ (f ∷ [])) ≡ true
-      all_more [] h = rw is refl
-      all_more (g ∷ l) h = by (p g) h (all_more l)
-        where
-          by : (b : Bool) → (b && list_all p l) ≡ true → (list_all p l ≡ true → list_all p (l ++ (f ∷ [])) ≡ true) → (b && list_all p (l ++ (f ∷ []))) ≡ true
-          by true h more = more h
-          by false h more = cc h
-
+module _ {V : Type 0} (h : List ℕ → Option V) where
   pub values_more : (fs : CsvRecord) (i : ℕ) (f : List ℕ) (v : V) → field_at fs i ≡ Some f → h f ≡ Some v → filter_map h (take (i + 1) fs) ≡ filter_map h (take i fs) ++ (v ∷ [])
   values_more fs i f v e is = ap (filter_map h) (fields_more fs i f e) ∙ by (take i fs)
     where
@@ -295,6 +320,15 @@ module _ (left left' : Option (List ℕ)) (bytes : List ℕ) (whole : ReadWhole 
   fault_of_input (Err BadName) Q h = tt
   fault_of_input (Err BadArity) Q h = tt
   fault_of_input (Err (Device turn)) Q h = tt
-  fault_of_input (Err (Width index)) Q h = of_input left left' bytes (Q (Width index)) whole h
-  fault_of_input (Err (Text index)) Q h = of_input left left' bytes (Q (Text index)) whole h
+  fault_of_input (Err (Width index fields)) Q h = of_input left left' bytes (Q (Width index fields)) whole h
+  fault_of_input (Err (Text index field flaw)) Q h = of_input left left' bytes (Q (Text index field flaw)) whole h
   fault_of_input (Err NoMemory) Q h = tt
+
+-- ---- UTF-8
+
+pub no_utf8 : (bs : List ℕ) → (IsUtf8 bs → ⊥) → is_utf8 bs ≡ false
+no_utf8 bs none = by (is_utf8 bs) refl
+  where
+    by : (b : Bool) → is_utf8 bs ≡ b → b ≡ false
+    by true e = absurd (none (IsUtf8-from_is_utf8 bs e))
+    by false e = refl

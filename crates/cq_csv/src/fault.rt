@@ -3,6 +3,20 @@
 use std::alloc::{AllocError, AllocFailed};
 use thiserror::Error;
 
+/// Why a field is no value: the first of these that is so.
+#[derive(Clone, Copy, Debug, PartialEq, Eq, Error)]
+pub enum Flaw {
+    /// It has more than 255 bytes.
+    #[error("has more than 255 bytes")]
+    Long,
+    /// It is not UTF-8.
+    #[error("is not UTF-8")]
+    NotUtf8,
+    /// It has a control character of ASCII.
+    #[error("has a control character")]
+    Control,
+}
+
 /// Why `read_csv` gives no rows, in the order in which it looks.
 #[derive(Clone, Copy, Debug, PartialEq, Eq, Error)]
 pub enum CsvFault {
@@ -19,16 +33,22 @@ pub enum CsvFault {
         turn: u64,
     },
     /// The number of a record's fields is not the arity. Records count from 0.
-    #[error("record {index} has another number of fields")]
+    #[error("record {index} has {fields} fields")]
     Width {
         /// The place of the record.
         index: usize,
+        /// How many fields it has.
+        fields: usize,
     },
-    /// A field of a record is no value. Records count from 0.
-    #[error("record {index} has a field that is no text")]
+    /// A field of a record is no value. Records and fields count from 0.
+    #[error("field {field} of record {index} {flaw}")]
     Text {
         /// The place of the record.
         index: usize,
+        /// The place of its first field that is no value.
+        field: usize,
+        /// Why that field is none.
+        flaw: Flaw,
     },
     /// An allocation failed.
     #[error("out of memory")]

@@ -7,9 +7,11 @@
 #![tactic(auto)]
 
 mod fault;
+mod layout;
 mod reading;
 mod records;
 
-pub use fault::CsvFault;
+pub use fault::{CsvFault, Flaw};
+pub use layout::Layout;
 pub use reading::read_csv;
 pub use records::all_records;

@@ -7,6 +7,7 @@ ghost use Rattle.cq_devices.specs.Device.{FailedAtTurn, ReadWhole};
 ghost use Rattle.cq_csv.specs.Csv.{IfOfCall, IfOfDevice, IfOfRecord, IsOfDevice, call_fault, csv_records, records_fault, row_of_record};
 
 use crate::fault::CsvFault;
+use crate::layout::Layout;
 use crate::records::rows_of;
 use cq_atom::{MAX_ARITY, Row, is_relation_text};
 use cq_devices::{Source, WholeFault, read_whole};
@@ -48,7 +49,8 @@ fn call_fault(relation: &str, arity: usize) -> Option<CsvFault>
 /// Reads CSV, and answers one row of the relation for each record, in order; doubles are rows as well.
 ///
 /// All bytes are read first, by reads of up to 4,096 bytes, of which there are at most 1,048,576. Their
-/// records are those of the crate `csv` with its default settings, where no record is a header. The
+/// records are those of the crate `csv` with this byte between fields and its default settings else, behind the header, where
+/// the layout has one: of that nothing is looked at, and no row is made. The
 /// time is in proportion to the bytes. The bytes and the rows are on `alloc`; that crate keeps the
 /// record that it reads on `heap`.
 ///
@@ -57,14 +59,15 @@ fn call_fault(relation: &str, arity: usize) -> Option<CsvFault>
 /// Before any read `BadName` unless the bytes are a name that begins with an upper-case letter, and then
 /// `BadArity` unless the arity is 1 to 16. `Device` tells the number, from 1, of the read that failed,
 /// and 1,048,577 where no read failed and none came to the end. Then the first record at fault is reported, counted
-/// from 0: `Width` where the number of its fields is not the arity, else `Text` where a field is no
-/// value. `NoMemory` where an allocation failed.
+/// from 0 behind the header: `Width` with the number of its fields where that is not the arity, else `Text` with its first field that is no
+/// value, counted from 0, and why it is none. `NoMemory` where an allocation failed.
 pub fn read_csv<A: Allocator + Copy, R: Source>(
     alloc: A,
     heap: Global,
     source: &mut R,
     relation: &str,
     arity: usize,
+    layout: Layout,
 ) -> Result<Vec<Row<A>, A>, CsvFault>
     requires reads { R.reads_made source.old < 2 ^ 62 }
     requires failures { R.failures_met source.old < 2 ^ 62 }
@@ -74,8 +77,8 @@ pub fn read_csv<A: Allocator + Copy, R: Source>(
     ensures call { IfErr result (λ fault. IfOfCall fault (call_fault relation.now arity ≡ Some fault)) }
 
     // Where the bytes are known, the rows of all records, or the fault of the first record at fault.
-    ensures rows { IfOk result (λ rows. IfSome (R.left source.old) (λ input. (records_fault arity (csv_records input) ≡ None) × (rows.items ≡ map (row_of_record relation.now) (csv_records input)))) }
-    ensures record { IfErr result (λ fault. IfOfRecord fault (IfSome (R.left source.old) (λ input. records_fault arity (csv_records input) ≡ Some fault))) }
+    ensures rows { IfOk result (λ rows. IfSome (R.left source.old) (λ input. (records_fault arity (csv_records layout input) ≡ None) × (rows.items ≡ map (row_of_record relation.now) (csv_records layout input)))) }
+    ensures record { IfErr result (λ fault. IfOfRecord fault (IfSome (R.left source.old) (λ input. records_fault arity (csv_records layout input) ≡ Some fault))) }
 
     // Either is reported at the end of the bytes.
     ensures end { MatchResult result (λ _. IsAtEnd (R.left source.new)) (λ fault. IfOfRecord fault (IsAtEnd (R.left source.new))) }
@@ -89,5 +92,5 @@ pub fn read_csv<A: Allocator + Copy, R: Source>(
         return Err(fault);
     }
     let bytes = read_bytes(alloc, source)?;
-    rows_of(alloc, heap, bytes.as_slice(), relation, arity)
+    rows_of(alloc, heap, bytes.as_slice(), relation, arity, layout)
 }

@@ -1,19 +1,34 @@
 //! Rows of the records that bytes of CSV have.
 
-ghost use Rattle.std.specs.Prelude.{◌≡◌, ◌<◌, ◌⊎◌, ℕ, List, [], None, Some, true, false, length, map, filter_map, IfOk, IfErr, OnOk};
-ghost use Rattle.std.specs.List.{list_all};
+ghost use Rattle.std.specs.Prelude.{◌≡◌, ◌<◌, ◌≤◌, ◌-◌, ◌++◌, ◌∷◌, ◌⊎◌, ℕ, List, [], None, Some, true, length, drop, map, filter_map, option_map, IfOk, IfErr, OnOk};
 ghost use Rattle.cq_text.specs.Field.{value_of_field};
-ghost use Rattle.csv.specs.Reading.{AreRecords, ReadRecord, default_config, records, strip_bom};
+ghost use Rattle.csv.specs.Reading.{AreRecords, ReadRecord, reader_config, records, strip_bom};
 ghost use Rattle.csv.specs.Records.{fields_of};
 ghost use Rattle.csv.specs.declared.parser.State.TheVariants as st;
-ghost use Rattle.cq_csv.specs.Csv.{IfOfRecord, csv_records, is_field, record_fault, records_fault, row_of_record};
+ghost use Rattle.cq_csv.specs.Csv.{IfOfRecord, config_of, csv_records, field_flaw, first_wrong, flaw_of, header_count, record_fault, records_fault, row_of_record};
+ghost use Rattle.cq_csv.specs.declared.layout.Layout.{Layout};
 ghost use Rattle.cq_csv.specs.Steps.Csv.{IsAtStart, IsInRecords, IsPlain, bytes_of, text_left};
 
-use crate::fault::CsvFault;
-use cq_atom::{Row, Value};
+use crate::fault::{CsvFault, Flaw};
+use crate::layout::Layout;
+use cq_atom::{MAX_TEXT, Row, Value};
 use cq_text::{TextFault, read_field};
 use csv::{ByteRecord, ErrorKind, Reader, ReaderBuilder};
 use std::alloc::{Allocator, Global};
+use std::str;
+
+/// Why a field that is no value is none.
+fn flaw_of(field: &[u8]) -> Flaw
+    ensures { result ≡ flaw_of field.now }
+{
+    if field.len() > MAX_TEXT {
+        return Flaw::Long;
+    }
+    match str::from_utf8(field) {
+        Ok(_) => Flaw::Control,
+        Err(_) => Flaw::NotUtf8,
+    }
+}
 
 /// Adds the values of the record's fields.
 fn push_values<A: Allocator + Copy>(
@@ -23,14 +38,20 @@ fn push_values<A: Allocator + Copy>(
     values: &mut Vec<Value<A>, A>,
 ) -> Result<(), CsvFault>
     requires { values.old.items ≡ [] }
-    ensures fields { OnOk result (list_all is_field (fields_of fields.now) ≡ true) }
+    ensures fields { OnOk result (first_wrong field_flaw (fields_of fields.now) ≡ None) }
     ensures values { OnOk result (values.new.items ≡ filter_map value_of_field (fields_of fields.now)) }
-    ensures fault { IfErr result (λ fault. (fault ≡ CsvFault.NoMemory) ⊎ ((fault ≡ CsvFault.Text index) × (list_all is_field (fields_of fields.now) ≡ false))) }
+    ensures fault { IfErr result (λ fault. (fault ≡ CsvFault.NoMemory) ⊎ (option_map (λ f. CsvFault.Text index f.0 f.1) (first_wrong field_flaw (fields_of fields.now)) ≡ Some fault)) }
 {
     for field in fields {
         match read_field(alloc, field) {
             Ok(value) => values.push(value)?,
-            Err(TextFault::At { .. }) => return Err(CsvFault::Text { index }),
+            Err(TextFault::At { .. }) => {
+                return Err(CsvFault::Text {
+                    index,
+                    field: values.len(),
+                    flaw: flaw_of(field),
+                });
+            }
             Err(TextFault::NoMemory) => return Err(CsvFault::NoMemory),
         }
     }
@@ -49,7 +70,10 @@ fn row_of<A: Allocator + Copy>(
     ensures fault { IfErr result (λ fault. (fault ≡ CsvFault.NoMemory) ⊎ (record_fault arity (index, fields_of fields.now) ≡ Some fault)) }
 {
     if fields.len() != arity {
-        return Err(CsvFault::Width { index });
+        return Err(CsvFault::Width {
+            index,
+            fields: fields.len(),
+        });
     }
     let mut values = Vec::new(alloc);
     push_values(alloc, fields, index, &mut values)?;
@@ -60,11 +84,18 @@ fn row_of<A: Allocator + Copy>(
     }
 }
 
+/// How many records in front are a header.
+fn header_count(layout: Layout) -> usize
+    ensures { result ≡ header_count layout }
+{
+    if layout.has_header { 1 } else { 0 }
+}
+
 /// Reads the next record, if there is one.
 fn next_record(reader: &mut Reader<&[u8]>, fields: &mut ByteRecord) -> Result<bool, CsvFault>
-    requires { IsPlain reader.old }
+    requires { IsPlain (reader_config reader.old) reader.old }
     ensures read { IfOk result (λ found. ReadRecord bytes_of reader.old reader.new found (fields_of fields.new)) }
-    ensures plain { IfOk result (λ found. found ≡ true → IsPlain reader.new) }
+    ensures plain { IfOk result (λ found. found ≡ true → IsPlain (reader_config reader.old) reader.new) }
     ensures memory { IfErr result (λ fault. fault ≡ CsvFault.NoMemory) }
 {
     match reader.read_byte_record(fields) {
@@ -77,29 +108,53 @@ fn next_record(reader: &mut Reader<&[u8]>, fields: &mut ByteRecord) -> Result<bo
     }
 }
 
-/// Adds the rows of the records, of which there are at most so many. All that it works with is lent.
+/// Adds the row of the record at that place, if it is behind the first ones, which are a header.
+fn push_row<A: Allocator + Copy>(
+    alloc: A,
+    relation: &str,
+    arity: usize,
+    first: usize,
+    place: usize,
+    fields: &ByteRecord,
+    rows: &mut Vec<Row<A>, A>,
+) -> Result<(), CsvFault>
+    ensures row { OnOk result (first ≤ place → (record_fault arity (place - first, fields_of fields.now) ≡ None) × (rows.new.items ≡ rows.old.items ++ row_of_record relation.now (fields_of fields.now) ∷ [])) }
+    ensures header { OnOk result (place < first → rows.new.items ≡ rows.old.items) }
+    ensures fault { IfErr result (λ fault. (fault ≡ CsvFault.NoMemory) ⊎ ((first ≤ place) × (record_fault arity (place - first, fields_of fields.now) ≡ Some fault))) }
+{
+    if place < first {
+        return Ok(());
+    }
+    let row = row_of(alloc, relation, arity, fields, place - first)?;
+    rows.push(row)?;
+    Ok(())
+}
+
+/// Adds the rows of the records behind the header, if there is one. Of all there are at most so many. All that it works with is lent.
 fn push_rows<A: Allocator + Copy>(
     alloc: A,
     relation: &str,
     arity: usize,
+    layout: Layout,
     most: usize,
     reader: &mut Reader<&[u8]>,
     fields: &mut ByteRecord,
     rows: &mut Vec<Row<A>, A>,
 ) -> Result<(), CsvFault>
     requires most { length (text_left reader.old) < most }
-    requires start { IsAtStart reader.old }
+    requires start { IsAtStart (config_of layout) reader.old }
     requires rows { rows.old.items ≡ [] }
-    ensures good { OnOk result (records_fault arity (records default_config (text_left reader.old)) ≡ None) }
-    ensures rows { OnOk result (rows.new.items ≡ map (row_of_record relation.now) (records default_config (text_left reader.old))) }
-    ensures fault { IfErr result (λ fault. IfOfRecord fault (records_fault arity (records default_config (text_left reader.old)) ≡ Some fault)) }
+    ensures good { OnOk result (records_fault arity (drop (header_count layout) (records (config_of layout) (text_left reader.old))) ≡ None) }
+    ensures rows { OnOk result (rows.new.items ≡ map (row_of_record relation.now) (drop (header_count layout) (records (config_of layout) (text_left reader.old)))) }
+    ensures fault { IfErr result (λ fault. IfOfRecord fault (records_fault arity (drop (header_count layout) (records (config_of layout) (text_left reader.old))) ≡ Some fault)) }
     ensures memory { IfErr result (λ fault. IsInRecords fault) }
 {
-    for index in 0..most {
+    let first = header_count(layout);
+    for place in 0..most {
         if !next_record(reader, fields)? {
             return Ok(());
         }
-        rows.push(row_of(alloc, relation, arity, fields, index)?)?;
+        push_row(alloc, relation, arity, first, place, fields, rows)?;
     }
     Ok(())
 }
@@ -111,14 +166,16 @@ pub(crate) fn rows_of<A: Allocator + Copy>(
     bytes: &[u8],
     relation: &str,
     arity: usize,
+    layout: Layout,
 ) -> Result<Vec<Row<A>, A>, CsvFault>
-    ensures rows { IfOk result (λ rows. (records_fault arity (csv_records bytes.now) ≡ None) × (rows.items ≡ map (row_of_record relation.now) (csv_records bytes.now))) }
-    ensures fault { IfErr result (λ fault. IfOfRecord fault (records_fault arity (csv_records bytes.now) ≡ Some fault)) }
+    ensures rows { IfOk result (λ rows. (records_fault arity (csv_records layout bytes.now) ≡ None) × (rows.items ≡ map (row_of_record relation.now) (csv_records layout bytes.now))) }
+    ensures fault { IfErr result (λ fault. IfOfRecord fault (records_fault arity (csv_records layout bytes.now) ≡ Some fault)) }
     ensures memory { IfErr result (λ fault. IsInRecords fault) }
 {
     let mut reader = ReaderBuilder::new()
         .has_headers(false)
         .flexible(true)
+        .delimiter(layout.delimiter)
         .from_reader(heap, bytes);
     let mut fields = ByteRecord::new(heap);
     let mut rows = Vec::new(alloc);
@@ -126,6 +183,7 @@ pub(crate) fn rows_of<A: Allocator + Copy>(
         alloc,
         relation,
         arity,
+        layout,
         bytes.len() + 1,
         &mut reader,
         &mut fields,
@@ -134,8 +192,8 @@ pub(crate) fn rows_of<A: Allocator + Copy>(
     Ok(rows)
 }
 
-/// The records of bytes are all that the reader of `csv` takes from them, one after another from their start
+/// The records of bytes, with the header, are all that the reader of `csv` takes from them, one after another from their start
 /// to where it takes none. This is a law of the definitions alone, so there is nothing to do.
 pub fn all_records()
-    ensures { (bytes : List ℕ) → AreRecords default_config st.StartRecord (strip_bom bytes) (csv_records bytes) }
+    ensures { (layout : Layout) (bytes : List ℕ) → AreRecords (config_of layout) st.StartRecord (strip_bom bytes) (records (config_of layout) (strip_bom bytes)) }
 {}

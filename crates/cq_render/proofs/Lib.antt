@@ -5,5 +5,5 @@ pub mod Arrays
 pub mod Ordered
 pub mod Walked
 pub mod Telling
-mod Explained
+pub mod Explained
 pub mod Numbers

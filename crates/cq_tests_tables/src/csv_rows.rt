@@ -1,13 +1,19 @@
 //! Rows from CSV: worked texts, each fault, failing and endless sources, and each allocation refused in turn.
 
 use cq_atom::{Row, Value};
-use cq_csv::{CsvFault, all_records, read_csv};
+use cq_csv::{CsvFault, Flaw, Layout, all_records, read_csv};
 use cq_devices::Counted;
 use cq_refusing::Refusing;
 use cq_text::print_row;
 use std::alloc::{AllocError, Allocator, Global};
 use std::io::{self, ErrorKind, Read};
 use std::mem;
+
+/// Commas between fields, and no header.
+const PLAIN: Layout = Layout {
+    delimiter: b',',
+    has_header: false,
+};
 
 /// 255 bytes.
 const LONG: &[u8; 255] =
@@ -27,9 +33,9 @@ fn are_printed<A: Allocator + Copy>(
     Ok(rows.len() == printed.len())
 }
 
-/// Whether CSV over `T` gives rows that are printed so.
-fn gives(heap: Global, text: &[u8], arity: usize, printed: &[&str]) -> bool {
-    match read_csv(heap, heap, &mut Counted::new(text), "T", arity) {
+/// Whether CSV of that layout over `T` gives rows that are printed so.
+fn gives(heap: Global, text: &[u8], arity: usize, layout: Layout, printed: &[&str]) -> bool {
+    match read_csv(heap, heap, &mut Counted::new(text), "T", arity, layout) {
         Ok(rows) => are_printed(heap, &rows, printed) == Ok(true),
         Err(_) => false,
     }
@@ -93,32 +99,66 @@ fn csv_to_inserts(rt: HostRuntime) {
             ].as_slice(),
         ),
     ] {
-        assert!(rt; gives(rt.alloc(), text, arity, printed), "{text:?}");
+        assert!(rt; gives(rt.alloc(), text, arity, PLAIN, printed), "{text:?}");
+    }
+}
+
+#[test]
+fn csv_layouts(rt: HostRuntime) {
+    for (delimiter, has_header, text, printed) in [
+        (
+            b',',
+            true,
+            b"City,Number\nParis,122".as_slice(),
+            [r#"T("Paris", 122)"#].as_slice(),
+        ),
+        // Nothing is looked at in a header, and there need be none.
+        (b',', true, b"\n\xff\n1,2\n", ["T(1, 2)"].as_slice()),
+        (b',', true, b"1,2", [].as_slice()),
+        (b',', true, b"", [].as_slice()),
+        (
+            b';',
+            false,
+            b"1;2,3\n\"4;5\";6",
+            [r#"T(1, "2,3")"#, r#"T("4;5", 6)"#].as_slice(),
+        ),
+        (b'\t', true, b"a\tb\nc\td", [r#"T("c", "d")"#].as_slice()),
+    ] {
+        let layout = Layout {
+            delimiter,
+            has_header,
+        };
+        assert!(rt; gives(rt.alloc(), text, 2, layout, printed), "{text:?}");
     }
 }
 
 /// Why CSV gives no rows, if it gives none.
 fn fault_of(heap: Global, text: &[u8], relation: &str, arity: usize) -> Option<CsvFault> {
-    read_csv(heap, heap, &mut Counted::new(text), relation, arity).err()
+    read_csv(heap, heap, &mut Counted::new(text), relation, arity, PLAIN).err()
+}
+
+fn width(index: usize, fields: usize) -> Option<CsvFault> {
+    Some(CsvFault::Width { index, fields })
+}
+
+fn text(index: usize, field: usize, flaw: Flaw) -> Option<CsvFault> {
+    Some(CsvFault::Text { index, field, flaw })
 }
 
 #[test]
 fn csv_faults(rt: HostRuntime) {
     for (text, arity, fault) in [
-        (
-            b"a,b\nc\n".as_slice(),
-            2,
-            Some(CsvFault::Width { index: 1 }),
-        ),
-        (b"\xff\n", 1, Some(CsvFault::Text { index: 0 })),
-        (b"\xff,b\n", 1, Some(CsvFault::Width { index: 0 })),
-        (b"\xff\na,b", 1, Some(CsvFault::Text { index: 0 })),
-        (b"\"a\nb\",1", 2, Some(CsvFault::Text { index: 0 })),
-        (b"1,2\n3,\x7f\n4", 2, Some(CsvFault::Text { index: 1 })),
-        (b"a\tb", 1, Some(CsvFault::Text { index: 0 })),
-        (b"\0", 1, Some(CsvFault::Text { index: 0 })),
+        (b"a,b\nc\n".as_slice(), 2, width(1, 1)),
+        (b"\xff\n", 1, text(0, 0, Flaw::NotUtf8)),
+        (b"\xff,b\n", 1, width(0, 2)),
+        (b"\xff\na,b", 1, text(0, 0, Flaw::NotUtf8)),
+        (b"\"a\nb\",1", 2, text(0, 0, Flaw::Control)),
+        (b"1,2\n3,\x7f\n4", 2, text(1, 1, Flaw::Control)),
+        (b"1,\0,\xff", 3, text(0, 1, Flaw::Control)),
+        (b"a\tb", 1, text(0, 0, Flaw::Control)),
+        (b"\0", 1, text(0, 0, Flaw::Control)),
         (b"1,2,3,4,5,6,7,8", 8, None),
-        (b"1,2,3,4,5,6,7,8,9", 8, Some(CsvFault::Width { index: 0 })),
+        (b"1,2,3,4,5,6,7,8,9", 8, width(0, 9)),
         (LONG, 1, None),
         (b"", 1, None),
         (b"", 0, Some(CsvFault::BadArity)),
@@ -133,10 +173,10 @@ fn csv_faults(rt: HostRuntime) {
 
 /// Whether a text of a byte more than a text may have is no value.
 fn is_too_long(heap: Global) -> Result<bool, AllocError> {
-    let mut text = Vec::new(heap);
-    text.extend_from_slice(LONG)?;
-    text.push(b'a')?;
-    Ok(fault_of(heap, &text, "T", 1) == Some(CsvFault::Text { index: 0 }))
+    let mut long = Vec::new(heap);
+    long.extend_from_slice(LONG)?;
+    long.push(b'a')?;
+    Ok(fault_of(heap, &long, "T", 1) == text(0, 0, Flaw::Long))
 }
 
 #[test]
@@ -171,7 +211,7 @@ fn failing_at(heap: Global, good: u64) -> Option<CsvFault> {
         rest: b"a,b\nc",
         good,
     });
-    read_csv(heap, heap, &mut source, "T", 2).err()
+    read_csv(heap, heap, &mut source, "T", 2, PLAIN).err()
 }
 
 #[test]
@@ -180,7 +220,7 @@ fn csv_reads_that_fail(rt: HostRuntime) {
         let told = failing_at(rt.alloc(), good);
         assert!(rt; told == Some(CsvFault::Device { turn: good + 1 }), "{good}");
     }
-    assert!(rt; failing_at(rt.alloc(), 6) == Some(CsvFault::Width { index: 1 }));
+    assert!(rt; failing_at(rt.alloc(), 6) == width(1, 1));
 }
 
 /// Gives a line feed at each read.
@@ -199,7 +239,14 @@ impl Read for Endless {
 
 #[test]
 fn endless_reader(rt: HostRuntime) {
-    let told = read_csv(rt.alloc(), rt.alloc(), &mut Counted::new(Endless), "T", 1);
+    let told = read_csv(
+        rt.alloc(),
+        rt.alloc(),
+        &mut Counted::new(Endless),
+        "T",
+        1,
+        PLAIN,
+    );
     assert!(rt; told.err() == Some(CsvFault::Device { turn: 1_048_577 }));
 }
 
@@ -208,7 +255,7 @@ const WORKED: &[u8] = b"122,Paris\n\"123\",\"Pa\"\"ris\"\n007,\n";
 /// Whether the worked text is read on the allocator as three rows, the first of them the worked one; else whether memory
 /// ran out.
 fn is_read<A: Allocator + Copy>(alloc: A, heap: Global) -> Result<bool, CsvFault> {
-    let rows = read_csv(alloc, heap, &mut Counted::new(WORKED), "T", 2)?;
+    let rows = read_csv(alloc, heap, &mut Counted::new(WORKED), "T", 2, PLAIN)?;
     let right = match rows.as_slice() {
         [first, _, _] => is_worked(first.values()),
         _ => false,

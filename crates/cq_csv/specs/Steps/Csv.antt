@@ -1,9 +1,10 @@
 -- A reader of records among the bytes of a text, as the loop that reads it knows it.
 use Rattle.std.specs.Prelude.{◌≡◌, ℕ, true, List, Option, Some, unwrap_or, []}
 use Rattle.std.specs.Borrow.{Bor}
-use Rattle.csv.specs.Reading.{Reached, Ready, default_config, is_flexible, reader_config, reader_state, reader_trim, source_of}
+use Rattle.csv.specs.Reading.{Reached, Ready, is_flexible, reader_config, reader_state, reader_trim, source_of}
 use Rattle.csv.specs.declared.reader.Reader.{Reader}
 use Rattle.csv.specs.declared.reader.Trim.TheVariants as trim
+use Rattle.csv.specs.declared.parser.Config.{Config}
 use Rattle.csv.specs.declared.parser.State.TheVariants as st
 use Rattle.cq_csv.specs.Csv.{CsvRecord}
 use Rattle.cq_csv.specs.declared.fault.CsvFault.{CsvFault}
@@ -16,35 +17,35 @@ BytesReader = Reader (Bor (List ℕ))
 abbrev pub bytes_of : Bor (List ℕ) → Option (List ℕ)
 bytes_of s = Some s.now
 
--- The reader's next read is of one record, of any width, with its fields as they are.
-pub record IsPlain (reader : BytesReader) : Type 0 where
+-- The reader's next read is of one record, of any width, with its fields as they are, by these settings.
+pub record IsPlain (cfg : Config) (reader : BytesReader) : Type 0 where
   pub trim : reader_trim reader ≡ trim.None
   pub ready : Ready reader
   pub flexible : is_flexible reader ≡ true
-  pub config : reader_config reader ≡ default_config
+  pub config : reader_config reader ≡ cfg
 
 -- What the reader has yet to read.
 abbrev pub text_left : BytesReader → List ℕ
 text_left reader = unwrap_or (source_of bytes_of reader) []
 
 -- The reader stands at the start of its text.
-pub record IsAtStart (reader : BytesReader) : Type 0 where
-  pub plain : IsPlain reader
+pub record IsAtStart (cfg : Config) (reader : BytesReader) : Type 0 where
+  pub plain : IsPlain cfg reader
   pub source : source_of bytes_of reader ≡ Some (text_left reader)
   pub state : reader_state reader ≡ st.StartRecord
 
 -- The reader stands after these records of the text.
-pub record IsBehind (text : List ℕ) (read : List CsvRecord) (reader : BytesReader) : Type 0 where
-  pub plain : IsPlain reader
+pub record IsBehind (cfg : Config) (text : List ℕ) (read : List CsvRecord) (reader : BytesReader) : Type 0 where
+  pub plain : IsPlain cfg reader
   pub rest : List ℕ
   pub source : source_of bytes_of reader ≡ Some rest
-  pub reached : Reached default_config st.StartRecord text read (reader_state reader) rest
+  pub reached : Reached cfg st.StartRecord text read (reader_state reader) rest
 
 -- The fault is of a record, or out of memory.
 abbrev pub IsInRecords : CsvFault → Type 0
 IsInRecords BadName = ⊥
 IsInRecords BadArity = ⊥
 IsInRecords (Device turn) = ⊥
-IsInRecords (Width index) = Unit {0}
-IsInRecords (Text index) = Unit {0}
+IsInRecords (Width index fields) = Unit {0}
+IsInRecords (Text index field flaw) = Unit {0}
 IsInRecords NoMemory = Unit {0}

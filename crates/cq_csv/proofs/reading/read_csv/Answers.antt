@@ -6,9 +6,9 @@ use Rattle.cq_csv.proofs.reading.read_csv.Goals as goal
 pub returns-clause-rows : goal.returns-clause-rows
 returns-clause-rows g c =
     rows_of_input _ _ _ c.in_ok-bytes.ensures.whole c.rows_of.result
-    (λ rows input. (records_fault c.args.arity (csv_records input) ≡ None) × (rows.items ≡ map (row_of_record c.args.relation.now) (csv_records input))) (rw c.as_slice.ensures.value at c.rows_of.ensures.rows)
+    (λ rows input. (records_fault c.args.arity (csv_records c.args.layout input) ≡ None) × (rows.items ≡ map (row_of_record c.args.relation.now) (csv_records c.args.layout input))) (rw c.as_slice.ensures.value at c.rows_of.ensures.rows)
 
 pub returns-clause-record : goal.returns-clause-record
 returns-clause-record g c =
     fault_of_input _ _ _ c.in_ok-bytes.ensures.whole c.rows_of.result
-    (λ fault input. records_fault c.args.arity (csv_records input) ≡ Some fault) (rw c.as_slice.ensures.value at c.rows_of.ensures.fault)
+    (λ fault input. records_fault c.args.arity (csv_records c.args.layout input) ≡ Some fault) (rw c.as_slice.ensures.value at c.rows_of.ensures.fault)
