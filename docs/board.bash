@@ -5,12 +5,12 @@ _board_words() {
     options='' valued='' filed='' takes=''
     case $1 in
     '') options='-h --help -V --version' takes='commands' ;;
-    replay) options='--number --strict --summary --memory -h --help' valued='--memory' takes='files' ;;
+    replay) options='--number --strict --summary --why --memory -h --help' valued='--memory' takes='files' ;;
     live) options='--json --memory -h --help' valued='--memory' takes='files' ;;
     rows) options='--header --delimiter --memory -h --help' valued='--delimiter --memory' takes='files' ;;
     sessions) options='--memory -h --help' valued='--memory' takes='files' ;;
-    explain) options='--file --memory -h --help' valued='--file --memory' filed='--file' ;;
-    graph) options='--memory -h --help' valued='--memory' takes='files' ;;
+    explain) options='--tree --roots --file --memory -h --help' valued='--file --memory' filed='--file' ;;
+    graph) options='--only --clusters --memory -h --help' valued='--only --memory' takes='files' ;;
     json) options='--memory -h --help' valued='--memory' takes='files' ;;
     choice) options='--file --memory -h --help' valued='--file --memory' filed='--file' ;;
     choose) options='--steps --file --memory -h --help' valued='--steps --file --memory' filed='--file' ;;

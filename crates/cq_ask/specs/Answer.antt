@@ -12,6 +12,7 @@ use Rattle.cq_desk.specs.Machine.{published_content}
 use Rattle.cq_desk.specs.Standing.{StandingRecord}
 use Rattle.cq_render.specs.Report.{line, block_of}
 use Rattle.cq_render.specs.Data.{standing_word}
+use Rattle.cq_render.specs.declared.extent.Extent.TheVariants.{All}
 use Rattle.cq_render.specs.Explain.{ArePieces, IsExplained, IsNearTold}
 use Rattle.cq_render.specs.Graph.{graph}
 use Rattle.cq_render.specs.Json.{json_of}
@@ -108,7 +109,7 @@ help_text =
 -- Why queries wait: those of these names, and which of the names are absent; where there is no name, all that wait.
 pub record IsWhyTold (pool : PoolRecord) (names : List (List ℕ)) (text : List ℕ) : Type 0 where
   pub why : List ℕ
-  pub told : IsExplained pool names why
+  pub told : IsExplained All pool names why
   pub is : text ≡ why ++ absent_lines pool names
 
 -- The heads that are nearest to that postcondition of the queries of these names; and which of the names are absent.

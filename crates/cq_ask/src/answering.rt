@@ -18,7 +18,7 @@ use cq_board::Board;
 use cq_desk::Floor;
 use cq_going::{MOST_STEPS, groups, tell_choice};
 use cq_rel::Tables;
-use cq_render::{explain_these, graph, json, near, put_block};
+use cq_render::{Extent, explain_these, graph, json, near, put_block};
 use std::alloc::{AllocError, Allocator};
 
 /// A floor over a board.
@@ -202,7 +202,7 @@ fn explain_text<A: Allocator + Copy>(
     ensures { IfOk result (λ text. IsWhyTold board.now names.now (string_bytes text)) }
 {
     let words = words_of(alloc, names)?;
-    let mut page = explain_these(alloc, board, &words)?;
+    let mut page = explain_these(alloc, board, Extent::All, &words)?;
     put_absent(board, names, &mut page)?;
     Ok(page)
 }

@@ -1,4 +1,5 @@
 pub mod Status
+pub mod Told
 pub mod Devices
 pub mod Rows
 pub mod Sessions

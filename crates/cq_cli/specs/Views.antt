@@ -1,20 +1,24 @@
 -- What the program reports about a board. (this project's profile)
-use Rattle.std.specs.Prelude.{◌≡◌, ◌⊎◌, ℕ, List, [], ◌∷◌, ◌++◌, Option, codes}
+use Rattle.std.specs.Prelude.{◌≡◌, ◌⊎◌, ℕ, Bool, true, false, List, [], ◌∷◌, ◌++◌, Option, codes}
 use Rattle.std.specs.Io.KnownBytes.{Appends}
 use Rattle.json.specs.Print.{print}
 use Rattle.json.specs.Tree.{json_tokens}
 use Rattle.cq_ask.specs.Choices.{StandForChoices}
 use Rattle.cq_board.specs.Choice.{ChoiceRecord, IsCoordinating}
+use Rattle.cq_board.specs.Pool.{PoolRecord}
 use Rattle.cq_render.specs.Report.{line}
-use Rattle.cq_render.specs.Graph.{graph}
+use Rattle.cq_closure.specs.Closure.{is_set}
+use Rattle.cq_render.specs.declared.extent.Extent.{Extent}
+use Rattle.cq_render.specs.Graph.{AreKept, graph_of}
 use Rattle.cq_render.specs.Json.{json_of}
 use Rattle.cq_going.specs.declared.telling.Outcome.{Outcome}
 use Rattle.cq_going.specs.Going.{IsSoughtTold}
+use Rattle.cq_going.specs.Boxes.{IsBoxed}
 use Rattle.cq_going.specs.Grouping.{AreGroupsTold}
 use Rattle.cq_report.specs.Machine.{shown}
 use Rattle.cq_report.specs.Output.{Left}
 use Rattle.cq_report.specs.Summary.{warning}
-use Rattle.cq_render.specs.Explain.{ArePieces, IsExplained}
+use Rattle.cq_render.specs.Explain.{ArePieces, IsExplained, IsToldOnce}
 use Rattle.cq_cli.specs.declared.status.Status.{Status}
 use Rattle.cq_cli.specs.declared.status.Status.TheVariants.{Done, NotSo}
 use Rattle.cq_cli.specs.Status.{status_of_outcome}
@@ -30,9 +34,20 @@ told_line origin (b ∷ bs) = line (codes "board: " ++ origin ++ b ∷ bs)
 abbrev pub Telling : Type 1
 Telling = Left → Status → List ℕ → List ℕ → Type 0
 
--- The graph.
-abbrev pub IsGraph : Telling
-IsGraph left status text notes = (status ≡ Done) × (text ≡ graph (shown left.floor)) × (notes ≡ [])
+-- The graph of the queries that are drawn, with groups in boxes or without.
+abbrev pub IsGraphOf : Bool → (ℕ → Bool) → PoolRecord → List ℕ → Type 0
+IsGraphOf false drawn pool text = text ≡ graph_of drawn [] pool
+IsGraphOf true drawn pool text = IsBoxed drawn pool text
+
+-- The graph of all queries; where names are given, of those that are kept with these.
+abbrev pub IsGraphWith : Bool → List (List ℕ) → PoolRecord → List ℕ → Type 0
+IsGraphWith boxed [] pool text = IsGraphOf boxed (λ place. true) pool text
+IsGraphWith boxed (name ∷ names) pool text = (flags : List Bool) × AreKept pool.pending (name ∷ names) flags × IsGraphOf boxed (is_set flags) pool text
+
+-- The graph; and beside it the names under which no query is pending.
+abbrev pub IsGraph : Bool → List (List ℕ) → Telling
+IsGraph boxed names left status text notes =
+    (status ≡ status_of_absent (absent_names (shown left.floor) names)) × IsGraphWith boxed names (shown left.floor) text × (notes ≡ absent_lines (shown left.floor) names)
 
 -- What the library for JSON prints of the board, and of how many entries it is, in a line.
 abbrev pub IsJson : Telling
@@ -56,10 +71,16 @@ IsJudged choices left status text notes =
     ⊎ ((status ≡ NotSo) × (IsCoordinating (shown left.floor) choices → ⊥) × (text ≡ codes "not coordinating\n")))
     × ArePieces (IsNoted (shown left.floor)) choices notes
 
--- Why the queries of these names wait, or all that do; and beside it the names under which no query is pending.
-abbrev pub AreExplained : List (List ℕ) → Telling
-AreExplained names left status text notes =
-    (status ≡ status_of_absent (absent_names (shown left.floor) names)) × IsExplained (shown left.floor) names text × (notes ≡ absent_lines (shown left.floor) names)
+-- Why the queries of these names wait, or all that do: each with all on which it rests, or, where no name is given and no tree is asked for, each query once.
+abbrev pub IsWhy : Bool → Extent → List (List ℕ) → PoolRecord → List ℕ → Type 0
+IsWhy true extent names pool text = IsExplained extent pool names text
+IsWhy false extent [] pool text = IsToldOnce extent pool text
+IsWhy false extent (name ∷ names) pool text = IsExplained extent pool (name ∷ names) text
+
+-- That; and beside it the names under which no query is pending.
+abbrev pub AreExplained : Bool → Extent → List (List ℕ) → Telling
+AreExplained tree extent names left status text notes =
+    (status ≡ status_of_absent (absent_names (shown left.floor) names)) × IsWhy tree extent names (shown left.floor) text × (notes ≡ absent_lines (shown left.floor) names)
 
 -- Bytes were told, unless the writer of errors failed.
 abbrev pub ToldOn : (failures failures' : ℕ) → (taken taken' : Option (List ℕ)) → List ℕ → Type 0

@@ -205,14 +205,28 @@ pub(crate) fn answer_look<A: Allocator + Copy, R: Source, W: Sink, E: Sink>(
     ensures refused { LeavesRefused source.old source.new sink.old sink.new result }
 {
     match wanted {
-        Look::Graph => answer_view(alloc, heap, origin, &Graph, source, sink, errors),
+        Look::Graph { names, is_boxed } => {
+            let graph = Graph {
+                names,
+                is_boxed: *is_boxed,
+            };
+            answer_view(alloc, heap, origin, &graph, source, sink, errors)
+        }
         Look::Json => answer_view(alloc, heap, origin, &Json, source, sink, errors),
         Look::Groups { steps } => {
             let groups = Groups { steps: *steps };
             answer_view(alloc, heap, origin, &groups, source, sink, errors)
         }
-        Look::Explain { names } => {
-            let explain = Explain { names };
+        Look::Explain {
+            names,
+            is_tree,
+            extent,
+        } => {
+            let explain = Explain {
+                names,
+                is_tree: *is_tree,
+                extent: *extent,
+            };
             answer_view(alloc, heap, origin, &explain, source, sink, errors)
         }
         Look::Choice { words } => answer_choice(alloc, heap, origin, words, source, sink, errors),

@@ -1,8 +1,8 @@
 //! The program `board`: replays a script, turns CSV into the insert lines of one, serves files, or tells something of the board that a script leaves.
 //!
 //! `wanted` says what the words ask for, `sizes` reads numbers of bytes from words, and `choices` choices. `replaying` replays a script, `rows` writes the insert lines of CSV,
-//! `views` says what is told of a board, `absent` of names under which no query is pending, `noting` of choices that are none by themselves, and `looking` reads a script and writes that. `prompting` prompts at a
-//! terminal, and `answering` turns words, a source
+//! `views` says what is told of a board, `drawing` draws it, `absent` tells of names under which no query is pending, `noting` of choices that are none by
+//! themselves, and `looking` reads a script and writes that. `prompting` prompts at a terminal, and `answering` turns words, a source
 //! and two sinks into the status that `status` numbers; `main` only opens the three standard streams. What a
 //! script means stands in the crates below.
 #![tactic(auto)]
@@ -10,6 +10,7 @@
 mod absent;
 mod answering;
 mod choices;
+mod drawing;
 mod fault;
 mod looking;
 mod noting;

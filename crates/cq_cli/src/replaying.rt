@@ -1,19 +1,35 @@
 //! Replays a script.
 
-ghost use Rattle.std.specs.Prelude.{◌≡◌, ◌≢◌, ◌<◌, ◌^◌, ◌⊎◌, ◌++◌, codes, string_bytes, true, IfOk};
+ghost use Rattle.std.specs.Prelude.{◌≡◌, ◌≢◌, ◌<◌, ◌^◌, ◌⊎◌, ◌++◌, List, ℕ, codes, string_bytes, true, IfOk, OnOk};
 ghost use Rattle.std.specs.Option.{is_some};
 ghost use Rattle.cq_render.specs.Report.{line};
+ghost use Rattle.cq_report.specs.Machine.{State};
 ghost use Rattle.cq_report.specs.Output.{left_in};
 ghost use Rattle.cq_report.specs.Summary.{summary};
-ghost use Rattle.cq_cli.specs.Devices.{counts, HaveRoom, LeavesRefused, ReportsFailures};
-ghost use Rattle.cq_cli.specs.Status.{status_after};
+ghost use Rattle.cq_cli.specs.Devices.{counts, HaveRoom, LeavesRefused, ReportsFailures, ReportsWriting};
+ghost use Rattle.cq_cli.specs.Status.{status_after, IsRefused};
+ghost use Rattle.cq_cli.specs.Told.{told_lines, summary_if, status_of_text, IsToldOf};
 ghost use Rattle.cq_cli.specs.Views.{ToldOn};
 
 use crate::status::Status;
 use crate::writing::{tell, tell_fault};
-use cq_devices::{Sink, Source};
-use cq_report::{Numbering, Ran, RunFault, put_summary, run};
+use cq_devices::{Counted, Sink, Source, read_whole};
+use cq_report::{Numbering, Played, Ran, RunFault, put_summary, run};
+use cq_why::put_whys;
 use std::alloc::{AllocError, Allocator, Global};
+
+/// The line that sums up what a script leaves.
+fn line_of<A: Allocator + Copy>(
+    heap: A,
+    origin: &str,
+    played: &Played<A>,
+) -> Result<String<A>, AllocError>
+    ensures { IfOk result (λ text. string_bytes text ≡ line (codes "board: " ++ origin.now ++ summary played.now)) }
+{
+    let mut words = String::new(heap);
+    put_summary(played, &mut words)?;
+    format!(in heap; "board: {origin}{words}\n")
+}
 
 /// The line that sums up a script.
 fn summary_line<A: Allocator + Copy>(
@@ -24,9 +40,7 @@ fn summary_line<A: Allocator + Copy>(
     ensures { IfOk result (λ text. string_bytes text ≡ line (codes "board: " ++ origin.now ++ summary (left_in ran))) }
 {
     let played = ran.into_played()?;
-    let mut words = String::new(heap);
-    put_summary(&played, &mut words)?;
-    format!(in heap; "board: {origin}{words}\n")
+    line_of(heap, origin, &played)
 }
 
 /// How a script is replayed.
@@ -38,6 +52,8 @@ pub(crate) struct Replaying {
     pub(crate) is_strict: bool,
     /// Whether it is summed up in the end.
     pub(crate) is_summed: bool,
+    /// Whether it is told in the end what is wrong with lines that are no commands.
+    pub(crate) is_told: bool,
 }
 
 /// How the program ends after a script, of which a line may have been refused.
@@ -80,6 +96,145 @@ fn end_replay<A: Allocator + Copy, E: Sink>(
     }
 }
 
+/// As many lines as were heard, or the most that are told of.
+fn told_lines(lines: u128) -> u64
+    ensures { result ≡ told_lines lines }
+{
+    if lines < 18_446_744_073_709_551_615 {
+        lines as u64
+    } else {
+        u64::MAX
+    }
+}
+
+/// Puts the line that sums up what a script leaves, where that is asked for.
+fn put_summary_if<A: Allocator + Copy>(
+    heap: A,
+    origin: &str,
+    is_summed: bool,
+    played: &Played<A>,
+    page: &mut String<A>,
+) -> Result<(), AllocError>
+    ensures { (state : State) → left_in state ≡ played.now → OnOk result (string_bytes page.new ≡ string_bytes page.old ++ summary_if is_summed origin.now state) }
+{
+    if is_summed {
+        let text = line_of(heap, origin, played)?;
+        page.push_str(text.as_str())?;
+    }
+    Ok(())
+}
+
+/// What is told of a script in the end: what is wrong with its lines, and the summary, where it is asked for.
+fn told_text<A: Allocator + Copy>(
+    heap: A,
+    origin: &str,
+    is_summed: bool,
+    script: &[u8],
+    ran: Ran<A>,
+) -> Result<String<A>, AllocError>
+    ensures { IfOk result (λ text. IsToldOf origin.now is_summed script.now ran (string_bytes text)) }
+{
+    let played = ran.into_played()?;
+    let mut text = String::new(heap);
+    put_whys(heap, origin, told_lines(played.lines()), script, &mut text)?;
+    put_summary_if(heap, origin, is_summed, &played, &mut text)?;
+    Ok(text)
+}
+
+/// Tells what is wrong with the lines of a script, and says how the program ends.
+fn end_told<A: Allocator + Copy, E: Sink>(
+    alloc: Global,
+    heap: A,
+    origin: &str,
+    replaying: Replaying,
+    script: &[u8],
+    ran: Ran<A>,
+    errors: &mut E,
+) -> Status
+    requires { E.write_failures errors.old < 2 ^ 62 }
+    ensures told { result ≢ Status.NoMemory → (text : List ℕ) × IsToldOf origin.now replaying.is_summed script.now ran text × ToldOn (E.write_failures errors.old) (E.write_failures errors.new) (E.taken errors.old) (E.taken errors.new) text }
+    ensures status { (result ≡ Status.NoMemory) ⊎ (result ≡ status_after replaying.is_strict (is_some ran.tally.first)) }
+{
+    let status = status_after(replaying.is_strict, ran.has_refused());
+    match told_text(heap, origin, replaying.is_summed, script, ran) {
+        Ok(words) => {
+            tell(errors, &words);
+            status
+        }
+        Err(AllocError) => {
+            tell_fault(alloc, origin, &RunFault::NoMemory, errors);
+            Status::NoMemory
+        }
+    }
+}
+
+/// How the program ends after a script that was in memory.
+fn status_of_text(fault: RunFault) -> Status
+    ensures { result ≡ status_of_text fault }
+{
+    match fault {
+        RunFault::Read { turn: _ } => Status::BadFile,
+        RunFault::Write => Status::Failed,
+        RunFault::NoMemory => Status::NoMemory,
+    }
+}
+
+/// Replays a script that is in memory, and tells what is wrong with its lines.
+fn replay_text<A: Allocator + Copy, W: Sink, E: Sink>(
+    alloc: Global,
+    heap: A,
+    origin: &str,
+    replaying: Replaying,
+    script: &[u8],
+    sink: &mut W,
+    errors: &mut E,
+) -> Status
+    requires sink { W.write_failures sink.old < 2 ^ 62 }
+    requires errors { E.write_failures errors.old < 2 ^ 62 }
+    ensures failures { ReportsWriting (W.write_failures sink.old) (W.write_failures sink.new) result }
+    ensures served { IsRefused result → ⊥ }
+{
+    let mut source = Counted::new(script);
+    match run(
+        heap,
+        replaying.numbering,
+        replaying.is_strict,
+        &mut source,
+        sink,
+    ) {
+        Ok(ran) => end_told(alloc, heap, origin, replaying, script, ran, errors),
+        Err(fault) => {
+            tell_fault(alloc, origin, &fault, errors);
+            status_of_text(fault)
+        }
+    }
+}
+
+/// Reads the script that the source gives to its end, replays it, and tells what is wrong with its lines.
+fn answer_told<A: Allocator + Copy, R: Source, W: Sink, E: Sink>(
+    alloc: Global,
+    heap: A,
+    origin: &str,
+    replaying: Replaying,
+    source: &mut R,
+    sink: &mut W,
+    errors: &mut E,
+) -> Status
+    requires devices { HaveRoom (counts R.reads_made R.failures_met W.write_failures source.old sink.old) }
+    requires errors { E.write_failures errors.old < 2 ^ 62 }
+    ensures failures { ReportsFailures (counts R.reads_made R.failures_met W.write_failures source.old sink.old) (counts R.reads_made R.failures_met W.write_failures source.new sink.new) result }
+    ensures refused { LeavesRefused source.old source.new sink.old sink.new result }
+{
+    match read_whole(heap, source) {
+        Ok(script) => replay_text(alloc, heap, origin, replaying, &script, sink, errors),
+        Err(fault) => {
+            let stopped = RunFault::from(fault);
+            tell_fault(alloc, origin, &stopped, errors);
+            Status::of_run(stopped)
+        }
+    }
+}
+
 /// Replays the script that the source gives, and tells a fault of it.
 pub(crate) fn answer_replay<A: Allocator + Copy, R: Source, W: Sink, E: Sink>(
     alloc: Global,
@@ -95,6 +250,9 @@ pub(crate) fn answer_replay<A: Allocator + Copy, R: Source, W: Sink, E: Sink>(
     ensures failures { ReportsFailures (counts R.reads_made R.failures_met W.write_failures source.old sink.old) (counts R.reads_made R.failures_met W.write_failures source.new sink.new) result }
     ensures refused { LeavesRefused source.old source.new sink.old sink.new result }
 {
+    if replaying.is_told {
+        return answer_told(alloc, heap, origin, replaying, source, sink, errors);
+    }
     match run(heap, replaying.numbering, replaying.is_strict, source, sink) {
         Ok(ran) => end_replay(alloc, heap, origin, replaying, ran, errors),
         Err(fault) => {

@@ -1,21 +1,23 @@
 //! What is reported about the board that a script leaves.
 
-ghost use Rattle.std.specs.Prelude.{◌≡◌, ◌⊎◌, [], true, false, codes, string_bytes, IfOk};
+ghost use Rattle.std.specs.Prelude.{◌≡◌, ◌⊎◌, [], true, false, codes, map, string_bytes, IfOk};
 ghost use Rattle.json.specs.Print.{print};
 ghost use Rattle.json.specs.Tree.{json_tokens};
 ghost use Rattle.cq_board.specs.Choice.{IsCoordinating};
 ghost use Rattle.cq_render.specs.Report.{line};
 ghost use Rattle.cq_render.specs.Json.{json_of};
 ghost use Rattle.cq_cli.specs.Status.{IsTold};
-ghost use Rattle.cq_cli.specs.Views.{IsJudged};
+ghost use Rattle.cq_cli.specs.Explained.{absent_lines, absent_names, status_of_absent};
+ghost use Rattle.cq_cli.specs.Views.{IsJudged, IsWhy};
 
 use crate::absent::{put_absent, status_of_absent};
+use crate::drawing::draw;
 use crate::noting::put_notes;
 use crate::status::Status;
 use cq_atom::Name;
 use cq_board::{Board, Choice};
 use cq_going::{groups, tell_choice};
-use cq_render::{explain_these, graph, json};
+use cq_render::{Extent, explain_named, explain_once, explain_these, json};
 use cq_report::Played;
 use std::alloc::{AllocError, Allocator};
 
@@ -54,18 +56,44 @@ fn done<A: Allocator + Copy>(heap: A, text: String<A>) -> Seen<A>
     }
 }
 
-/// The graph of who can supply whom.
-#[derive(Drop)]
-pub(crate) struct Graph;
+/// A text, and beside it which of the names are those of no pending query.
+fn with_absent<A: Allocator + Copy>(
+    heap: A,
+    board: &Board<A>,
+    names: &[&str],
+    text: String<A>,
+) -> Result<Seen<A>, AllocError>
+    ensures status { IfOk result (λ seen. seen.status ≡ status_of_absent (absent_names board.now (map (λ name. name.now) names.now))) }
+    ensures text { IfOk result (λ seen. string_bytes seen.text ≡ string_bytes text) }
+    ensures notes { IfOk result (λ seen. string_bytes seen.notes ≡ absent_lines board.now (map (λ name. name.now) names.now)) }
+    ensures told { IfOk result (λ seen. IsTold seen.status) }
+{
+    let mut notes = String::new(heap);
+    put_absent(heap, board, names, &mut notes)?;
+    Ok(Seen {
+        status: status_of_absent(&notes),
+        text,
+        notes,
+    })
+}
 
-impl<A: Allocator + Copy> View<A> for Graph {
+/// The graph of who can supply whom: of the queries of these names and those on which they hang, or of all; with groups in boxes or without.
+#[derive(Drop)]
+pub(crate) struct Graph<'a> {
+    pub(crate) names: &'a [&'a str],
+    pub(crate) is_boxed: bool,
+}
+
+impl<'a, A: Allocator + Copy> View<A> for Graph<'a> {
+    ghost use Rattle.std.specs.Prelude.{map};
     ghost use Rattle.cq_cli.specs.Views.{IsGraph};
 
-    ghost tells = { λ _. IsGraph };
+    ghost tells = { λ graph. IsGraph graph.is_boxed (map (λ name. name.now) graph.names.now) };
 
     fn look(&self, heap: A, script: &Played<A>) -> Result<Seen<A>, AllocError> {
-        let text = graph(heap, script.board())?;
-        Ok(done(heap, text))
+        let board = script.board();
+        let text = draw(heap, board, self.names, self.is_boxed)?;
+        with_absent(heap, board, self.names, text)
     }
 }
 
@@ -172,26 +200,42 @@ impl<'a, A: Allocator + Copy> View<A> for Judge<'a, A> {
 }
 
 /// Why the queries of these names wait, or all that do.
+fn why<A: Allocator + Copy>(
+    heap: A,
+    board: &Board<A>,
+    is_tree: bool,
+    extent: Extent,
+    names: &[&str],
+) -> Result<String<A>, AllocError>
+    ensures { IfOk result (λ text. IsWhy is_tree extent (map (λ name. name.now) names.now) board.now (string_bytes text)) }
+{
+    if is_tree {
+        explain_these(heap, board, extent, names)
+    } else if names.is_empty() {
+        explain_once(heap, board, extent)
+    } else {
+        explain_named(heap, board, extent, names)
+    }
+}
+
+/// Why the queries of these names wait, or all that do.
 #[derive(Drop)]
 pub(crate) struct Explain<'a> {
     pub(crate) names: &'a [&'a str],
+    /// Whether each is told of with all on which it rests, also where there is no name.
+    pub(crate) is_tree: bool,
+    pub(crate) extent: Extent,
 }
 
 impl<'a, A: Allocator + Copy> View<A> for Explain<'a> {
     ghost use Rattle.std.specs.Prelude.{map};
     ghost use Rattle.cq_cli.specs.Views.{AreExplained};
 
-    ghost tells = { λ explain. AreExplained (map (λ name. name.now) explain.names.now) };
+    ghost tells = { λ explain. AreExplained explain.is_tree explain.extent (map (λ name. name.now) explain.names.now) };
 
     fn look(&self, heap: A, script: &Played<A>) -> Result<Seen<A>, AllocError> {
         let board = script.board();
-        let text = explain_these(heap, board, self.names)?;
-        let mut notes = String::new(heap);
-        put_absent(heap, board, self.names, &mut notes)?;
-        Ok(Seen {
-            status: status_of_absent(&notes),
-            text,
-            notes,
-        })
+        let text = why(heap, board, self.is_tree, self.extent, self.names)?;
+        with_absent(heap, board, self.names, text)
     }
 }

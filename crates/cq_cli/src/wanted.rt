@@ -4,6 +4,7 @@ use crate::replaying::Replaying;
 use crate::rows::SheetWords;
 use clap::{Arg, ArgAction, ArgMatches, Command, Error, value_parser};
 use cq_going::MOST_STEPS;
+use cq_render::Extent;
 use cq_report::Numbering;
 use std::alloc::{AllocError, Global};
 use std::convert::AsStr;
@@ -58,6 +59,9 @@ Where a line needs more memory than there is, or than --memory allows, the lines
 reply, and `board: out of memory` is told.
 
 With --strict the replay ends at the first line that is refused, once its reply is written.
+
+With --why the script is read to its end before it is replayed. In the end one line on standard error tells of each line that is no
+command what was expected and what was found there, with the line's number and a caret.
 
 Exit status: 0 done (refused lines included), 1 a device failed, 2 usage, 3 out of memory, 7 a line was refused (--strict).
 docs/formats.md describes the language.";
@@ -130,8 +134,10 @@ const ABOUT_EXPLAIN: &str = "Reads a script, and tells why queries of its board 
 
 const BEHIND_EXPLAIN: &str =
     "The script is read as by `board replay`, and no reply is written. What is told is of the published board, which a `show`
-behind the last line would print: for each query that waits, or for each NAME, the queries on which it rests, itself last, one
-line each. A query waits where its body finds no row, or where nobody supplies a postcondition of it but queries that wait.
+behind the last line would print. A query waits where its body finds no row, or where nobody supplies a postcondition of it but
+queries that wait. Without a NAME, each query that waits has one line with its reason, below those on which the reason rests. For
+each NAME, and with --tree for each query that waits, the queries on which it rests are told, itself last. With --roots those
+reasons alone are told that rest on no other query.
 
 Example:
   relation Flights 2
@@ -139,8 +145,7 @@ Example:
   post kramer {R(Jerry, x)} R(Kramer, x) <- Flights(x, Paris)
   publish
 tells
-  kramer waits
-    kramer: post 0 R(\"Jerry\", x): no provider; near: kramer head 0 R(\"Kramer\", x)
+  kramer waits: post 0 R(\"Jerry\", x): no provider; near: kramer head 0 R(\"Kramer\", x)
 
 Exit status: 0 done, 1 a device failed, 2 usage, 3 out of memory, 5 no query of a NAME is pending.
 docs/formats.md describes the lines.";
@@ -149,12 +154,13 @@ const ABOUT_GRAPH: &str = "Reads a script, and writes the graph of its board for
 
 const BEHIND_GRAPH: &str =
     "The script is read as by `board replay`, and no reply is written. The graph is of the published board, which a `show`
-behind the last line would print: a node for each query, and an edge for each head that supplies a postcondition.
+behind the last line would print: a node for each query, and an edge for each head that supplies a postcondition. With --only those
+queries alone are drawn whose names stand behind it, and those on which they hang: who supplies them, and so on.
 
 Example:
   board graph <pool.board | dot -Tsvg >pool.svg
 
-Exit status: 0 done, 1 a device failed, 2 usage, 3 out of memory.
+Exit status: 0 done, 1 a device failed, 2 usage, 3 out of memory, 5 no query of a NAME is pending.
 docs/formats.md describes the graph.";
 
 const ABOUT_JSON: &str = "Reads a script, and writes the report on its board in JSON.";
@@ -265,7 +271,12 @@ pub(crate) enum Task<'a> {
 #[derive(Drop, Debug)]
 pub(crate) enum Look<'a> {
     /// Its graph.
-    Graph,
+    Graph {
+        /// The words that stand for the names of those queries that are drawn, with those on which they hang; none for all.
+        names: Vec<&'a str>,
+        /// Whether groups are drawn in boxes.
+        is_boxed: bool,
+    },
     /// The report on it, in JSON.
     Json,
     /// Which of its queries hang together, and whether they can go.
@@ -284,6 +295,10 @@ pub(crate) enum Look<'a> {
     Explain {
         /// The words that stand for the queries' names; none for all that wait.
         names: Vec<&'a str>,
+        /// Whether each is told of with all on which it rests, also where there is no name.
+        is_tree: bool,
+        /// Which reasons are told.
+        extent: Extent,
     },
     /// Whether choices coordinate.
     Choice {
@@ -333,6 +348,12 @@ fn replay_command<'a>(alloc: Global) -> Result<Command<'a>, AllocError> {
                 .long("summary")
                 .action(ArgAction::SetTrue)
                 .help("Sum the script up on standard error in the end"),
+        )?
+        .arg(
+            Arg::new(alloc, "why")
+                .long("why")
+                .action(ArgAction::SetTrue)
+                .help("Tell on standard error what is wrong with lines that are no commands"),
         )?
         .arg(file(alloc))?
         .arg(memory(
@@ -435,6 +456,18 @@ fn explain_command<'a>(alloc: Global) -> Result<Command<'a>, AllocError> {
                 "The queries that are told of; all that wait where there is no name",
             ),
         )?
+        .arg(
+            Arg::new(alloc, "tree")
+                .long("tree")
+                .action(ArgAction::SetTrue)
+                .help("Tell of each query with all on which it rests, as for a NAME"),
+        )?
+        .arg(
+            Arg::new(alloc, "roots")
+                .long("roots")
+                .action(ArgAction::SetTrue)
+                .help("Tell the causes alone, which rest on no other query"),
+        )?
         .arg(file_option(alloc))?
         .arg(view_memory(alloc))
 }
@@ -444,6 +477,20 @@ fn graph_command<'a>(alloc: Global) -> Result<Command<'a>, AllocError> {
         .about(ABOUT_GRAPH)
         .after_help(BEHIND_GRAPH)
         .arg(file(alloc))?
+        .arg(
+            Arg::new(alloc, "only")
+                .long("only")
+                .value_name("NAME")
+                .num_args(1..)
+                .action(ArgAction::Append)
+                .help("Draw these queries, and those on which they hang"),
+        )?
+        .arg(
+            Arg::new(alloc, "clusters")
+                .long("clusters")
+                .action(ArgAction::SetTrue)
+                .help("Draw a box around each group of matched queries"),
+        )?
         .arg(view_memory(alloc))
 }
 
@@ -549,6 +596,15 @@ fn steps_of(matches: &ArgMatches<'_>) -> u64 {
     }
 }
 
+/// Which reasons are told.
+fn extent_of(matches: &ArgMatches<'_>) -> Extent {
+    if matches.get_flag("roots") {
+        Extent::Causes
+    } else {
+        Extent::All
+    }
+}
+
 /// How replies are numbered: so, where the option for it stands there.
 fn numbered(matches: &ArgMatches<'_>, option: &str, numbering: Numbering) -> Numbering {
     if matches.get_flag(option) {
@@ -580,8 +636,13 @@ fn task_of<'a>(
         },
         "explain" => Task::Look(Look::Explain {
             names: words_of(alloc, matches, "NAME")?,
+            is_tree: matches.get_flag("tree"),
+            extent: extent_of(matches),
         }),
-        "graph" => Task::Look(Look::Graph),
+        "graph" => Task::Look(Look::Graph {
+            names: words_of(alloc, matches, "only")?,
+            is_boxed: matches.get_flag("clusters"),
+        }),
         "json" => Task::Look(Look::Json),
         "groups" => Task::Look(Look::Groups {
             steps: steps_of(matches),
@@ -598,6 +659,7 @@ fn task_of<'a>(
             numbering: numbered(matches, "number", Numbering::Numbered),
             is_strict: matches.get_flag("strict"),
             is_summed: matches.get_flag("summary"),
+            is_told: matches.get_flag("why"),
         }),
     })
 }
@@ -615,6 +677,7 @@ pub(crate) fn read_words<'a, S: AsStr>(alloc: Global, words: &'a [S]) -> Result<
                 numbering: Numbering::Plain,
                 is_strict: false,
                 is_summed: false,
+                is_told: false,
             }),
             memory: None,
             file: None,

@@ -71,6 +71,13 @@ numbers_alike T n [] (y ∷ ys) text same told = cc
 numbers_alike T n (x ∷ xs) [] text same told = cc
 numbers_alike T n (x ∷ xs) (y ∷ ys) text same told = (told.0, told.1, told.2, numbers_alike T (n + 1) xs ys told.1 (omega (arith, same)) told.3, told.4)
 
+-- texts that are made of numbers are those of another list that is as long
+pub texts_alike : {X Y Z : Type 0} (f : ℕ → List Z) (n : ℕ) (xs : List X) (ys : List Y) → length xs ≡ length ys → flat_map (λ (p : ℕ × X). f p.0) (enumerate_from n xs) ≡ flat_map (λ (p : ℕ × Y). f p.0) (enumerate_from n ys)
+texts_alike f n [] [] same = refl
+texts_alike f n [] (y ∷ ys) same = cc
+texts_alike f n (x ∷ xs) [] same = cc
+texts_alike f n (x ∷ xs) (y ∷ ys) same = ap (λ rest. f n ++ rest) (texts_alike f (n + 1) xs ys (omega (arith, same)))
+
 pub map_mapped : {X Y Z : Type 0} (f : Y → Z) (h : X → Y) (xs : List X) → map (λ x. f (h x)) xs ≡ map f (map h xs)
 map_mapped f h [] = refl
 map_mapped {X} {Y} {Z} f h (x ∷ xs) = ap (λ (zs : List Z). f (h x) ∷ zs) (map_mapped f h xs)

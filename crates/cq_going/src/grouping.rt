@@ -50,7 +50,7 @@ fn matched_of<A: Allocator + Copy>(
     Ok(flags)
 }
 
-fn is_flagged(flags: &[bool], place: usize) -> bool
+pub(crate) fn is_flagged(flags: &[bool], place: usize) -> bool
     ensures { result ≡ is_flagged flags.now place }
 {
     match flags.get(place) {
@@ -77,7 +77,7 @@ fn links_between<A: Allocator>(
 }
 
 /// The label of the place.
-fn label_at(labels: &[usize], place: usize) -> usize
+pub(crate) fn label_at(labels: &[usize], place: usize) -> usize
     ensures { result ≡ slice_index_or labels.now place 0 }
 {
     match labels.get(place) {

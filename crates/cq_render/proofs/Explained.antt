@@ -6,6 +6,7 @@ use Rattle.std.specs.Option.{option_map_or}
 use Rattle.std.proofs.lemmas.List.{map-append, take_more}
 use Rattle.cq_board.specs.declared.near.NearMiss.{NearMiss}
 use Rattle.cq_board.specs.Pool.{PendingQuery, PoolRecord}
+use Rattle.cq_render.specs.declared.extent.Extent.{Extent}
 use Rattle.cq_render.specs.Explain.{ArePieces, near_words, missing_words, IsExplanation, IsToldBy}
 use Rattle.cq_render.proofs.Pieces.{by_bool}
 
@@ -48,10 +49,10 @@ missing_some pending read (n ∷ near) many = refl
 
 -- ---- what is reported about a name
 
-pub by_state : (state : Option Bool) (pool : PoolRecord) (name text : List ℕ) → option_map_or not state false ≡ true → IsExplanation pool name text → IsToldBy state pool name text
-by_state None pool name text on told = absurd (let never : false ≡ true = on in cc)
-by_state (Some true) pool name text on told = absurd (let never : false ≡ true = on in cc)
-by_state (Some false) pool name text on told = told
+pub by_state : (state : Option Bool) (extent : Extent) (pool : PoolRecord) (name text : List ℕ) → option_map_or not state false ≡ true → IsExplanation extent pool name text → IsToldBy state extent pool name text
+by_state None extent pool name text on told = absurd (let never : false ≡ true = on in cc)
+by_state (Some true) extent pool name text on told = absurd (let never : false ≡ true = on in cc)
+by_state (Some false) extent pool name text on told = told
 
 -- a query that waits has a number
 pub placed : (place : Option ℕ) (matched : ℕ → Bool) → option_map_or not (option_map matched place) false ≡ true → (n : ℕ) × (place ≡ Some n)

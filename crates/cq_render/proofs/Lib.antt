@@ -6,4 +6,5 @@ pub mod Ordered
 pub mod Walked
 pub mod Telling
 pub mod Explained
+mod Flagged
 pub mod Numbers

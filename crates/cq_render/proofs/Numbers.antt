@@ -64,7 +64,8 @@ module _ (pool : PoolRecord) where
       subst (Contains (numbers (nodes_of pool))) (number_at n 0 low)
       (Contains-get_or (numbers (nodes_of pool)) n 0 (let m = how_many in omega (arith, low, m)))
 
-  falls_low : (falls : List Fall) → AreFalls pool falls → All (λ (fall : Fall). fall.node < length pool.pending) falls
+  -- all falls are of queries that are pending
+  pub falls_low : (falls : List Fall) → AreFalls pool falls → All (λ (fall : Fall). fall.node < length pool.pending) falls
   falls_low falls all =
       let d : Fall = record { node = 0; reason = NotAble } in
       All-from_get_or (λ (fall : Fall). fall.node < length pool.pending) falls d

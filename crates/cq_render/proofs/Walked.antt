@@ -13,9 +13,9 @@ use Rattle.cq_board.specs.Board.{is_matched_at, name_at}
 use Rattle.cq_board.specs.Named.{query_named, matched_named, groundings_named}
 use Rattle.cq_board.proofs.CallerLemmas as by_name
 use Rattle.cq_render.specs.Report.{query_lines, block_of}
-use Rattle.cq_render.specs.Graph.{query_box, supplies}
+use Rattle.cq_render.specs.Graph.{if_drawn, query_box, supplies}
 use Rattle.cq_render.specs.Json.{query_json}
-use Rattle.cq_render.specs.Steps.Walking.{ShownRecord, shown_of, all_shown, shown_lines, shown_block, shown_box, shown_supplies, shown_json}
+use Rattle.cq_render.specs.Steps.Walking.{ShownRecord, shown_of, all_shown, shown_lines, shown_block, shown_box, shown_if, shown_supplies, shown_json}
 use Rattle.cq_render.proofs.Pieces.{ahead}
 
 -- ---- names
@@ -95,11 +95,11 @@ lines_all pool = flat_map-map (shown_lines pool.pending) (shown_of pool) (enumer
 pub blocks_all : (pool : PoolRecord) (name : List ℕ) → flat_map (shown_block pool.pending name) (all_shown pool) ≡ block_of pool name
 blocks_all pool name = flat_map-map (shown_block pool.pending name) (shown_of pool) (enumerate_from 0 pool.pending)
 
-pub boxes_all : (pool : PoolRecord) → flat_map shown_box (all_shown pool) ≡ flat_map (query_box pool) (enumerate_from 0 pool.pending)
-boxes_all pool = flat_map-map shown_box (shown_of pool) (enumerate_from 0 pool.pending)
+pub boxes_all : (pool : PoolRecord) (drawn : ℕ → Bool) → flat_map (shown_if drawn shown_box) (all_shown pool) ≡ flat_map (if_drawn drawn (query_box pool)) (enumerate_from 0 pool.pending)
+boxes_all pool drawn = flat_map-map (shown_if drawn shown_box) (shown_of pool) (enumerate_from 0 pool.pending)
 
-pub supplies_all : (pool : PoolRecord) → flat_map (shown_supplies pool.pending) (all_shown pool) ≡ flat_map (supplies pool.pending) (enumerate_from 0 pool.pending)
-supplies_all pool = flat_map-map (shown_supplies pool.pending) (shown_of pool) (enumerate_from 0 pool.pending)
+pub supplies_all : (pool : PoolRecord) (drawn : ℕ → Bool) → flat_map (shown_if drawn (shown_supplies pool.pending)) (all_shown pool) ≡ flat_map (if_drawn drawn (supplies pool.pending)) (enumerate_from 0 pool.pending)
+supplies_all pool drawn = flat_map-map (shown_if drawn (shown_supplies pool.pending)) (shown_of pool) (enumerate_from 0 pool.pending)
 
 pub json_all : (pool : PoolRecord) → map (shown_json pool.pending) (all_shown pool) ≡ map (query_json pool) (enumerate_from 0 pool.pending)
 json_all pool = map_twice (shown_json pool.pending) (shown_of pool) (enumerate_from 0 pool.pending)

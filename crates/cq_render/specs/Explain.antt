@@ -6,6 +6,7 @@ use Rattle.std.specs.Option.{option_and_then}
 use Rattle.cq_atom.specs.Text.{is_name}
 use Rattle.cq_atom.specs.Atom.{AtomRecord}
 use Rattle.cq_text.specs.Print.{printed_atom}
+use Rattle.cq_match.specs.Falling.{AreAllRounds}
 use Rattle.cq_match.specs.Graph.{edges_to}
 use Rattle.cq_match.specs.declared.falls.Fall.{Fall}
 use Rattle.cq_match.specs.declared.falls.Reason.{Reason}
@@ -13,10 +14,12 @@ use Rattle.cq_match.specs.declared.falls.Reason.TheVariants.{NotAble, Unmet}
 use Rattle.cq_board.specs.declared.near.NearMiss.{NearMiss}
 use Rattle.cq_board.specs.Pool.{PendingQuery, PoolRecord, name_of}
 use Rattle.cq_board.specs.Edges.{edges_of}
-use Rattle.cq_board.specs.Board.{name_at, name_or_none, place_of}
+use Rattle.cq_board.specs.Board.{name_at, name_or_none, nodes_of, place_of}
 use Rattle.cq_board.specs.Named.{query_named, matched_named}
 use Rattle.cq_board.specs.Near.{post_named, misses_named, miss_named, AreNearest}
 use Rattle.cq_board.specs.Waiting.{is_waiting, IsReasonPart}
+use Rattle.cq_render.specs.declared.extent.Extent.{Extent}
+use Rattle.cq_render.specs.declared.extent.Extent.TheVariants.{All, Causes}
 use Rattle.cq_render.specs.Report.{line}
 
 -- A text, or another list, is made of pieces, one for each element of a list, in its order, which tells that element.
@@ -78,14 +81,29 @@ IsStep pending fall line =
     let name = name_of_number pending fall.node in
     (words : List ℕ) × IsReasonTold pending name fall.node fall.reason words × (line ≡ codes "  " ++ name ++ codes ": " ++ words ++ codes "\n")
 
--- What is reported about a query that waits: its name, and a step for each query on which it rests, itself last.
-pub record IsExplanation (pool : PoolRecord) (name : List ℕ) (text : List ℕ) : Type 0 where
+-- A reason that rests on no other query: no row was found, or nobody supplies the postcondition, whether it is matched or waits.
+abbrev pub is_cause : List PendingQuery → ℕ → Reason → Bool
+is_cause pending waiter NotAble = true
+is_cause pending waiter (Unmet post) = length (edges_to waiter post (edges_of pending)) == 0
+
+-- All reasons are told, or the causes alone.
+abbrev pub is_told : Extent → List PendingQuery → Fall → Bool
+is_told All pending fall = true
+is_told Causes pending fall = is_cause pending fall.node fall.reason
+
+-- What is told so, or nothing.
+abbrev pub IsIfTold : Bool → (List ℕ → Type 0) → List ℕ → Type 0
+IsIfTold true tells text = tells text
+IsIfTold false tells text = text ≡ []
+
+-- What is reported about a query that waits: its name, and a step for each query on which it rests, itself last; or for each of these that has a cause.
+pub record IsExplanation (extent : Extent) (pool : PoolRecord) (name : List ℕ) (text : List ℕ) : Type 0 where
   pub place : ℕ
   pub there : place_of name pool.pending ≡ Some place
   pub part : List Fall
   pub reason : IsReasonPart pool place part
   pub steps : List ℕ
-  pub told : ArePieces (IsStep pool.pending) part steps
+  pub told : ArePieces (λ fall. IsIfTold (is_told extent pool.pending fall) (IsStep pool.pending fall)) part steps
   pub is : text ≡ name ++ codes " waits\n" ++ steps
 
 -- Whether the query that a word names is matched; nothing where it names no pending one.
@@ -93,23 +111,35 @@ abbrev pub state_of : PoolRecord → List ℕ → Option Bool
 state_of pool word = if is_name word then matched_named word pool else None
 
 -- What is reported about a word, by what it names.
-abbrev pub IsToldBy : Option Bool → PoolRecord → List ℕ → List ℕ → Type 0
-IsToldBy None pool word text = text ≡ []
-IsToldBy (Some true) pool word text = text ≡ word ++ codes " is matched\n"
-IsToldBy (Some false) pool word text = IsExplanation pool word text
+abbrev pub IsToldBy : Option Bool → Extent → PoolRecord → List ℕ → List ℕ → Type 0
+IsToldBy None extent pool word text = text ≡ []
+IsToldBy (Some true) extent pool word text = text ≡ word ++ codes " is matched\n"
+IsToldBy (Some false) extent pool word text = IsExplanation extent pool word text
 
 -- What is reported about a word: why the query of that name waits, or that it is matched; nothing where none is pending.
-abbrev pub IsTold : PoolRecord → List ℕ → List ℕ → Type 0
-IsTold pool word text = IsToldBy (state_of pool word) pool word text
+abbrev pub IsTold : Extent → PoolRecord → List ℕ → List ℕ → Type 0
+IsTold extent pool word text = IsToldBy (state_of pool word) extent pool word text
 
 -- The names of the queries that wait, in posting order.
 abbrev pub waiting_names : PoolRecord → List (List ℕ)
 waiting_names pool = filter (λ name. is_waiting name pool) (map name_of pool.pending)
 
 -- What is reported about these names; where there is none, about all queries that wait.
-abbrev pub IsExplained : PoolRecord → List (List ℕ) → List ℕ → Type 0
-IsExplained pool [] text = ArePieces (IsTold pool) (waiting_names pool) text
-IsExplained pool (name ∷ names) text = ArePieces (IsTold pool) (name ∷ names) text
+abbrev pub IsExplained : Extent → PoolRecord → List (List ℕ) → List ℕ → Type 0
+IsExplained extent pool [] text = ArePieces (IsTold extent pool) (waiting_names pool) text
+IsExplained extent pool (name ∷ names) text = ArePieces (IsTold extent pool) (name ∷ names) text
+
+-- A query that waits, and why, in one line.
+abbrev pub IsWaitLine : List PendingQuery → Fall → List ℕ → Type 0
+IsWaitLine pending fall line =
+    let name = name_of_number pending fall.node in
+    (words : List ℕ) × IsReasonTold pending name fall.node fall.reason words × (line ≡ name ++ codes " waits: " ++ words ++ codes "\n")
+
+-- All queries that wait, each once, with its reason, which rests on none but those before it: round after round. Or those alone that have a cause.
+pub record IsToldOnce (extent : Extent) (pool : PoolRecord) (text : List ℕ) : Type 0 where
+  pub falls : List Fall
+  pub rounds : AreAllRounds (nodes_of pool) (edges_of pool.pending) falls
+  pub told : ArePieces (λ fall. IsIfTold (is_told extent pool.pending fall) (IsWaitLine pool.pending fall)) falls text
 
 -- The heads that are nearest to a postcondition, each in a line.
 abbrev pub IsNearTold : List PendingQuery → List ℕ → ℕ → List ℕ → Type 0

@@ -1,6 +1,7 @@
 -- The graph of a pool in the language of Graphviz: a text made of whole lines. (this project's profile)
-use Rattle.std.specs.Prelude.{ℕ, Bool, List, [], ◌∷◌, ◌++◌, length, codes, decimal, if◌then◌else◌}
-use Rattle.std.specs.List.{flat_map, enumerate_from}
+use Rattle.std.specs.Prelude.{◌≡◌, ◌↔◌, ℕ, Bool, true, List, [], ◌∷◌, ◌++◌, length, map, codes, decimal, if◌then◌else◌}
+use Rattle.std.specs.List.{flat_map, enumerate_from, list_any}
+use Rattle.std.specs.Str.{bytes_eq}
 use Rattle.cq_atom.specs.Atom.{AtomRecord}
 use Rattle.cq_text.specs.Print.{escaped, printed_atom}
 use Rattle.cq_atom.specs.declared.edge.Edge.{Edge}
@@ -8,6 +9,9 @@ use Rattle.cq_match.specs.Graph.{edges_to, is_crowd}
 use Rattle.cq_board.specs.Pool.{PendingQuery, PoolRecord}
 use Rattle.cq_board.specs.Edges.{edges_of}
 use Rattle.cq_board.specs.Board.{is_matched_at}
+use Rattle.cq_closure.specs.Closure.{is_set, IsReached}
+use Rattle.cq_render.specs.declared.drawn.Drawn.{Drawn}
+use Rattle.cq_render.specs.declared.drawn.Drawn.TheVariants.{All, Flagged}
 use Rattle.cq_render.specs.Report.{state_word}
 
 -- A statement on a line of its own.
@@ -54,7 +58,33 @@ abbrev pub supplies : List PendingQuery → ℕ × PendingQuery → List ℕ
 supplies pending (waiter, posted) =
     flat_map (λ post. supply waiter post (edges_to waiter post.0 (edges_of pending))) (enumerate_from 0 posted.query.posts)
 
--- The graph: the pending queries in posting order, and then what supplies each of their postconditions.
+-- A query has one of the names.
+abbrev pub is_named_by : List (List ℕ) → PendingQuery → Bool
+is_named_by names posted = list_any (bytes_eq posted.name) names
+
+-- A query hangs on others: a query is kept where it has one of the names, or supplies a postcondition of one that is kept.
+abbrev pub IsKept : List PendingQuery → List (List ℕ) → ℕ → Type 0
+IsKept pending names = IsReached (edges_of pending) (map (λ posted. true) pending) (map (is_named_by names) pending)
+
+-- Those have a flag that are kept.
+abbrev pub AreKept : List PendingQuery → List (List ℕ) → List Bool → Type 0
+AreKept pending names flags = (place : ℕ) → (is_set flags place ≡ true) ↔ IsKept pending names place
+
+-- All queries are drawn, or those that have a flag.
+abbrev pub is_drawn : Drawn → ℕ → Bool
+is_drawn All place = true
+is_drawn (Flagged flags) place = is_set flags.now place
+
+-- What a query has in the graph, where it is drawn.
+abbrev pub if_drawn : (ℕ → Bool) → (ℕ × PendingQuery → List ℕ) → ℕ × PendingQuery → List ℕ
+if_drawn drawn text query = if drawn query.0 then text query else []
+
+-- The graph of the queries that are drawn: these in posting order, and then what supplies each of their postconditions; and more lines behind it.
+abbrev pub graph_of : (ℕ → Bool) → List ℕ → PoolRecord → List ℕ
+graph_of drawn more pool =
+    codes "digraph board {\n" ++ flat_map (if_drawn drawn (query_box pool)) (enumerate_from 0 pool.pending) ++ flat_map (if_drawn drawn (supplies pool.pending)) (enumerate_from 0 pool.pending)
+    ++ (more ++ codes "}\n")
+
+-- The graph of all queries.
 abbrev pub graph : PoolRecord → List ℕ
-graph pool =
-    codes "digraph board {\n" ++ flat_map (query_box pool) (enumerate_from 0 pool.pending) ++ flat_map (supplies pool.pending) (enumerate_from 0 pool.pending) ++ codes "}\n"
+graph = graph_of (λ place. true) []

@@ -12,9 +12,11 @@ ghost use Rattle.cq_board.specs.Named.{matched_named};
 ghost use Rattle.cq_board.specs.Near.{miss_read, post_named};
 ghost use Rattle.cq_board.specs.Waiting.{is_waiting, IsReasonPart};
 ghost use Rattle.cq_render.specs.Steps.Falls.{AreFalls};
-ghost use Rattle.cq_render.specs.Explain.{ArePieces, AreProviders, IsExplanation, atom_or_none, head_named, name_of_number, near_words, missing_words, wait_word, only_words, IsUnmetTold, IsReasonTold, IsStep, IsToldBy, IsTold, waiting_names, IsExplained, IsNearTold};
+ghost use Rattle.cq_render.specs.declared.extent.Extent.{Extent};
+ghost use Rattle.cq_render.specs.Explain.{ArePieces, AreProviders, IsExplanation, atom_or_none, head_named, name_of_number, near_words, missing_words, wait_word, only_words, IsUnmetTold, IsReasonTold, IsStep, is_cause, is_told, IsIfTold, IsToldBy, IsTold, waiting_names, IsExplained, IsNearTold};
 ghost use Rattle.cq_render.specs.Report.{line};
 
+use crate::extent::Extent;
 use crate::numbering::{Numbers, numbers_of};
 use crate::walking::{Listing, name_or_none, providers, walk};
 use cq_atom::{Atom, Bad, Edge, Name};
@@ -42,7 +44,7 @@ pub(crate) struct Fallen<'l, 'b, A: Allocator> {
 pub(crate) struct Looked<'b, A: Allocator> {
     listing: Listing<'b, A>,
     heads: Heads<'b, A>,
-    falls: Vec<Fall, A>,
+    pub(crate) falls: Vec<Fall, A>,
     numbers: Numbers<'b, A>,
     ghost offered: { heads ≡ listing.board.now },
     ghost numbered: { (name : List ℕ) → get_by (λ k. bytes_eq name k.now) numbers ≡ place_of name listing.board.now.pending },
@@ -324,7 +326,8 @@ fn post_reason<A: Allocator + Copy>(
     format!(in alloc; "post {post} {atom}: {unmet}")
 }
 
-fn reason_words<A: Allocator + Copy>(
+/// The reason for which the query of that name falls.
+pub(crate) fn reason_words<A: Allocator + Copy>(
     alloc: A,
     fallen: &Fallen<'_, '_, A>,
     name: &Name<A>,
@@ -353,18 +356,56 @@ fn step_line<A: Allocator + Copy>(
     format!(in alloc; "  {name}: {reason}\n")
 }
 
-/// Puts a step for each of the falls on an empty page.
+/// Whether the reason rests on no other query.
+fn is_cause<A: Allocator>(fallen: &Fallen<'_, '_, A>, fall: &Fall) -> bool
+    ensures { result ≡ is_cause fallen.now.listing.now.board.now.pending fall.now.node fall.now.reason }
+{
+    match fall.reason {
+        Reason::NotAble => true,
+        Reason::Unmet(post) => providers(fallen.listing, fall.node, usize::from(post)).is_empty(),
+    }
+}
+
+/// Whether the reason is told.
+pub(crate) fn is_told<A: Allocator>(fallen: &Fallen<'_, '_, A>, extent: Extent, fall: &Fall) -> bool
+    ensures { result ≡ is_told extent fallen.now.listing.now.board.now.pending fall.now }
+{
+    match extent {
+        Extent::All => true,
+        Extent::Causes => is_cause(fallen, fall),
+    }
+}
+
+/// The line of a step, where it is told.
+fn told_step<A: Allocator + Copy>(
+    alloc: A,
+    fallen: &Fallen<'_, '_, A>,
+    extent: Extent,
+    fall: &Fall,
+) -> Result<String<A>, AllocError>
+    requires { fall.now.node < length fallen.now.listing.now.queries.items }
+    ensures { IfOk result (λ text. IsIfTold (is_told extent fallen.now.listing.now.board.now.pending fall.now) (IsStep fallen.now.listing.now.board.now.pending fall.now) (string_bytes text)) }
+{
+    if is_told(fallen, extent, fall) {
+        step_line(alloc, fallen, fall)
+    } else {
+        Ok(String::new(alloc))
+    }
+}
+
+/// Puts a step for each of the falls that are told on an empty page.
 fn put_steps<A: Allocator + Copy>(
     alloc: A,
     fallen: &Fallen<'_, '_, A>,
+    extent: Extent,
     part: &[Fall],
     page: &mut String<A>,
 ) -> Result<(), AllocError>
     requires { All (λ fall. fall.node < length fallen.now.listing.now.queries.items) part.now }
-    ensures { string_bytes page.old ≡ [] → OnOk result (ArePieces (IsStep fallen.now.listing.now.board.now.pending) part.now (string_bytes page.new)) }
+    ensures { string_bytes page.old ≡ [] → OnOk result (ArePieces (λ fall. IsIfTold (is_told extent fallen.now.listing.now.board.now.pending fall) (IsStep fallen.now.listing.now.board.now.pending fall)) part.now (string_bytes page.new)) }
 {
     for fall in part {
-        let line = step_line(alloc, fallen, fall)?;
+        let line = told_step(alloc, fallen, extent, fall)?;
         page.push_str(line.as_str())?;
     }
     Ok(())
@@ -387,17 +428,18 @@ pub(crate) fn part_of<A: Allocator + Copy>(
 fn waiting_words<A: Allocator + Copy>(
     alloc: A,
     fallen: &Fallen<'_, '_, A>,
+    extent: Extent,
     name: &Name<A>,
     number: usize,
 ) -> Result<String<A>, AllocError>
     requires fell { AreFalls fallen.now.listing.now.board.now fallen.now.parts.now.falls }
     requires there { place_of name.now fallen.now.listing.now.board.now.pending ≡ Some number }
     requires waits { is_waiting name.now fallen.now.listing.now.board.now ≡ true }
-    ensures { IfOk result (λ text. IsExplanation fallen.now.listing.now.board.now name.now (string_bytes text)) }
+    ensures { IfOk result (λ text. IsExplanation extent fallen.now.listing.now.board.now name.now (string_bytes text)) }
 {
     let part = part_of(fallen, number)?;
     let mut steps = String::new(alloc);
-    put_steps(alloc, fallen, &part, &mut steps)?;
+    put_steps(alloc, fallen, extent, &part, &mut steps)?;
     let name = name.as_str();
     let steps = steps.as_str();
     format!(in alloc; "{name} waits\n{steps}")
@@ -418,7 +460,7 @@ fn settled_words<A: Allocator + Copy>(
     board: &Board<A>,
     name: &Name<A>,
 ) -> Result<String<A>, AllocError>
-    ensures { is_waiting name.now board.now ≡ false → IfOk result (λ text. IsToldBy (matched_named name.now board.now) board.now name.now (string_bytes text)) }
+    ensures { (extent : Extent) → is_waiting name.now board.now ≡ false → IfOk result (λ text. IsToldBy (matched_named name.now board.now) extent board.now name.now (string_bytes text)) }
 {
     if board.is_matched(name).is_none() {
         return Ok(String::new(alloc));
@@ -437,16 +479,17 @@ pub(crate) fn number_of<A: Allocator>(fallen: &Fallen<'_, '_, A>, wanted: &Name<
 fn told_of_name<A: Allocator + Copy>(
     alloc: A,
     fallen: &Fallen<'_, '_, A>,
+    extent: Extent,
     name: &Name<A>,
 ) -> Result<String<A>, AllocError>
     requires fell { AreFalls fallen.now.listing.now.board.now fallen.now.parts.now.falls }
-    ensures { IfOk result (λ text. IsToldBy (matched_named name.now fallen.now.listing.now.board.now) fallen.now.listing.now.board.now name.now (string_bytes text)) }
+    ensures { IfOk result (λ text. IsToldBy (matched_named name.now fallen.now.listing.now.board.now) extent fallen.now.listing.now.board.now name.now (string_bytes text)) }
 {
     if !is_waiting(fallen.listing.board, name) {
         return settled_words(alloc, fallen.listing.board, name);
     }
     match number_of(fallen, name) {
-        Some(number) => waiting_words(alloc, fallen, name, number),
+        Some(number) => waiting_words(alloc, fallen, extent, name, number),
         None => unreachable!(),
     }
 }
@@ -454,13 +497,14 @@ fn told_of_name<A: Allocator + Copy>(
 fn told<A: Allocator + Copy>(
     alloc: A,
     fallen: &Fallen<'_, '_, A>,
+    extent: Extent,
     word: &str,
 ) -> Result<String<A>, AllocError>
     requires fell { AreFalls fallen.now.listing.now.board.now fallen.now.parts.now.falls }
-    ensures { IfOk result (λ text. IsTold fallen.now.listing.now.board.now word.now (string_bytes text)) }
+    ensures { IfOk result (λ text. IsTold extent fallen.now.listing.now.board.now word.now (string_bytes text)) }
 {
     match Name::new(alloc, word) {
-        Ok(name) => told_of_name(alloc, fallen, &name),
+        Ok(name) => told_of_name(alloc, fallen, extent, &name),
         Err(Bad::NoMemory) => Err(AllocError),
         Err(_) => Ok(String::new(alloc)),
     }
@@ -470,14 +514,15 @@ fn told<A: Allocator + Copy>(
 fn put_told<A: Allocator + Copy>(
     alloc: A,
     fallen: &Fallen<'_, '_, A>,
+    extent: Extent,
     words: &[&str],
     page: &mut String<A>,
 ) -> Result<(), AllocError>
     requires fell { AreFalls fallen.now.listing.now.board.now fallen.now.parts.now.falls }
-    ensures { string_bytes page.old ≡ [] → OnOk result (ArePieces (IsTold fallen.now.listing.now.board.now) (map (λ word. word.now) words.now) (string_bytes page.new)) }
+    ensures { string_bytes page.old ≡ [] → OnOk result (ArePieces (IsTold extent fallen.now.listing.now.board.now) (map (λ word. word.now) words.now) (string_bytes page.new)) }
 {
     for word in words {
-        let text = told(alloc, fallen, word)?;
+        let text = told(alloc, fallen, extent, word)?;
         page.push_str(text.as_str())?;
     }
     Ok(())
@@ -487,14 +532,15 @@ fn put_told<A: Allocator + Copy>(
 fn put_words<A: Allocator + Copy>(
     alloc: A,
     board: &Board<A>,
+    extent: Extent,
     words: &[&str],
     page: &mut String<A>,
 ) -> Result<(), AllocError>
-    ensures { string_bytes page.old ≡ [] → OnOk result (ArePieces (IsTold board.now) (map (λ word. word.now) words.now) (string_bytes page.new)) }
+    ensures { string_bytes page.old ≡ [] → OnOk result (ArePieces (IsTold extent board.now) (map (λ word. word.now) words.now) (string_bytes page.new)) }
 {
     let looked = look(alloc, board)?;
     let parts = looked.parts(alloc)?;
-    put_told(alloc, &fallen_of(&looked, &parts), words, page)
+    put_told(alloc, &fallen_of(&looked, &parts), extent, words, page)
 }
 
 /// Those of the names under which queries wait.
@@ -532,17 +578,18 @@ fn words_of<'a, A: Allocator>(
 fn explain_each<A: Allocator + Copy>(
     alloc: A,
     board: &Board<A>,
+    extent: Extent,
     names: &[&Name<A>],
 ) -> Result<String<A>, AllocError>
-    ensures { IfOk result (λ text. ArePieces (IsTold board.now) (map (λ name. name.now) names.now) (string_bytes text)) }
+    ensures { IfOk result (λ text. ArePieces (IsTold extent board.now) (map (λ name. name.now) names.now) (string_bytes text)) }
 {
     let words = words_of(alloc, names)?;
-    explain_named(alloc, board, &words)
+    explain_named(alloc, board, extent, &words)
 }
 
 /// Why queries of a board wait, told of each of the words in their order. Of a name under which a query waits it is a line
-/// `NAME waits`, and below it a line for each query on which that one rests, itself last, with its reason; of a name under which
-/// a query is matched a line that says so; nothing of any other word. All queries fall once, in the time of [`Board::falls`]; then
+/// `NAME waits`, and below it a line for each query on which that one rests, itself last, with its reason, or for those alone that have a cause; of a
+/// name under which a query is matched a line that says so; nothing of any other word. All queries fall once, in the time of [`Board::falls`]; then
 /// each line has the time of its providers, up to sorting, and where there is none, that of [`Heads::near_misses`].
 ///
 /// # Errors
@@ -550,12 +597,13 @@ fn explain_each<A: Allocator + Copy>(
 pub fn explain_named<A: Allocator + Copy>(
     alloc: A,
     board: &Board<A>,
+    extent: Extent,
     words: &[&str],
 ) -> Result<String<A>, AllocError>
-    ensures { IfOk result (λ text. ArePieces (IsTold board.now) (map (λ word. word.now) words.now) (string_bytes text)) }
+    ensures { IfOk result (λ text. ArePieces (IsTold extent board.now) (map (λ word. word.now) words.now) (string_bytes text)) }
 {
     let mut page = String::new(alloc);
-    put_words(alloc, board, words, &mut page)?;
+    put_words(alloc, board, extent, words, &mut page)?;
     Ok(page)
 }
 
@@ -563,12 +611,16 @@ pub fn explain_named<A: Allocator + Copy>(
 ///
 /// # Errors
 /// `AllocError` where an allocation failed.
-pub fn explain<A: Allocator + Copy>(alloc: A, board: &Board<A>) -> Result<String<A>, AllocError>
-    ensures { IfOk result (λ text. ArePieces (IsTold board.now) (waiting_names board.now) (string_bytes text)) }
+pub fn explain<A: Allocator + Copy>(
+    alloc: A,
+    board: &Board<A>,
+    extent: Extent,
+) -> Result<String<A>, AllocError>
+    ensures { IfOk result (λ text. ArePieces (IsTold extent board.now) (waiting_names board.now) (string_bytes text)) }
 {
     let names = board.names()?;
     let waiting = waiting(alloc, board, &names)?;
-    explain_each(alloc, board, &waiting)
+    explain_each(alloc, board, extent, &waiting)
 }
 
 /// Why the queries of these names wait; where there is no name, all that wait.
@@ -578,14 +630,15 @@ pub fn explain<A: Allocator + Copy>(alloc: A, board: &Board<A>) -> Result<String
 pub fn explain_these<A: Allocator + Copy>(
     alloc: A,
     board: &Board<A>,
+    extent: Extent,
     names: &[&str],
 ) -> Result<String<A>, AllocError>
-    ensures { IfOk result (λ text. IsExplained board.now (map (λ name. name.now) names.now) (string_bytes text)) }
+    ensures { IfOk result (λ text. IsExplained extent board.now (map (λ name. name.now) names.now) (string_bytes text)) }
 {
     if names.is_empty() {
-        explain(alloc, board)
+        explain(alloc, board, extent)
     } else {
-        explain_named(alloc, board, names)
+        explain_named(alloc, board, extent, names)
     }
 }
 

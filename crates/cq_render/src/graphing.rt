@@ -3,9 +3,10 @@
 ghost use Rattle.std.specs.Prelude.{◌≡◌, ◌++◌, string_bytes, IfOk, OnOk};
 ghost use Rattle.std.specs.List.{flat_map, enumerate_from};
 ghost use Rattle.cq_text.specs.Print.{escaped, printed_atom};
-ghost use Rattle.cq_render.specs.Graph.{border, query_box, crowd_mark, arrow, gap_box, gap_arrow, supply, supplies, graph};
-ghost use Rattle.cq_render.specs.Steps.Walking.{shown_box, shown_read, shown_supplies};
+ghost use Rattle.cq_render.specs.Graph.{border, query_box, crowd_mark, arrow, gap_box, gap_arrow, supply, supplies, is_drawn, if_drawn, graph_of, graph};
+ghost use Rattle.cq_render.specs.Steps.Walking.{shown_box, shown_if, shown_read, shown_supplies};
 
+use crate::drawn::Drawn;
 use crate::page::put;
 use crate::quoting::quoted_atom;
 use crate::walking::{Listing, Shown, providers, walk};
@@ -137,45 +138,81 @@ fn put_supplies<A: Allocator + Copy>(
     Ok(())
 }
 
-/// Puts what supplies the postconditions of each query.
+/// Puts the box of the query, where it is drawn.
+fn put_box<A: Allocator + Copy>(
+    alloc: A,
+    drawn: Drawn<'_>,
+    shown: &Shown<'_, A>,
+    page: &mut String<A>,
+) -> Result<(), AllocError>
+    ensures { OnOk result (string_bytes page.new ≡ string_bytes page.old ++ shown_if (is_drawn drawn.entry) shown_box (shown_read shown.now)) }
+{
+    if drawn.has(shown.number) {
+        put(page, query_box(alloc, shown))
+    } else {
+        Ok(())
+    }
+}
+
+/// Puts what supplies the postconditions of the query, where it is drawn.
+fn put_drawn<A: Allocator + Copy>(
+    alloc: A,
+    drawn: Drawn<'_>,
+    listing: &Listing<'_, A>,
+    shown: &Shown<'_, A>,
+    page: &mut String<A>,
+) -> Result<(), AllocError>
+    ensures { OnOk result (string_bytes page.new ≡ string_bytes page.old ++ shown_if (is_drawn drawn.entry) (shown_supplies listing.now.board.now.pending) (shown_read shown.now)) }
+{
+    if drawn.has(shown.number) {
+        put_supplies(alloc, listing, shown, page)
+    } else {
+        Ok(())
+    }
+}
+
+/// Puts what supplies the postconditions of each query that is drawn.
 fn put_each<A: Allocator + Copy>(
     alloc: A,
+    drawn: Drawn<'_>,
     listing: &Listing<'_, A>,
     page: &mut String<A>,
 ) -> Result<(), AllocError>
-    ensures { OnOk result (string_bytes page.new ≡ string_bytes page.old ++ flat_map (supplies listing.now.board.now.pending) (enumerate_from 0 listing.now.board.now.pending)) }
+    ensures { OnOk result (string_bytes page.new ≡ string_bytes page.old ++ flat_map (if_drawn (is_drawn drawn.entry) (supplies listing.now.board.now.pending)) (enumerate_from 0 listing.now.board.now.pending)) }
 {
     for shown in &listing.queries {
-        put_supplies(alloc, listing, shown, page)?;
+        put_drawn(alloc, drawn, listing, shown, page)?;
     }
     Ok(())
 }
 
-/// Puts the box of each query.
+/// Puts the box of each query that is drawn.
 fn put_boxes<A: Allocator + Copy>(
     alloc: A,
+    drawn: Drawn<'_>,
     listing: &Listing<'_, A>,
     page: &mut String<A>,
 ) -> Result<(), AllocError>
-    ensures { OnOk result (string_bytes page.new ≡ string_bytes page.old ++ flat_map (query_box listing.now.board.now) (enumerate_from 0 listing.now.board.now.pending)) }
+    ensures { OnOk result (string_bytes page.new ≡ string_bytes page.old ++ flat_map (if_drawn (is_drawn drawn.entry) (query_box listing.now.board.now)) (enumerate_from 0 listing.now.board.now.pending)) }
 {
     for shown in &listing.queries {
-        put(page, query_box(alloc, shown))?;
+        put_box(alloc, drawn, shown, page)?;
     }
     Ok(())
 }
 
-/// Puts the queries of a board, and what supplies them.
+/// Puts the queries of a board that are drawn, and what supplies them.
 fn put_board<A: Allocator + Copy>(
     alloc: A,
     board: &Board<A>,
+    drawn: Drawn<'_>,
     page: &mut String<A>,
 ) -> Result<(), AllocError>
-    ensures { OnOk result (string_bytes page.new ≡ string_bytes page.old ++ (flat_map (query_box board.now) (enumerate_from 0 board.now.pending) ++ flat_map (supplies board.now.pending) (enumerate_from 0 board.now.pending))) }
+    ensures { OnOk result (string_bytes page.new ≡ string_bytes page.old ++ (flat_map (if_drawn (is_drawn drawn.entry) (query_box board.now)) (enumerate_from 0 board.now.pending) ++ flat_map (if_drawn (is_drawn drawn.entry) (supplies board.now.pending)) (enumerate_from 0 board.now.pending))) }
 {
     let listing = walk(alloc, board)?;
-    put_boxes(alloc, &listing, page)?;
-    put_each(alloc, &listing, page)
+    put_boxes(alloc, drawn, &listing, page)?;
+    put_each(alloc, drawn, &listing, page)
 }
 
 /// The board as a graph in the language of Graphviz: a box for each pending query, and an edge for each pair of
@@ -187,9 +224,26 @@ fn put_board<A: Allocator + Copy>(
 pub fn graph<A: Allocator + Copy>(alloc: A, board: &Board<A>) -> Result<String<A>, AllocError>
     ensures { IfOk result (λ text. string_bytes text ≡ graph board.now) }
 {
+    graph_of(alloc, board, Drawn::All, "")
+}
+
+/// The graph of the queries that are drawn, with more lines behind it. Those that supply them are to be drawn too, as
+/// [`kept_with`](crate::kept_with) has it: an edge from one that is not would draw a box without a name.
+///
+/// # Errors
+/// `AllocError` where an allocation failed.
+pub fn graph_of<A: Allocator + Copy>(
+    alloc: A,
+    board: &Board<A>,
+    drawn: Drawn<'_>,
+    more: &str,
+) -> Result<String<A>, AllocError>
+    ensures { IfOk result (λ text. string_bytes text ≡ graph_of (is_drawn drawn.entry) more.now board.now) }
+{
     let mut text = String::new(alloc);
     text.push_str("digraph board {\n")?;
-    put_board(alloc, board, &mut text)?;
+    put_board(alloc, board, drawn, &mut text)?;
+    text.push_str(more)?;
     text.push_str("}\n")?;
     Ok(text)
 }

@@ -11,12 +11,16 @@
 #![tactic(auto)]
 
 mod data;
+mod drawn;
 mod explaining;
+mod extent;
 mod graphing;
 mod json_text;
+mod keeping;
 mod limits;
 mod naming;
 mod numbering;
+mod once;
 mod page;
 mod quoting;
 mod reasons;
@@ -25,11 +29,15 @@ mod walking;
 mod words;
 
 pub use data::{json, put_constant, put_values, put_variable};
+pub use drawn::Drawn;
 pub use explaining::{explain, explain_named, explain_these, near};
-pub use graphing::graph;
+pub use extent::Extent;
+pub use graphing::{graph, graph_of};
 pub use json_text::JsonText;
+pub use keeping::kept_with;
 pub use limits::MOST_KEPT;
 pub use naming::{put_named, put_standing};
+pub use once::explain_once;
 pub use page::put;
 pub use reasons::{put_near, put_reasons};
 pub use reporting::{put_block, put_report, report};

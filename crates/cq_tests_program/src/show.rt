@@ -2,9 +2,13 @@
 
 use cq_board::Board;
 use cq_devices::{Counted, WholeFault};
-use cq_render::{explain, explain_named, graph, json, report};
+use cq_going::boxed_graph;
+use cq_render::{
+    Drawn, Extent, explain, explain_named, explain_once, graph, json, kept_with, report,
+};
 use cq_report::{Played, read_script};
 use cq_tests_allocations::{Outcome, Tried, refusals};
+use cq_why::put_whys;
 use std::alloc::{AllocError, Allocator};
 
 /// What is written of a board.
@@ -17,6 +21,10 @@ enum View {
     Explained,
     /// What is reported about the third query, of a word that names none, and of the first.
     Named,
+    /// Which queries wait for a cause of their own.
+    Causes,
+    /// The graph of the first query and those on which it hangs, in boxes.
+    Boxed,
 }
 
 /// A script, and what is so written of the board that it leaves.
@@ -28,6 +36,9 @@ const SUPPLIED: &[u8] = b"relation T 1\ninsert T(1)\npost a {S(2), R(x)} S(x) <-
 /// The first query finds no row, the second waits for it, and the third has a slip of the pen.
 const WAITING: &[u8] =
     b"relation T 1\npost a {} S(1) <- T(x)\npost b {S(1)} R(2) <-\npost c {R(3)} Q(1) <-\npublish\n";
+
+/// The second query supplies the first, and the third nobody.
+const HANGING: &[u8] = b"post a {S(1)} Q(1) <-\npost b {} S(1) <-\npost c {} S(2) <-\npublish\n";
 
 const REPORT: &str = "relation T 1 rows 1
 query a waiting
@@ -65,13 +76,34 @@ a waits
   a: no row for its body
 ";
 
+const CAUSES: &str = "a waits: no row for its body
+c waits: post 0 R(3): no provider; near: b head 0 R(2)
+";
+
+const BOXED: &str = "digraph board {
+  q0 [label=\"a\\nmatched\", shape=box];
+  q1 [label=\"b\\nmatched\", shape=box];
+  q1 -> q0 [label=\"head 0, post 0\"];
+  subgraph cluster_0 { q0; }
+  subgraph cluster_0 { q1; }
+}
+";
+
 const TEXTS: &[Text] = &[
     (SUPPLIED, View::Report, REPORT),
     (SUPPLIED, View::Graph, GRAPH),
     (SUPPLIED, View::Json, JSON),
     (WAITING, View::Explained, EXPLAINED),
     (WAITING, View::Named, NAMED),
+    (WAITING, View::Causes, CAUSES),
+    (HANGING, View::Boxed, BOXED),
 ];
+
+/// The graph of the first query and those on which it hangs, in boxes.
+fn boxed<A: Allocator + Copy>(alloc: A, board: &Board<A>) -> Result<String<A>, AllocError> {
+    let kept = kept_with(alloc, board, ["a"].as_slice())?;
+    boxed_graph(alloc, board, Drawn::Flagged(&kept))
+}
 
 fn text_of<A: Allocator + Copy>(
     alloc: A,
@@ -82,8 +114,12 @@ fn text_of<A: Allocator + Copy>(
         View::Report => report(alloc, board),
         View::Graph => graph(alloc, board),
         View::Json => json(alloc, 2, board),
-        View::Explained => explain(alloc, board),
-        View::Named => explain_named(alloc, board, ["c", "no name", "a"].as_slice()),
+        View::Explained => explain(alloc, board, Extent::All),
+        View::Named => {
+            explain_named(alloc, board, Extent::All, ["c", "no name", "a"].as_slice())
+        }
+        View::Causes => explain_once(alloc, board, Extent::Causes),
+        View::Boxed => boxed(alloc, board),
     }
 }
 
@@ -154,6 +190,16 @@ fn failed_allocation_in_explain_named(rt: HostRuntime) {
     assert!(rt; matches!(refusals::<Nth<4>>(rt.alloc()), Ok(3..)));
 }
 
+#[test]
+fn failed_allocation_in_explain_once(rt: HostRuntime) {
+    assert!(rt; matches!(refusals::<Nth<5>>(rt.alloc()), Ok(3..)));
+}
+
+#[test]
+fn failed_allocation_in_boxed_graph(rt: HostRuntime) {
+    assert!(rt; matches!(refusals::<Nth<6>>(rt.alloc()), Ok(3..)));
+}
+
 /// Whether the script leaves the board of that report.
 fn is_left<A: Allocator + Copy>(alloc: A) -> Result<bool, WholeFault> {
     let played = played(alloc, SUPPLIED)?;
@@ -172,6 +218,38 @@ impl Tried for Playing {
             }
         }
     }
+}
+
+/// A word that is no command, and a variable in a row, under a `board` line.
+const FAULTY: &[u8] = b"board 2\npubilsh\ninsert T(x)";
+
+const WHYS: &str =
+    "board: a.board: line 2: pubilsh: no such command; did you mean publish?: ^pubilsh
+board: a.board: line 3: expected a number, a \"text\" or a Capitalised name; x is a variable: insert T(^x)
+";
+
+/// Whether these lines tell what is wrong with the script.
+fn is_told<A: Allocator + Copy>(alloc: A) -> Result<bool, AllocError> {
+    let mut page = String::new(alloc);
+    put_whys(alloc, "a.board: ", 3, FAULTY, &mut page)?;
+    Ok(page.as_str() == WHYS)
+}
+
+/// What is wrong with the lines of a script.
+struct Wrong;
+
+impl Tried for Wrong {
+    fn tried<A: Allocator + Copy>(alloc: A) -> Outcome {
+        match is_told(alloc) {
+            Ok(right) => Outcome::done_if(right),
+            Err(_) => Outcome::refused_if(is_told(alloc) == Ok(true)),
+        }
+    }
+}
+
+#[test]
+fn failed_allocation_in_put_whys(rt: HostRuntime) {
+    assert!(rt; matches!(refusals::<Wrong>(rt.alloc()), Ok(3..)));
 }
 
 #[test]

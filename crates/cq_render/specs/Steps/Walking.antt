@@ -46,6 +46,10 @@ shown_lines pending shown =
 abbrev pub shown_box : ShownRecord → List ℕ
 shown_box shown = box shown.number shown.name shown.matched
 
+-- What a query has in the graph, where it is drawn.
+abbrev pub shown_if : (ℕ → Bool) → (ShownRecord → List ℕ) → ShownRecord → List ℕ
+shown_if drawn text shown = if drawn shown.number then text shown else []
+
 -- What supplies its postconditions, of the graph.
 abbrev pub shown_supplies : List PendingQuery → ShownRecord → List ℕ
 shown_supplies pending shown = flat_map (λ post. supply shown.number post (edges_to shown.number post.0 (edges_of pending))) (enumerate_from 0 shown.query.posts)

@@ -1,10 +1,19 @@
-use Rattle.std.proofs.Common.{◌++◌, ◌∙◌, ap, List, ℕ}
+use Rattle.std.proofs.Common.{◌++◌, ◌∙◌, ap, subst, List, ℕ, arith}
 use Rattle.std.specs.Prelude.{string_bytes}
-use Rattle.cq_render.specs.Explain.{IsStep}
+use Rattle.std.proofs.lemmas.List.{take_all}
+use Rattle.cq_match.specs.declared.falls.Fall.{Fall}
+use Rattle.cq_render.specs.Explain.{ArePieces, IsStep, is_told, IsIfTold}
 use Rattle.cq_render.proofs.Explained.{pieces_step}
 use Rattle.cq_render.proofs.explaining.put_steps.Goals as goal
 
 pub loop-fall-preserved : goal.loop-fall-preserved
 loop-fall-preserved g c empty =
-    pieces_step (IsStep c.args.fallen.now.listing.now.board.now.pending) c.args.part.now c.loop-fall.fall-index _ (string_bytes c.loop-fall.page) _ (string_bytes c.in_ok-line.line)
+    let pending = c.args.fallen.now.listing.now.board.now.pending in
+    pieces_step (λ fall. IsIfTold (is_told c.args.extent pending fall) (IsStep pending fall)) c.args.part.now c.loop-fall.fall-index _ (string_bytes c.loop-fall.page) _ (string_bytes c.in_ok-line.line)
     c.loop-fall-test.true (c.loop-fall.invariant empty) c.in_ok-line.ensures (c.in_ok-push_str.ensures.bytes ∙ ap (λ (text : List ℕ). string_bytes c.loop-fall.page ++ text) c.as_str.ensures.value)
+
+pub returns : goal.returns
+returns g c empty =
+    let pending = c.args.fallen.now.listing.now.board.now.pending in
+    subst (λ (falls : List Fall). ArePieces (λ fall. IsIfTold (is_told c.args.extent pending fall) (IsStep pending fall)) falls (string_bytes c.loop-fall.page))
+    (take_all c.loop-fall.fall-index c.args.part.now (omega arith)) (c.loop-fall.invariant empty)

@@ -1,7 +1,8 @@
 use Rattle.std.proofs.Common.{◌≡◌, ◌++◌, List, ℕ, subst, sym, append_assoc}
 use Rattle.std.specs.Prelude.{codes, string_bytes, IfOk}
 use Rattle.std.proofs.lemmas.Result.{IfOk-weaker}
-use Rattle.cq_render.specs.Explain.{ArePieces, IsStep}
+use Rattle.cq_match.specs.declared.falls.Fall.{Fall}
+use Rattle.cq_render.specs.Explain.{ArePieces, IsStep, is_told, IsIfTold}
 use Rattle.cq_render.proofs.Numbers.{unmatched_at}
 use Rattle.cq_render.proofs.explaining.waiting_words.Goals as goal
 
@@ -18,8 +19,9 @@ pub returns : goal.returns
 returns g c =
     let pool = c.args.fallen.now.listing.now.board.now in
     let part = c.in_ok-part.part.items in
-    let steps : ArePieces (IsStep pool.pending) part c.as_str-steps.result.now =
-    subst (ArePieces (IsStep pool.pending) part) (sym c.as_str-steps.ensures.value) (rw c.deref.ensures.value at (c.in_ok-put_steps.ensures c.new-steps.ensures.bytes)) in
+    let tells : Fall → List ℕ → Type 0 = λ fall. IsIfTold (is_told c.args.extent pool.pending fall) (IsStep pool.pending fall) in
+    let steps : ArePieces tells part c.as_str-steps.result.now =
+    subst (ArePieces tells part) (sym c.as_str-steps.ensures.value) (rw c.deref.ensures.value at (c.in_ok-put_steps.ensures c.new-steps.ensures.bytes)) in
     let written : IfOk c.format.result (λ text. string_bytes text ≡ c.as_str-name.result.now ++ (codes " waits\n" ++ c.as_str-steps.result.now)) = c.format.ensures.ok in
     let told = subst (λ (bytes : List ℕ). IfOk c.format.result (λ text. string_bytes text ≡ bytes)) (whole c.as_str-name.result.now c.as_str-steps.result.now) written in
     IfOk-weaker c.format.result _ _

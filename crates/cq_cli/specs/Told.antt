@@ -1,0 +1,33 @@
+-- What is told in the end of a script that is replayed with why lines are refused. (this project's profile)
+use Rattle.std.specs.Prelude.{◌≡◌, ℕ, ◌-◌, ◌^◌, nat_lt, Bool, true, false, List, [], ◌++◌, None, take, codes, if◌then◌else◌}
+use Rattle.cq_render.specs.Report.{line}
+use Rattle.cq_report.specs.declared.fault.RunFault.{RunFault}
+use Rattle.cq_report.specs.declared.fault.RunFault.TheVariants as runs
+use Rattle.cq_report.specs.Lines.{lines_of}
+use Rattle.cq_report.specs.Machine.{State}
+use Rattle.cq_report.specs.Output.{left_in}
+use Rattle.cq_report.specs.Summary.{summary}
+use Rattle.cq_why.specs.Why.{AreWhys}
+use Rattle.cq_cli.specs.declared.status.Status.{Status}
+use Rattle.cq_cli.specs.declared.status.Status.TheVariants.{BadFile, Failed, NoMemory}
+
+-- As many lines as were heard, or the most that are told of.
+abbrev pub told_lines : ℕ → ℕ
+told_lines lines = if nat_lt lines (2 ^ 64 - 1) then lines else 2 ^ 64 - 1
+
+-- The summary, where it is asked for.
+abbrev pub summary_if : Bool → List ℕ → State → List ℕ
+summary_if false origin state = []
+summary_if true origin state = line (codes "board: " ++ origin ++ summary (left_in state))
+
+-- What is wrong with the lines that were heard, and the summary.
+pub record IsToldOf (origin : List ℕ) (is_summed : Bool) (script : List ℕ) (state : State) (text : List ℕ) : Type 0 where
+  pub whys : List ℕ
+  pub are : AreWhys origin 1 None (take (told_lines state.lines) (lines_of script)) whys
+  pub is : text ≡ whys ++ summary_if is_summed origin state
+
+-- A script that is read whole is no device: one that is too long is a file that fails.
+abbrev pub status_of_text : RunFault → Status
+status_of_text (runs.Read turn) = BadFile
+status_of_text runs.Write = Failed
+status_of_text runs.NoMemory = NoMemory

@@ -1,0 +1,31 @@
+use Rattle.std.proofs.Common.{◌≡◌, ◌∙◌, ℕ, Option, Some, None, refl, sym, ap, subst, [], append-nil}
+use Rattle.cq_text.specs.declared.fault.Kind.{Kind}
+use Rattle.cq_text.specs.declared.form.Form.{Form}
+use Rattle.cq_report.specs.Machine.{form_of, headed}
+use Rattle.cq_report.specs.Reading.{Reads, Faulty}
+use Rattle.cq_report.proofs.CallerLemmas.{the_fault}
+use Rattle.cq_why.specs.Why.{IsWhy}
+use Rattle.cq_why.proofs.whys.put_line.Goals as goal
+
+-- a faulty line settles the form in which it was read
+settled : (heading : Option Form) (kind : Kind) (offset : ℕ) → Some (form_of heading) ≡ headed heading (Faulty kind offset)
+settled None kind offset = refl
+settled (Some form) kind offset = refl
+
+pub returns-in-Ok : goal.returns-in-Ok
+returns-in-Ok g c =
+    (Reads c.in-Ok.command, rw c.form_of-form.ensures at c.in-Ok.ensures.found, c.headed.ensures, [], refl, sym (append-nil _))
+
+pub returns-in_ok-put_faulty-in-Err-At : goal.returns-in_ok-put_faulty-in-Err-At
+returns-in_ok-put_faulty-in-Err-At g c =
+    let heading = c.args.heading in
+    let form = c.form_of-form.ensures in
+    let reading = Faulty c.in-Err-At.kind c.in-Err-At.offset in
+    let told = c.in_ok-put_faulty-in-Err-At.ensures in (
+      reading,
+      rw form at (the_fault c.form_of-form.result c.args.line.now _ c.in-Err-At.kind c.in-Err-At.offset c.in-Err-At.field-0-is c.in-Err-At.ensures.fault),
+      ap Some form ∙ settled heading c.in-Err-At.kind c.in-Err-At.offset,
+      told.0,
+      subst (λ (x : Form). IsWhy c.args.origin.now c.args.number x c.args.line.now reading told.0) form (rw c.in-Err-At.field-0-is at told.1),
+      told.2,
+    )

@@ -1,0 +1,168 @@
+-- What is wrong with the lines of a script that are no commands, in plain words. (this project's profile)
+use Rattle.std.specs.Prelude.{◌≡◌, ℕ, ◌+◌, ◌-◌, ◌==◌, Bool, true, false, not, ◌||◌, ◌&&◌, nat_lt, nat_le, nat_eq, max, List, [], ◌∷◌, ◌++◌, length, map, fold, take, drop, codes, decimal, Option, Some, None, if◌then◌else◌}
+use Rattle.std.specs.List.{enumerate_from, flat_map, list_all, list_any, position}
+use Rattle.std.specs.Option.{unwrap_or}
+use Rattle.std.specs.Str.{bytes_eq, chars}
+use Rattle.strsim.specs.Edits.{levenshtein_row}
+use Rattle.cq_text.specs.declared.fault.Kind.{Kind}
+use Rattle.cq_text.specs.declared.fault.Kind.TheVariants as kinds
+use Rattle.cq_text.specs.declared.form.Form.{Form}
+use Rattle.cq_text.specs.declared.form.Form.TheVariants.{One, Two}
+use Rattle.cq_render.specs.Explain.{ArePieces}
+use Rattle.cq_report.specs.Reading.{Reading, Reads, Faulty, IsReading}
+use Rattle.cq_report.specs.Machine.{form_of, headed}
+
+-- ---- what was expected
+
+-- A token that is tried at a place of a line, and the words for it.
+abbrev pub Sample : Type 0
+Sample = List ℕ × List ℕ
+
+-- At the front of a line a command may stand.
+abbrev pub commands : List Sample
+commands =
+    (codes "board", codes "board") ∷ (codes "relation", codes "relation") ∷ (codes "limits", codes "limits") ∷ (codes "post", codes "post") ∷ (codes "withdraw", codes "withdraw")
+    ∷ (codes "insert", codes "insert") ∷ (codes "delete", codes "delete") ∷ (codes "publish", codes "publish") ∷ (codes "show", codes "show") ∷ []
+
+-- Behind it each kind of token, or none.
+abbrev pub tokens : List Sample
+tokens =
+    (codes "1", codes "a number") ∷ (codes "\"a\"", codes "a \"text\"") ∷ (codes "A", codes "a Capitalised name") ∷ (codes "a", codes "a lower-case name")
+    ∷ (codes "{", codes "{") ∷ (codes "}", codes "}") ∷ (codes "(", codes "(") ∷ (codes ")", codes ")") ∷ (codes ",", codes ",") ∷ (codes "<-", codes "<-")
+    ∷ ([], codes "the end of the line") ∷ []
+
+abbrev pub is_gap : ℕ → Bool
+is_gap byte = (byte == 32) || ((byte == 9) || (byte == 13))
+
+-- Nothing but gaps stands in front of the place.
+abbrev pub is_first : List ℕ → Bool
+is_first front = list_all is_gap front
+
+abbrev pub samples : Bool → List Sample
+samples true = commands
+samples false = tokens
+
+-- The front of a line, and the token behind it.
+abbrev pub trial : List ℕ → List ℕ → List ℕ
+trial front token = front ++ (codes " " ++ token)
+
+abbrev pub is_of_unbound : Kind → Bool
+is_of_unbound kinds.Token = false
+is_of_unbound kinds.Text = false
+is_of_unbound kinds.Number = false
+is_of_unbound kinds.Shape = false
+is_of_unbound kinds.Limit = false
+is_of_unbound kinds.Unbound = true
+
+-- The token may stand there: the trial is a command, or it has its first fault behind the front of the token, or it lacks nothing but a row's variable.
+abbrev pub passes : List ℕ → Reading → Bool
+passes front (Reads command) = true
+passes front (Faulty kind offset) = is_of_unbound kind || nat_lt 1 (offset - length front)
+
+-- The words of a token that may stand there, by the reading of its trial.
+abbrev pub IsTried : Form → List ℕ → Sample → List (List ℕ) → Type 0
+IsTried form front sample words = (reading : Reading) × IsReading form (trial front sample.0) reading × (words ≡ (if passes front reading then sample.1 ∷ [] else []))
+
+-- The words of the tokens that may stand behind the front of a line, by the grammar of commands.
+abbrev pub AreExpected : Form → List ℕ → List (List ℕ) → Type 0
+AreExpected form front words = ArePieces (IsTried form front) (samples (is_first front)) words
+
+-- ---- in words
+
+abbrev pub separator : ℕ → ℕ → List ℕ
+separator count place = if place == 0 then [] else (if count - place == 1 then codes " or " else codes ", ")
+
+-- One of several: `a, b or c`.
+abbrev pub one_of : List (List ℕ) → List ℕ
+one_of words = flat_map (λ word. separator (length words) word.0 ++ word.1) (enumerate_from 0 words)
+
+-- Letters, digits and `_` make words.
+abbrev pub is_word_byte : ℕ → Bool
+is_word_byte byte = (nat_le 48 byte && nat_le byte 57) || ((nat_le 65 byte && nat_le byte 90) || ((nat_le 97 byte && nat_le byte 122) || (byte == 95)))
+
+-- How many bytes the word has that begins the rest of a line.
+abbrev pub word_len : List ℕ → ℕ
+word_len rest = unwrap_or (position (λ byte. not (is_word_byte byte)) rest) (length rest)
+
+-- A byte as it is shown: itself where it is a character of ASCII that is seen, and else `?`.
+abbrev pub shown_byte : ℕ → ℕ
+shown_byte byte = if nat_le 32 byte && nat_le byte 126 then byte else 63
+
+abbrev pub shown : List ℕ → List ℕ
+shown bytes = map shown_byte bytes
+
+-- The word that begins the rest of a line, or else its first byte.
+abbrev pub found : List ℕ → List ℕ
+found rest = shown (take (max 1 (word_len rest)) rest)
+
+abbrev pub is_lower : List ℕ → Bool
+is_lower [] = false
+is_lower (byte ∷ bytes) = nat_le 97 byte && nat_le byte 122
+
+-- What was found: nothing, a variable where a constant may stand, or something else.
+abbrev pub found_words : List (List ℕ) → List ℕ → List ℕ
+found_words words [] = codes "the line ends"
+found_words words (byte ∷ bytes) =
+    if is_lower (byte ∷ bytes) && list_any (bytes_eq (codes "a \"text\"")) words then found (byte ∷ bytes) ++ codes " is a variable" else codes "found " ++ found (byte ∷ bytes)
+
+-- How many letters are to be changed, put in or left out, so that one word becomes the other. (Levenshtein 1966)
+abbrev pub distance : List ℕ → List ℕ → ℕ
+distance word name = levenshtein_row nat_eq (chars word) (chars name) (length (chars name))
+
+-- The closer one: one that is within two changes, where there is none yet, or one that is closer than that.
+abbrev pub closer : List ℕ → Option (List ℕ) → List ℕ → Option (List ℕ)
+closer word None name = if nat_le (distance word name) 2 then Some name else None
+closer word (Some best) name = if nat_lt (distance word name) (distance word best) then Some name else Some best
+
+-- The first of the names that are closest to the word, where one is within two changes.
+abbrev pub closest : List ℕ → List (List ℕ) → Option (List ℕ)
+closest word names = fold (closer word) None names
+
+abbrev pub meant : Option (List ℕ) → List ℕ
+meant None = []
+meant (Some name) = codes "; did you mean " ++ (name ++ codes "?")
+
+-- A token that may not stand there: a word that is no command, or something else than what was expected.
+abbrev pub shape_words : Bool → List (List ℕ) → List ℕ → List ℕ
+shape_words true words rest = found rest ++ (codes ": no such command" ++ meant (closest (found rest) words))
+shape_words false words rest = codes "expected " ++ (one_of words ++ (codes "; " ++ found_words words rest))
+
+-- A word stands at the front of a line.
+abbrev pub is_no_command : List ℕ → List ℕ → Bool
+is_no_command front rest = is_first front && not (word_len rest == 0)
+
+abbrev pub limit_words : Form → List ℕ
+limit_words One = codes "form 1 has names of up to 32 characters, up to 8 terms to an atom, 8 atoms to a part of a query, 131072 bytes to a line, and counts from 1"
+limit_words Two = codes "form 2 has names of up to 32 characters, up to 16 terms to an atom, 16 atoms to a part of a query, 524288 bytes to a line, and counts from 1"
+
+-- What is wrong at a place, by the kind of the fault there.
+abbrev pub IsHint : Form → Kind → (front rest : List ℕ) → List ℕ → Type 0
+IsHint form kinds.Token front rest text = text ≡ found rest ++ codes ": begins no token"
+IsHint form kinds.Text front rest text = text ≡ codes "a text ends with \", has up to 255 bytes of UTF-8 without control characters, and \\ before \" and \\ alone"
+IsHint form kinds.Number front rest text = text ≡ codes "a number is from -9223372036854775808 to 9223372036854775807, without + or a zero in front"
+IsHint form kinds.Shape front rest text = (words : List (List ℕ)) × AreExpected form front words × (text ≡ shape_words (is_no_command front rest) words rest)
+IsHint form kinds.Limit front rest text = text ≡ limit_words form
+IsHint form kinds.Unbound front rest text = text ≡ found rest ++ codes ": no atom of the body has this variable"
+
+-- ---- lines
+
+-- The line around the place, which `^` marks: up to 40 bytes on each side.
+abbrev pub excerpt : (front rest : List ℕ) → List ℕ
+excerpt front rest = shown (drop (length front - 40) front) ++ (codes "^" ++ shown (take 40 rest))
+
+abbrev pub why_line : List ℕ → ℕ → List ℕ → (front rest : List ℕ) → List ℕ
+why_line origin number words front rest =
+    codes "board: " ++ (origin ++ (codes "line " ++ (decimal number ++ (codes ": " ++ (words ++ (codes ": " ++ (excerpt front rest ++ codes "\n")))))))
+
+-- What is told of a line, by its reading: nothing of a command.
+abbrev pub IsWhy : List ℕ → ℕ → Form → List ℕ → Reading → List ℕ → Type 0
+IsWhy origin number form line (Reads command) text = text ≡ []
+IsWhy origin number form line (Faulty kind offset) text =
+    (words : List ℕ) × IsHint form kind (take offset line) (drop offset line) words × (text ≡ why_line origin number words (take offset line) (drop offset line))
+
+-- What is told of lines, the first of which has this number, where this form is settled before them, if any.
+abbrev pub AreWhys : List ℕ → ℕ → Option Form → List (List ℕ) → List ℕ → Type 0
+AreWhys origin number heading [] text = text ≡ []
+AreWhys origin number heading (line ∷ lines) text =
+    (reading : Reading) × IsReading (form_of heading) line reading × (piece : List ℕ) × IsWhy origin number (form_of heading) line reading piece
+    × (rest : List ℕ) × AreWhys origin (number + 1) (headed heading reading) lines rest × (text ≡ piece ++ rest)
