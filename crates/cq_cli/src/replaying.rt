@@ -52,7 +52,7 @@ pub(crate) struct Replaying {
     pub(crate) is_strict: bool,
     /// Whether it is summed up in the end.
     pub(crate) is_summed: bool,
-    /// Whether it is told in the end what is wrong with lines that are no commands.
+    /// Whether it is told in the end what is wrong with lines.
     pub(crate) is_told: bool,
 }
 
@@ -136,7 +136,14 @@ fn told_text<A: Allocator + Copy>(
 {
     let played = ran.into_played()?;
     let mut text = String::new(heap);
-    put_whys(heap, origin, told_lines(played.lines()), script, &mut text)?;
+    put_whys(
+        heap,
+        origin,
+        told_lines(played.lines()),
+        played.board().tables().catalog(),
+        script,
+        &mut text,
+    )?;
     put_summary_if(heap, origin, is_summed, &played, &mut text)?;
     Ok(text)
 }

@@ -61,7 +61,8 @@ reply, and `board: out of memory` is told.
 With --strict the replay ends at the first line that is refused, once its reply is written.
 
 With --why the script is read to its end before it is replayed. In the end one line on standard error tells of each line that is no
-command what was expected and what was found there, with the line's number and a caret.
+command what was expected and what was found there, with the line's number and a caret, and of each command whose row or body
+names a relation that is not declared, or with another number of columns.
 
 Exit status: 0 done (refused lines included), 1 a device failed, 2 usage, 3 out of memory, 7 a line was refused (--strict).
 docs/formats.md describes the language.";
@@ -353,7 +354,7 @@ fn replay_command<'a>(alloc: Global) -> Result<Command<'a>, AllocError> {
             Arg::new(alloc, "why")
                 .long("why")
                 .action(ArgAction::SetTrue)
-                .help("Tell on standard error what is wrong with lines that are no commands"),
+                .help("Tell on standard error what is wrong with refused lines"),
         )?
         .arg(file(alloc))?
         .arg(memory(

@@ -3,6 +3,7 @@
 use cq_board::Board;
 use cq_devices::{Counted, WholeFault};
 use cq_going::boxed_graph;
+use cq_rel::Catalog;
 use cq_render::{
     Drawn, Extent, explain, explain_named, explain_once, graph, json, kept_with, report,
 };
@@ -220,18 +221,19 @@ impl Tried for Playing {
     }
 }
 
-/// A word that is no command, and a variable in a row, under a `board` line.
-const FAULTY: &[u8] = b"board 2\npubilsh\ninsert T(x)";
+/// A word that is no command, a variable in a row, and a relation that is not there, under a `board` line.
+const FAULTY: &[u8] = b"board 2\npubilsh\ninsert T(x)\ndelete U(1)";
 
 const WHYS: &str =
     "board: a.board: line 2: pubilsh: no such command; did you mean publish?: ^pubilsh
 board: a.board: line 3: expected a number, a \"text\" or a Capitalised name; x is a variable: insert T(^x)
+board: a.board: line 4: U: no such relation; did you mean T?: delete U(1)
 ";
 
 /// Whether these lines tell what is wrong with the script.
-fn is_told<A: Allocator + Copy>(alloc: A) -> Result<bool, AllocError> {
+fn is_told<A: Allocator + Copy>(alloc: A, catalog: &Catalog<A>) -> Result<bool, AllocError> {
     let mut page = String::new(alloc);
-    put_whys(alloc, "a.board: ", 3, FAULTY, &mut page)?;
+    put_whys(alloc, "a.board: ", 4, catalog, FAULTY, &mut page)?;
     Ok(page.as_str() == WHYS)
 }
 
@@ -240,9 +242,13 @@ struct Wrong;
 
 impl Tried for Wrong {
     fn tried<A: Allocator + Copy>(alloc: A) -> Outcome {
-        match is_told(alloc) {
+        let mut catalog = Catalog::empty(alloc);
+        if catalog.declare("T", 1).is_err() {
+            return Outcome::Unready;
+        }
+        match is_told(alloc, &catalog) {
             Ok(right) => Outcome::done_if(right),
-            Err(_) => Outcome::refused_if(is_told(alloc) == Ok(true)),
+            Err(_) => Outcome::refused_if(is_told(alloc, &catalog) == Ok(true)),
         }
     }
 }

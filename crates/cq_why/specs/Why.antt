@@ -1,9 +1,14 @@
 -- What is wrong with the lines of a script that are no commands, in plain words. (this project's profile)
 use Rattle.std.specs.Prelude.{◌≡◌, ℕ, ◌+◌, ◌-◌, ◌==◌, Bool, true, false, not, ◌||◌, ◌&&◌, nat_lt, nat_le, nat_eq, max, List, [], ◌∷◌, ◌++◌, length, map, fold, take, drop, codes, decimal, Option, Some, None, if◌then◌else◌}
 use Rattle.std.specs.List.{enumerate_from, flat_map, list_all, list_any, position}
-use Rattle.std.specs.Option.{unwrap_or}
+use Rattle.std.specs.Option.{option_map_or, unwrap_or}
 use Rattle.std.specs.Str.{bytes_eq, chars}
 use Rattle.strsim.specs.Edits.{levenshtein_row}
+use Rattle.cq_atom.specs.Atom.{AtomRecord}
+use Rattle.cq_atom.specs.declared.edit.EditKind.TheVariants as edits
+use Rattle.cq_rel.specs.Tables.{Declaration, arity_in, relation_of}
+use Rattle.cq_text.specs.Grammar.{CommandContent}
+use Rattle.cq_text.specs.declared.command.CommandKind.TheVariants as kinds_of
 use Rattle.cq_text.specs.declared.fault.Kind.{Kind}
 use Rattle.cq_text.specs.declared.fault.Kind.TheVariants as kinds
 use Rattle.cq_text.specs.declared.form.Form.{Form}
@@ -131,13 +136,22 @@ shape_words false words rest = codes "expected " ++ (one_of words ++ (codes "; "
 abbrev pub is_no_command : List ℕ → List ℕ → Bool
 is_no_command front rest = is_first front && not (word_len rest == 0)
 
+-- A byte order mark stands in front of the line.
+abbrev pub is_mark : (front rest : List ℕ) → Bool
+is_mark front rest = (length front == 0) && bytes_eq (take 3 rest) (239 ∷ 187 ∷ 191 ∷ [])
+
+-- A byte that begins no token, or such a mark.
+abbrev pub token_words : Bool → List ℕ → List ℕ
+token_words true rest = codes "a byte order mark, with which no script begins"
+token_words false rest = found rest ++ codes ": begins no token"
+
 abbrev pub limit_words : Form → List ℕ
 limit_words One = codes "form 1 has names of up to 32 characters, up to 8 terms to an atom, 8 atoms to a part of a query, 131072 bytes to a line, and counts from 1"
 limit_words Two = codes "form 2 has names of up to 32 characters, up to 16 terms to an atom, 16 atoms to a part of a query, 524288 bytes to a line, and counts from 1"
 
 -- What is wrong at a place, by the kind of the fault there.
 abbrev pub IsHint : Form → Kind → (front rest : List ℕ) → List ℕ → Type 0
-IsHint form kinds.Token front rest text = text ≡ found rest ++ codes ": begins no token"
+IsHint form kinds.Token front rest text = text ≡ token_words (is_mark front rest) rest
 IsHint form kinds.Text front rest text = text ≡ codes "a text ends with \", has up to 255 bytes of UTF-8 without control characters, and \\ before \" and \\ alone"
 IsHint form kinds.Number front rest text = text ≡ codes "a number is from -9223372036854775808 to 9223372036854775807, without + or a zero in front"
 IsHint form kinds.Shape front rest text = (words : List (List ℕ)) × AreExpected form front words × (text ≡ shape_words (is_no_command front rest) words rest)
@@ -154,15 +168,57 @@ abbrev pub why_line : List ℕ → ℕ → List ℕ → (front rest : List ℕ) 
 why_line origin number words front rest =
     codes "board: " ++ (origin ++ (codes "line " ++ (decimal number ++ (codes ": " ++ (words ++ (codes ": " ++ (excerpt front rest ++ codes "\n")))))))
 
--- What is told of a line, by its reading: nothing of a command.
-abbrev pub IsWhy : List ℕ → ℕ → Form → List ℕ → Reading → List ℕ → Type 0
-IsWhy origin number form line (Reads command) text = text ≡ []
-IsWhy origin number form line (Faulty kind offset) text =
+-- A relation that a command names, with how many terms or values.
+abbrev pub Use : Type 0
+Use = List ℕ × ℕ
+
+-- The relations of a body.
+abbrev pub uses_of_body : List AtomRecord → List Use
+uses_of_body body = map (λ atom. (atom.relation, length atom.terms)) body
+
+-- The relations of the database that a command names.
+abbrev pub uses_of : CommandContent → List Use
+uses_of (kinds_of.Edit (edits.Post name query)) = uses_of_body query.body
+uses_of (kinds_of.Edit (edits.Withdraw name)) = []
+uses_of (kinds_of.Edit (edits.Insert row)) = (row.relation, length row.values) ∷ []
+uses_of (kinds_of.Edit (edits.Delete row)) = (row.relation, length row.values) ∷ []
+uses_of kinds_of.Blank = []
+uses_of (kinds_of.Setup line) = []
+uses_of kinds_of.Publish = []
+uses_of kinds_of.Show = []
+
+-- The relation is declared with as many columns.
+abbrev pub has_place : List Declaration → Use → Bool
+has_place catalog used = option_map_or (nat_eq used.1) (arity_in catalog used.0) false
+
+-- The first relation that has no place in the catalog.
+abbrev pub misused : List Declaration → List Use → Option Use
+misused catalog [] = None
+misused catalog (used ∷ more) = if has_place catalog used then misused catalog more else Some used
+
+abbrev pub columns : ℕ → List ℕ
+columns count = if count == 1 then codes " column, " else codes " columns, "
+
+-- A relation that is not declared, or has another number of columns.
+abbrev pub misuse_words : List Declaration → Use → Option ℕ → List ℕ
+misuse_words catalog used None = used.0 ++ (codes ": no such relation" ++ meant (closest used.0 (map relation_of catalog)))
+misuse_words catalog used (Some count) = used.0 ++ (codes " has " ++ (decimal count ++ (columns count ++ (decimal used.1 ++ codes " given"))))
+
+-- The line that tells of it.
+abbrev pub misuse_line : List ℕ → ℕ → List Declaration → List ℕ → Option Use → List ℕ
+misuse_line origin number catalog line None = []
+misuse_line origin number catalog line (Some used) =
+    codes "board: " ++ (origin ++ (codes "line " ++ (decimal number ++ (codes ": " ++ (misuse_words catalog used (arity_in catalog used.0) ++ (codes ": " ++ (shown (take 40 line) ++ codes "\n")))))))
+
+-- What is told of a line, by its reading: of a command that its first misused relation is, if any.
+abbrev pub IsWhy : List ℕ → ℕ → List Declaration → Form → List ℕ → Reading → List ℕ → Type 0
+IsWhy origin number catalog form line (Reads command) text = text ≡ misuse_line origin number catalog line (misused catalog (uses_of command))
+IsWhy origin number catalog form line (Faulty kind offset) text =
     (words : List ℕ) × IsHint form kind (take offset line) (drop offset line) words × (text ≡ why_line origin number words (take offset line) (drop offset line))
 
 -- What is told of lines, the first of which has this number, where this form is settled before them, if any.
-abbrev pub AreWhys : List ℕ → ℕ → Option Form → List (List ℕ) → List ℕ → Type 0
-AreWhys origin number heading [] text = text ≡ []
-AreWhys origin number heading (line ∷ lines) text =
-    (reading : Reading) × IsReading (form_of heading) line reading × (piece : List ℕ) × IsWhy origin number (form_of heading) line reading piece
-    × (rest : List ℕ) × AreWhys origin (number + 1) (headed heading reading) lines rest × (text ≡ piece ++ rest)
+abbrev pub AreWhys : List ℕ → ℕ → List Declaration → Option Form → List (List ℕ) → List ℕ → Type 0
+AreWhys origin number catalog heading [] text = text ≡ []
+AreWhys origin number catalog heading (line ∷ lines) text =
+    (reading : Reading) × IsReading (form_of heading) line reading × (piece : List ℕ) × IsWhy origin number catalog (form_of heading) line reading piece
+    × (rest : List ℕ) × AreWhys origin (number + 1) catalog (headed heading reading) lines rest × (text ≡ piece ++ rest)

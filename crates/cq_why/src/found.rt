@@ -66,7 +66,7 @@ pub(crate) fn put_found<A: Allocator>(page: &mut String<A>, rest: &[u8]) -> Resu
 }
 
 /// The first bytes, as many as are shown.
-fn shortened(rest: &[u8]) -> &[u8]
+pub(crate) fn shortened(rest: &[u8]) -> &[u8]
     ensures { result.now ≡ take 40 rest.now }
 {
     if rest.len() < MOST_SHOWN {

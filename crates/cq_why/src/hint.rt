@@ -1,9 +1,9 @@
 //! What is wrong at a place of a line.
 
-ghost use Rattle.std.specs.Prelude.{◌≡◌, ◌++◌, ◌&&◌, List, ℕ, true, false, map, codes, string_bytes, OnOk, IfOk, Some, option_map};
+ghost use Rattle.std.specs.Prelude.{◌≡◌, ◌++◌, ◌&&◌, List, ℕ, true, false, map, take, codes, string_bytes, OnOk, IfOk, Some, option_map};
 ghost use Rattle.std.specs.List.{list_any};
 ghost use Rattle.std.specs.Str.{bytes_eq};
-ghost use Rattle.cq_why.specs.Why.{is_lower, found, found_words, one_of, separator, meant, shape_words, is_no_command, limit_words, IsHint};
+ghost use Rattle.cq_why.specs.Why.{is_lower, found, found_words, one_of, separator, meant, shape_words, is_no_command, is_mark, token_words, limit_words, IsHint};
 
 use crate::closest::closest;
 use crate::found::{put_found, word_len};
@@ -111,7 +111,10 @@ fn put_name<A: Allocator>(page: &mut String<A>, name: &str) -> Result<(), AllocE
 }
 
 /// Puts which name was meant, if one is known.
-fn put_meant<A: Allocator>(page: &mut String<A>, name: Option<&str>) -> Result<(), AllocError>
+pub(crate) fn put_meant<A: Allocator>(
+    page: &mut String<A>,
+    name: Option<&str>,
+) -> Result<(), AllocError>
     ensures { OnOk result (string_bytes page.new ≡ string_bytes page.old ++ meant (option_map (λ name. name.now) name.entry)) }
 {
     match name {
@@ -175,6 +178,39 @@ fn put_shape<A: Allocator + Copy>(
     }
 }
 
+/// The first three bytes, if there are as many.
+fn first_bytes(rest: &[u8]) -> &[u8]
+    ensures { result.now ≡ take 3 rest.now }
+{
+    if rest.len() < 3 {
+        return rest;
+    }
+    let (front, _) = rest.split_at(3);
+    front
+}
+
+/// Whether a byte order mark stands in front of the line.
+fn is_mark(front: &[u8], rest: &[u8]) -> bool
+    ensures { result ≡ is_mark front.now rest.now }
+{
+    front.is_empty() && first_bytes(rest) == b"\xef\xbb\xbf".as_slice()
+}
+
+/// Puts what is wrong with a byte that begins no token.
+fn put_token<A: Allocator>(
+    page: &mut String<A>,
+    front: &[u8],
+    rest: &[u8],
+) -> Result<(), AllocError>
+    ensures { OnOk result (string_bytes page.new ≡ string_bytes page.old ++ token_words (is_mark front.now rest.now) rest.now) }
+{
+    if is_mark(front, rest) {
+        page.push_str("a byte order mark, with which no script begins")
+    } else {
+        put_found_and(page, rest, ": begins no token")
+    }
+}
+
 fn limit_words(form: Form) -> &'static str
     ensures { result.now ≡ limit_words form }
 {
@@ -201,7 +237,7 @@ pub(crate) fn put_hint<A: Allocator + Copy>(
     ensures { OnOk result ((words : List ℕ) × IsHint form kind front.now rest.now words × (string_bytes page.new ≡ string_bytes page.old ++ words)) }
 {
     match kind {
-        Kind::Token => put_found_and(page, rest, ": begins no token"),
+        Kind::Token => put_token(page, front, rest),
         Kind::Text => page.push_str(
             "a text ends with \", has up to 255 bytes of UTF-8 without control characters, and \\ before \" and \\ alone",
         ),

@@ -3,12 +3,13 @@
 //! [`put_whys`] tells of each such line what was expected there and what was found (`specs/Why`). What is expected is found by the grammar: tokens are tried
 //! at the place of the fault.
 //!
-//! Not here: what becomes of a line that is a command.
+//! Not here: whether a command is refused for what is pending or which rows there are.
 #![tactic(auto)]
 
 mod closest;
 mod found;
 mod hint;
+mod misuse;
 mod samples;
 mod whys;
 

@@ -1,6 +1,7 @@
 //! What is wrong with the lines of a script.
 
 ghost use Rattle.std.specs.Prelude.{◌≡◌, ◌++◌, [], List, ℕ, take, drop, string_bytes, None, IfOk, OnOk};
+ghost use Rattle.cq_rel.specs.Tables.{Declaration};
 ghost use Rattle.cq_report.specs.Lines.{lines_of, HasNoEnd};
 ghost use Rattle.cq_report.specs.Reading.{Reading, Faulty, IsReading};
 ghost use Rattle.cq_report.specs.Machine.{form_of, headed};
@@ -8,6 +9,8 @@ ghost use Rattle.cq_why.specs.Why.{IsHint, IsWhy, AreWhys, why_line};
 
 use crate::found::put_excerpt;
 use crate::hint::put_hint;
+use crate::misuse::{misused, put_misuse};
+use cq_rel::Catalog;
 use cq_report::{first_line, form_of, headed};
 use cq_text::{Form, Kind, TextFault, read_command};
 use std::alloc::{AllocError, Allocator};
@@ -55,26 +58,38 @@ fn put_faulty<A: Allocator + Copy>(
     offset: usize,
     page: &mut String<A>,
 ) -> Result<(), AllocError>
-    ensures { OnOk result ((piece : List ℕ) × IsWhy origin.now number form line.now (Faulty kind offset) piece × (string_bytes page.new ≡ string_bytes page.old ++ piece)) }
+    ensures { OnOk result ((catalog : List Declaration) → (piece : List ℕ) × IsWhy origin.now number catalog form line.now (Faulty kind offset) piece × (string_bytes page.new ≡ string_bytes page.old ++ piece)) }
 {
     let (front, rest) = parted(line, offset);
     put_why(alloc, origin, number, form, kind, front, rest, page)
 }
 
-/// Puts what is wrong with a line of that number, where it is no command, and gives the form that is settled after it, if any.
+/// Puts what is wrong with a line of that number, where it is no command or names a relation that the catalog has not so, and gives the form that is settled after it, if any.
 fn put_line<A: Allocator + Copy>(
     alloc: A,
     origin: &str,
     number: u64,
+    catalog: &Catalog<A>,
     heading: Option<Form>,
     line: &[u8],
     page: &mut String<A>,
 ) -> Result<Option<Form>, AllocError>
-    ensures { IfOk result (λ after. (reading : Reading) × IsReading (form_of heading) line.now reading × (after ≡ headed heading reading) × (piece : List ℕ) × IsWhy origin.now number (form_of heading) line.now reading piece × (string_bytes page.new ≡ string_bytes page.old ++ piece)) }
+    ensures { IfOk result (λ after. (reading : Reading) × IsReading (form_of heading) line.now reading × (after ≡ headed heading reading) × (piece : List ℕ) × IsWhy origin.now number catalog.now (form_of heading) line.now reading piece × (string_bytes page.new ≡ string_bytes page.old ++ piece)) }
 {
     let form = form_of(heading);
     match read_command(alloc, line, form) {
-        Ok(command) => Ok(headed(heading, &command)),
+        Ok(command) => {
+            put_misuse(
+                alloc,
+                origin,
+                number,
+                catalog,
+                line,
+                misused(catalog, &command),
+                page,
+            )?;
+            Ok(headed(heading, &command))
+        }
         Err(TextFault::At { kind, offset }) => {
             put_faulty(alloc, origin, number, form, line, kind, offset, page)?;
             Ok(Some(form))
@@ -88,21 +103,23 @@ fn put_last<A: Allocator + Copy>(
     alloc: A,
     origin: &str,
     number: u64,
+    catalog: &Catalog<A>,
     heading: Option<Form>,
     line: &[u8],
     page: &mut String<A>,
 ) -> Result<(), AllocError>
     requires { HasNoEnd line.now }
-    ensures { OnOk result ((text : List ℕ) × AreWhys origin.now number heading (lines_of line.now) text × (string_bytes page.new ≡ string_bytes page.old ++ text)) }
+    ensures { OnOk result ((text : List ℕ) × AreWhys origin.now number catalog.now heading (lines_of line.now) text × (string_bytes page.new ≡ string_bytes page.old ++ text)) }
 {
     if !line.is_empty() {
-        let _heading = put_line(alloc, origin, number, heading, line, page)?;
+        let _heading = put_line(alloc, origin, number, catalog, heading, line, page)?;
     }
     Ok(())
 }
 
 /// Puts a line for each line of a script that is no command, with its number and what is wrong with it, on an empty page: behind `board: ` and the words
-/// that name the script, if any.
+/// that name the script, if any. Of a command it tells where a row or a body names a relation that the catalog has not, or with another number of columns; such
+/// a command is refused where these are the script's relations.
 ///
 /// No more than the first lines are told of, as many as are given: a strict script ends at its first refused line.
 ///
@@ -112,18 +129,19 @@ pub fn put_whys<A: Allocator + Copy>(
     alloc: A,
     origin: &str,
     most: u64,
+    catalog: &Catalog<A>,
     script: &[u8],
     page: &mut String<A>,
 ) -> Result<(), AllocError>
-    ensures { string_bytes page.old ≡ [] → OnOk result (AreWhys origin.now 1 None (take most (lines_of script.now)) (string_bytes page.new)) }
+    ensures { string_bytes page.old ≡ [] → OnOk result (AreWhys origin.now 1 catalog.now None (take most (lines_of script.now)) (string_bytes page.new)) }
 {
     let mut heading = None;
     let mut rest = script;
     for number in 0..most {
         let Some((line, behind)) = first_line(rest) else {
-            return put_last(alloc, origin, number + 1, heading, rest, page);
+            return put_last(alloc, origin, number + 1, catalog, heading, rest, page);
         };
-        heading = put_line(alloc, origin, number + 1, heading, line, page)?;
+        heading = put_line(alloc, origin, number + 1, catalog, heading, line, page)?;
         rest = behind;
     }
     Ok(())

@@ -1,6 +1,5 @@
-use Rattle.std.proofs.Common.{◌≡◌, ◌∙◌, ℕ, List, [], Bool, true, false, length, sym, ap, subst, Result, Ok, Err}
+use Rattle.std.proofs.Common.{◌≡◌, ◌∙◌, ℕ, List, [], Bool, sym, ap, subst, Result, Ok, Err}
 use Rattle.std.specs.Prelude.{IfOk}
-use Rattle.cq_closure.specs.Closure.{is_set}
 use Rattle.cq_closure.specs.Steps.Reach.{is_taken, Takes, IsClosing, AreReached}
 use Rattle.cq_closure.proofs.Reaching.{closing-starts, reached-ends, reached-starts, set-low, taken-all}
 use Rattle.cq_closure.proofs.closure.Goals as goal

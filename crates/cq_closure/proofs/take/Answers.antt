@@ -1,4 +1,4 @@
-use Rattle.std.proofs.Common.{◌≡◌, ◌∙◌, List, Bool, true, sym, ap}
+use Rattle.std.proofs.Common.{◌∙◌, List, Bool, sym, ap}
 use Rattle.cq_closure.specs.Closure.{is_set}
 use Rattle.cq_closure.proofs.Reaching.{takes-one, reached-one}
 use Rattle.cq_closure.proofs.take.Goals as goal

@@ -1,17 +1,24 @@
 use Rattle.std.proofs.Common.{◌≡◌, ◌∙◌, ℕ, List, None, take, ap, sym, subst}
 use Rattle.std.specs.Prelude.{string_bytes}
 use Rattle.cq_report.specs.Lines.{lines_of}
-use Rattle.cq_report.specs.Output.{Left}
+use Rattle.cq_rel.specs.Tables.{Declaration, TablesRecord}
+use Rattle.cq_board.specs.Pool.{PoolRecord}
+use Rattle.cq_report.specs.Machine.{shown}
+use Rattle.cq_report.specs.Output.{Left, left_in}
 use Rattle.cq_why.specs.Why.{AreWhys}
-use Rattle.cq_cli.specs.Told.{told_lines}
+use Rattle.cq_cli.specs.Told.{relations_of, told_lines}
 use Rattle.cq_cli.proofs.replaying.told_text.Goals as goal
 
 pub returns : goal.returns
 returns g c =
     let script = c.args.script.now in
     let lines : c.told_lines.result ≡ told_lines c.args.ran.lines = c.told_lines.ensures ∙ ap told_lines (c.lines.ensures ∙ ap (λ (left : Left). left.lines) c.in_ok-played.ensures) in
+    let left : c.in_ok-played.played ≡ left_in c.args.ran = c.in_ok-played.ensures in
+    let catalog : c.catalog.result.now ≡ relations_of c.args.ran =
+    c.catalog.ensures.value ∙ ap (λ (tables : TablesRecord). tables.catalog) (c.tables.ensures ∙ ap (λ (pool : PoolRecord). pool.tables) (c.board.ensures ∙ ap (λ (l : Left). shown l.floor) left)) in
     record {
       whys = string_bytes c.put_whys.new.page;
-      are = subst (λ (n : ℕ). AreWhys c.args.origin.now 1 None (take n (lines_of script)) (string_bytes c.put_whys.new.page)) lines (c.in_ok-put_whys.ensures c.new-text.ensures.bytes);
+      are = subst (λ (n : ℕ). AreWhys c.args.origin.now 1 (relations_of c.args.ran) None (take n (lines_of script)) (string_bytes c.put_whys.new.page)) lines
+          (subst (λ (ds : List Declaration). AreWhys c.args.origin.now 1 ds None (take c.told_lines.result (lines_of script)) (string_bytes c.put_whys.new.page)) catalog (c.in_ok-put_whys.ensures c.new-text.ensures.bytes));
       is = c.in_ok-put_summary_if.ensures c.args.ran (sym c.in_ok-played.ensures);
     }

@@ -1,4 +1,4 @@
-use Rattle.std.proofs.Common.{◌≡◌, ◌++◌, ◌∙◌, ◌-◌, ℕ, List, length, take, drop, ap, subst}
+use Rattle.std.proofs.Common.{◌≡◌, ◌++◌, ◌∙◌, ◌-◌, ℕ, List, length, drop, ap, subst}
 use Rattle.std.specs.Prelude.{codes, string_bytes, OnOk}
 use Rattle.cq_why.specs.Why.{shown}
 use Rattle.cq_why.proofs.Puts.{put_three}

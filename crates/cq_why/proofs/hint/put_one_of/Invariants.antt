@@ -1,7 +1,7 @@
 use Rattle.std.proofs.Common.{◌≡◌, ◌++◌, map, drop, length}
 use Rattle.std.specs.Prelude.{string_bytes}
 use Rattle.std.specs.List.{enumerate_from, flat_map}
-use Rattle.cq_why.specs.Why.{one_of, separator}
+use Rattle.cq_why.specs.Why.{separator}
 use Rattle.cq_why.proofs.hint.put_one_of.Given as goal
 
 -- the page, and the words that are left

@@ -1,4 +1,4 @@
-use Rattle.std.proofs.Common.{◌∙◌, List, ℕ, map, ap, subst, sym, arith}
+use Rattle.std.proofs.Common.{◌∙◌, List, map, ap, subst, arith}
 use Rattle.std.proofs.lemmas.List.{take_all}
 use Rattle.cq_render.specs.Explain.{ArePieces}
 use Rattle.cq_render.proofs.Explained.{pieces_at}

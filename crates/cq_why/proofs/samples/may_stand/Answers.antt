@@ -1,7 +1,5 @@
 use Rattle.std.proofs.Common.{◌∙◌, List, ℕ, refl, subst}
 use Rattle.cq_text.specs.Grammar.{StandsFor}
-use Rattle.cq_text.specs.Views.{OfFault}
-use Rattle.cq_text.specs.Fault.{FirstFault}
 use Rattle.cq_report.specs.Reading.{Reads, Faulty, IsReading}
 use Rattle.cq_report.proofs.CallerLemmas.{the_fault}
 use Rattle.cq_why.proofs.samples.may_stand.Goals as goal
