@@ -1,10 +1,10 @@
 -- The matched queries that have no flag are those that are concerned.
-use Rattle.std.proofs.Common.{◌≡◌, ◌<◌, ℕ, zero, suc, inl, inr, nat_eq, Bool, true, false, ◌&&◌, ◌||◌, not, List, [], ◌∷◌, length, map, refl, sym, ap, subst, ◌∙◌, arith, Some, None}
+use Rattle.std.proofs.Common.{◌≡◌, ◌<◌, ℕ, zero, suc, inl, inr, nat_eq, Bool, true, false, ◌&&◌, ◌||◌, not, ◌↔◌, List, [], ◌∷◌, length, map, refl, sym, ap, subst, ◌∙◌, arith, Some, None}
 use Rattle.std.specs.List.{All, Contains, list_any, list_all, enumerate_from, slice_get}
 use Rattle.std.specs.Set.{is_member}
 use Rattle.std.specs.Str.{bytes_eq}
 use Rattle.std.proofs.lemmas.Bool.Decides.{Decides-eqb}
-use Rattle.std.proofs.lemmas.Option.{get_or_from_slice_get}
+use Rattle.std.proofs.lemmas.Option.{get_or_from_slice_get, same_Some}
 use Rattle.std.proofs.lemmas.Slice.Eq.{bytes_eq-Decides}
 use Rattle.cq_atom.specs.declared.edge.Edge.{Edge}
 use Rattle.cq_match.specs.Matched.{numbers, has_each_post, is_closed, sublists, is_matched}
@@ -15,8 +15,10 @@ use Rattle.cq_board.specs.Named.{query_named, matched_named}
 use Rattle.cq_board.proofs.CallerLemmas.{query_at, matched_at, name_at-names}
 use Rattle.cq_choose.specs.Disagreement.{IsConcerned}
 use Rattle.cq_choose.specs.Disagreement.IsConcerned.{Asked, Serving}
-use Rattle.cq_choose.specs.Steps.Reach.{is_spare, is_idle, IsClosing, AreConcerned, told, IsKnown, IfKnown, IsExact}
-use Rattle.cq_choose.proofs.Lists.{by_bool, by_option, In, In-append, In-Contains, All-In, In-All, In-at, at-In, In-map_gives, enumerate-gives}
+use Rattle.cq_closure.specs.Closure.{is_set, IsReached}
+use Rattle.cq_closure.specs.Closure.IsReached.{First, Providing}
+use Rattle.cq_choose.specs.Steps.Reach.{is_spare, told, IsKnown, IfKnown, IsExact}
+use Rattle.cq_choose.proofs.Lists.{by_bool, by_option, In, In-append, In-Contains, Contains-In, All-In, In-All, In-at, at-In, In-map_gives, enumerate-gives}
 use Rattle.cq_choose.proofs.Reaching.{spare-low}
 use Rattle.cq_choose.proofs.Offered.{at-mapped, mapped-at}
 
@@ -102,12 +104,6 @@ module _ (pool : PoolRecord) where
       let node = In-map_gives (λ (node : ℕ × ℕ × Bool). node.0) (nodes_of pool) own.0 number in
       node-stands set.0 place member closed node.0 node.1 ((Decides-eqb place own.0).0 own.2 ∙ node.2)
 
--- the same of flags that were read
-pub idle-read : (matched spare flags others idle : List Bool) → flags ≡ matched → others ≡ spare → ((p : ℕ) → p < length flags → is_spare idle p ≡ is_idle flags others p)
-    → (p : ℕ) → p < length matched → is_spare idle p ≡ is_idle matched spare p
-idle-read matched spare flags others idle is are idles =
-    subst (λ (l : List Bool). (p : ℕ) → p < length l → is_spare idle p ≡ is_idle l spare p) is (subst (λ (l : List Bool). (p : ℕ) → p < length flags → is_spare idle p ≡ is_idle flags l p) are idles)
-
 pub concerned-matched : (pool : PoolRecord) (names : List (List ℕ)) (place : ℕ) → IsConcerned pool names place → is_matched_at pool place ≡ true
 concerned-matched pool names place (Asked place' name here among matched) = matched
 concerned-matched pool names place (Serving edge among concerned matched) = matched
@@ -145,51 +141,61 @@ module _ (pool : PoolRecord) (good : IsPool pool) (names : List (List ℕ)) {X :
       beyond (x ∷ xs) zero n t = cc
       beyond (x ∷ xs) (suc k) n t = beyond xs k n t
 
-  -- before any is taken
-  pub concerned-starts : (left : List ℕ) → left ≡ [] → AreConcerned pool names matched left
-  concerned-starts left none = record {
-    taken = λ p m f. absurd (let never : true ≡ false = sym (flags-are p m) ∙ f in cc);
-    next = λ p h. absurd (subst (In p) none (In-Contains left p h));
-    matched = flags-only;
-  }
+  module _ (first : List Bool) (asked : first ≡ map (λ x. list_any (bytes_eq (read x)) names) items) (edges : List Edge) (all : edges ≡ edges_of pool.pending) where
+    asked-In : (xs : List (List ℕ)) (name : List ℕ) → list_any (bytes_eq name) xs ≡ true → In name xs
+    asked-In [] name h = cc
+    asked-In (x ∷ xs) name h = by_bool (bytes_eq name x) (In name (x ∷ xs)) (λ t. inl ((bytes_eq-Decides name x).0 t)) (λ f. inr (asked-In xs name (rw f at h)))
 
-  module _ (spare : List Bool) (wanted : (i : ℕ) (name : List ℕ) → slice_get (map read items) i ≡ Some name → list_any (bytes_eq name) names ≡ true → is_spare spare i ≡ false)
-      (edges : List Edge) (all : edges ≡ edges_of pool.pending) (closed : IsClosing edges matched spare []) where
-    -- who is concerned is taken
-    concerned-taken : (place : ℕ) → IsConcerned pool names place → is_spare spare place ≡ false
-    concerned-taken place (Asked place' name here among m) =
-        wanted place' name (ap (λ (l : List (List ℕ)). slice_get l place') named ∙ name_at-names pool.pending place' ∙ here) (In-any names (In-Contains names name among))
-      where
-        In-any : (xs : List (List ℕ)) → In name xs → list_any (bytes_eq name) xs ≡ true
-        In-any [] k = absurd k
-        In-any (x ∷ xs) (inl e) = rw ((bytes_eq-Decides name x).1 e) refl
-        In-any (x ∷ xs) (inr k) = by_bool (bytes_eq name x) (list_any (bytes_eq name) (x ∷ xs) ≡ true) (λ t. rw t refl) (λ f. rw f (In-any xs k))
-    concerned-taken place (Serving edge among concerned m) =
-        let own = concerned-taken edge.waiter concerned in
-        let waits = flags-are edge.waiter (concerned-matched pool names edge.waiter concerned) in
-        elim (closed.closing edge (subst (λ (l : List Edge). Contains l edge) (sym all) among) waits own) as (λ _. is_spare spare edge.provider ≡ false) [
-          | inl taken ↦ taken
-          | inr never ↦ absurd (In-Contains [] edge.waiter never)
-        ]
+    In-asked : (xs : List (List ℕ)) (name : List ℕ) → In name xs → list_any (bytes_eq name) xs ≡ true
+    In-asked [] name k = absurd k
+    In-asked (x ∷ xs) name (inl e) = rw ((bytes_eq-Decides name x).1 e) refl
+    In-asked (x ∷ xs) name (inr k) = by_bool (bytes_eq name x) (list_any (bytes_eq name) (x ∷ xs) ≡ true) (λ t. rw t refl) (λ f. rw f (In-asked xs name k))
 
-    pub exact-read : (left : List ℕ) → AreConcerned pool names spare left → All (λ x. IfKnown (query_named (read x) pool.pending)) items → IsExact pool names spare
-    exact-read left are known = record {
-      taken = are.taken;
-      concerned = concerned-taken;
+    first-at : (place : ℕ) (posted : PendingQuery) → slice_get pool.pending place ≡ Some posted → is_set first place ≡ list_any (bytes_eq posted.name) names
+    first-at place posted here =
+        let x = item-at place posted here in
+        ap (λ (l : List Bool). is_set l place) asked
+        ∙ get_or_from_slice_get (map (λ x. list_any (bytes_eq (read x)) names) items) place (list_any (bytes_eq (read x.0)) names) false (at-mapped (λ x. list_any (bytes_eq (read x)) names) items place x.0 x.1)
+        ∙ ap (λ (n : List ℕ). list_any (bytes_eq n) names) x.2
+
+    -- who is reached is concerned
+    reached-concerned : (place : ℕ) → IsReached edges matched first place → IsConcerned pool names place
+    reached-concerned place (First n m f) =
+        let is = flags-only n m in
+        let s = matched-stands pool n is in
+        Asked n s.posted.name (sym (name_at-names pool.pending n) ∙ at-mapped name_of pool.pending n s.posted s.here)
+        (Contains-In names s.posted.name (asked-In names s.posted.name (sym (first-at n s.posted s.here) ∙ f))) is
+    reached-concerned place (Providing edge among m behind) =
+        Serving edge (subst (λ (l : List Edge). Contains l edge) all among) (reached-concerned edge.waiter behind) (flags-only edge.provider m)
+
+    -- who is concerned is reached
+    concerned-reached : (place : ℕ) → IsConcerned pool names place → IsReached edges matched first place
+    concerned-reached place (Asked n name here among m) =
+        let s = matched-stands pool n m in
+        let own : name ≡ s.posted.name = same_Some name s.posted.name (sym here ∙ sym (name_at-names pool.pending n) ∙ at-mapped name_of pool.pending n s.posted s.here) in
+        First n (flags-are n m) (first-at n s.posted s.here ∙ In-asked names s.posted.name (subst (λ (x : List ℕ). In x names) own (In-Contains names name among)))
+    concerned-reached place (Serving edge among concerned m) =
+        Providing edge (subst (λ (l : List Edge). Contains l edge) (sym all) among) (flags-are edge.provider m) (concerned-reached edge.waiter concerned)
+
+    spare-not : (flags : List Bool) (place : ℕ) → place < length flags → is_spare (map not flags) place ≡ not (is_set flags place)
+    spare-not [] place low = absurd (omega (arith, low))
+    spare-not (flag ∷ flags) zero low = refl
+    spare-not (flag ∷ flags) (suc place) low = spare-not flags place (omega (arith, low))
+
+    pub exact-read : (reached idle : List Bool) → length reached ≡ length matched → idle ≡ map not reached → ((n : ℕ) → (is_set reached n ≡ true) ↔ IsReached edges matched first n)
+        → All (λ x. IfKnown (query_named (read x) pool.pending)) items → IsExact pool names idle
+    exact-read reached idle long are exact known = record {
+      taken = λ p m f.
+          let told : not (is_set reached p) ≡ false = sym (spare-at p (flags-are p m)) ∙ f in
+          reached-concerned p ((exact p).0 (by_bool (is_set reached p) (is_set reached p ≡ true) (λ t. t) (λ n. absurd (let never : true ≡ false = rw n at told in cc))));
+      concerned = λ p c.
+          let is = concerned-reached p c in
+          spare-at p (flags-are p (concerned-matched pool names p c)) ∙ ap not ((exact p).1 is);
       known = All-In (λ (p : PendingQuery). IsKnown p.query) pool.pending
           (λ p h. let at = at-In pool.pending p h in
           let x = item-at at.0 p at.1 in
           subst IfKnown (ap (λ (n : List ℕ). query_named n pool.pending) x.2 ∙ query_at pool good at.0 p at.1) (In-All (λ (y : X). IfKnown (query_named (read y) pool.pending)) items known x.0 (In-at items at.0 x.0 x.1)));
     }
-
-  module _ (spare idle : List Bool) (idles : (p : ℕ) → p < length matched → is_spare idle p ≡ is_idle matched spare p) where
-    -- where a matched query stands, idle is who is spare
-    idle-flag : (p : ℕ) → is_matched_at pool p ≡ true → is_spare idle p ≡ is_spare spare p
-    idle-flag p m = let flag = flags-are p m in idles p (spare-low matched p flag) ∙ ap (λ (b : Bool). not b || is_spare spare p) flag
-
-    pub idle-exact : IsExact pool names spare → IsExact pool names idle
-    idle-exact exact = record {
-      taken = λ p m f. exact.taken p m (sym (idle-flag p m) ∙ f);
-      concerned = λ p c. idle-flag p (concerned-matched pool names p c) ∙ exact.concerned p c;
-      known = exact.known;
-    }
+      where
+        spare-at : (p : ℕ) → is_spare matched p ≡ true → is_spare idle p ≡ not (is_set reached p)
+        spare-at p flag = let low = spare-low matched p flag in ap (λ (l : List Bool). is_spare l p) are ∙ spare-not reached p (omega (arith, low, long))

@@ -75,11 +75,11 @@ IsReasonTold pending name waiter (Unmet post) words =
     (providers : List ℕ) × AreProviders pending waiter post providers × (unmet : List ℕ) × IsUnmetTold pending name post (map (name_of_number pending) providers) unmet
     × (words ≡ codes "post " ++ decimal post ++ codes " " ++ atom_or_none (post_named name post pending) ++ codes ": " ++ unmet)
 
--- A step: a query, and why it waits.
-abbrev pub IsStep : List PendingQuery → Fall → List ℕ → Type 0
-IsStep pending fall line =
+-- A query, and why it waits, in a line: its name behind a front, and the reason behind a separator.
+abbrev pub IsReasonLine : (front separator : List ℕ) → List PendingQuery → Fall → List ℕ → Type 0
+IsReasonLine front separator pending fall line =
     let name = name_of_number pending fall.node in
-    (words : List ℕ) × IsReasonTold pending name fall.node fall.reason words × (line ≡ codes "  " ++ name ++ codes ": " ++ words ++ codes "\n")
+    (words : List ℕ) × IsReasonTold pending name fall.node fall.reason words × (line ≡ front ++ (name ++ (separator ++ (words ++ codes "\n"))))
 
 -- A reason that rests on no other query: no row was found, or nobody supplies the postcondition, whether it is matched or waits.
 abbrev pub is_cause : List PendingQuery → ℕ → Reason → Bool
@@ -96,6 +96,10 @@ abbrev pub IsIfTold : Bool → (List ℕ → Type 0) → List ℕ → Type 0
 IsIfTold true tells text = tells text
 IsIfTold false tells text = text ≡ []
 
+-- Such lines, one for each of the falls that are told.
+abbrev pub AreReasonLines : (front separator : List ℕ) → Extent → List PendingQuery → List Fall → List ℕ → Type 0
+AreReasonLines front separator extent pending falls text = ArePieces (λ fall. IsIfTold (is_told extent pending fall) (IsReasonLine front separator pending fall)) falls text
+
 -- What is reported about a query that waits: its name, and a step for each query on which it rests, itself last; or for each of these that has a cause.
 pub record IsExplanation (extent : Extent) (pool : PoolRecord) (name : List ℕ) (text : List ℕ) : Type 0 where
   pub place : ℕ
@@ -103,7 +107,7 @@ pub record IsExplanation (extent : Extent) (pool : PoolRecord) (name : List ℕ)
   pub part : List Fall
   pub reason : IsReasonPart pool place part
   pub steps : List ℕ
-  pub told : ArePieces (λ fall. IsIfTold (is_told extent pool.pending fall) (IsStep pool.pending fall)) part steps
+  pub told : AreReasonLines (codes "  ") (codes ": ") extent pool.pending part steps
   pub is : text ≡ name ++ codes " waits\n" ++ steps
 
 -- Whether the query that a word names is matched; nothing where it names no pending one.
@@ -129,17 +133,11 @@ abbrev pub IsExplained : Extent → PoolRecord → List (List ℕ) → List ℕ 
 IsExplained extent pool [] text = ArePieces (IsTold extent pool) (waiting_names pool) text
 IsExplained extent pool (name ∷ names) text = ArePieces (IsTold extent pool) (name ∷ names) text
 
--- A query that waits, and why, in one line.
-abbrev pub IsWaitLine : List PendingQuery → Fall → List ℕ → Type 0
-IsWaitLine pending fall line =
-    let name = name_of_number pending fall.node in
-    (words : List ℕ) × IsReasonTold pending name fall.node fall.reason words × (line ≡ name ++ codes " waits: " ++ words ++ codes "\n")
-
 -- All queries that wait, each once, with its reason, which rests on none but those before it: round after round. Or those alone that have a cause.
 pub record IsToldOnce (extent : Extent) (pool : PoolRecord) (text : List ℕ) : Type 0 where
   pub falls : List Fall
   pub rounds : AreAllRounds (nodes_of pool) (edges_of pool.pending) falls
-  pub told : ArePieces (λ fall. IsIfTold (is_told extent pool.pending fall) (IsWaitLine pool.pending fall)) falls text
+  pub told : AreReasonLines [] (codes " waits: ") extent pool.pending falls text
 
 -- The heads that are nearest to a postcondition, each in a line.
 abbrev pub IsNearTold : List PendingQuery → List ℕ → ℕ → List ℕ → Type 0

@@ -13,7 +13,7 @@ ghost use Rattle.cq_board.specs.Near.{miss_read, post_named};
 ghost use Rattle.cq_board.specs.Waiting.{is_waiting, IsReasonPart};
 ghost use Rattle.cq_render.specs.Steps.Falls.{AreFalls};
 ghost use Rattle.cq_render.specs.declared.extent.Extent.{Extent};
-ghost use Rattle.cq_render.specs.Explain.{ArePieces, AreProviders, IsExplanation, atom_or_none, head_named, name_of_number, near_words, missing_words, wait_word, only_words, IsUnmetTold, IsReasonTold, IsStep, is_cause, is_told, IsIfTold, IsToldBy, IsTold, waiting_names, IsExplained, IsNearTold};
+ghost use Rattle.cq_render.specs.Explain.{ArePieces, AreProviders, IsExplanation, atom_or_none, head_named, name_of_number, near_words, missing_words, wait_word, only_words, IsUnmetTold, IsReasonTold, IsReasonLine, AreReasonLines, is_cause, is_told, IsIfTold, IsToldBy, IsTold, waiting_names, IsExplained, IsNearTold};
 ghost use Rattle.cq_render.specs.Report.{line};
 
 use crate::extent::Extent;
@@ -24,6 +24,19 @@ use cq_board::{Board, Heads, NearMiss};
 use cq_match::{Fall, Parts, Reason};
 use cq_text::print_atom;
 use std::alloc::{AllocError, Allocator};
+
+/// How a line tells of a query: what stands in front of its name, and between that and the reason.
+#[derive(Clone, Copy)]
+pub(crate) struct Layout {
+    pub(crate) front: &'static str,
+    pub(crate) separator: &'static str,
+}
+
+/// The layout of a step below the query that rests on it.
+const STEP: Layout = Layout {
+    front: "  ",
+    separator: ": ",
+};
 
 /// What a board lists, the heads by relation and arity, the number of each name, and the parts of the falls of the queries that
 /// wait.
@@ -327,7 +340,7 @@ fn post_reason<A: Allocator + Copy>(
 }
 
 /// The reason for which the query of that name falls.
-pub(crate) fn reason_words<A: Allocator + Copy>(
+fn reason_words<A: Allocator + Copy>(
     alloc: A,
     fallen: &Fallen<'_, '_, A>,
     name: &Name<A>,
@@ -341,19 +354,23 @@ pub(crate) fn reason_words<A: Allocator + Copy>(
     }
 }
 
-fn step_line<A: Allocator + Copy>(
+/// A query, and why it waits, in a line.
+fn reason_line<A: Allocator + Copy>(
     alloc: A,
     fallen: &Fallen<'_, '_, A>,
+    layout: Layout,
     fall: &Fall,
 ) -> Result<String<A>, AllocError>
     requires { fall.now.node < length fallen.now.listing.now.queries.items }
-    ensures { IfOk result (λ text. IsStep fallen.now.listing.now.board.now.pending fall.now (string_bytes text)) }
+    ensures { IfOk result (λ text. IsReasonLine layout.front.now layout.separator.now fallen.now.listing.now.board.now.pending fall.now (string_bytes text)) }
 {
     let name = fallen.listing.queries[fall.node].name;
     let reason = reason_words(alloc, fallen, name, fall)?;
+    let front = layout.front;
     let name = name.as_str();
+    let separator = layout.separator;
     let reason = reason.as_str();
-    format!(in alloc; "  {name}: {reason}\n")
+    format!(in alloc; "{front}{name}{separator}{reason}\n")
 }
 
 /// Whether the reason rests on no other query.
@@ -367,7 +384,7 @@ fn is_cause<A: Allocator>(fallen: &Fallen<'_, '_, A>, fall: &Fall) -> bool
 }
 
 /// Whether the reason is told.
-pub(crate) fn is_told<A: Allocator>(fallen: &Fallen<'_, '_, A>, extent: Extent, fall: &Fall) -> bool
+fn is_told<A: Allocator>(fallen: &Fallen<'_, '_, A>, extent: Extent, fall: &Fall) -> bool
     ensures { result ≡ is_told extent fallen.now.listing.now.board.now.pending fall.now }
 {
     match extent {
@@ -376,36 +393,38 @@ pub(crate) fn is_told<A: Allocator>(fallen: &Fallen<'_, '_, A>, extent: Extent, 
     }
 }
 
-/// The line of a step, where it is told.
-fn told_step<A: Allocator + Copy>(
+/// The line of a query, where its reason is told.
+fn told_line<A: Allocator + Copy>(
     alloc: A,
     fallen: &Fallen<'_, '_, A>,
     extent: Extent,
+    layout: Layout,
     fall: &Fall,
 ) -> Result<String<A>, AllocError>
     requires { fall.now.node < length fallen.now.listing.now.queries.items }
-    ensures { IfOk result (λ text. IsIfTold (is_told extent fallen.now.listing.now.board.now.pending fall.now) (IsStep fallen.now.listing.now.board.now.pending fall.now) (string_bytes text)) }
+    ensures { IfOk result (λ text. IsIfTold (is_told extent fallen.now.listing.now.board.now.pending fall.now) (IsReasonLine layout.front.now layout.separator.now fallen.now.listing.now.board.now.pending fall.now) (string_bytes text)) }
 {
     if is_told(fallen, extent, fall) {
-        step_line(alloc, fallen, fall)
+        reason_line(alloc, fallen, layout, fall)
     } else {
         Ok(String::new(alloc))
     }
 }
 
-/// Puts a step for each of the falls that are told on an empty page.
-fn put_steps<A: Allocator + Copy>(
+/// Puts a line for each of the falls that are told on an empty page.
+pub(crate) fn put_lines<A: Allocator + Copy>(
     alloc: A,
     fallen: &Fallen<'_, '_, A>,
     extent: Extent,
-    part: &[Fall],
+    layout: Layout,
+    falls: &[Fall],
     page: &mut String<A>,
 ) -> Result<(), AllocError>
-    requires { All (λ fall. fall.node < length fallen.now.listing.now.queries.items) part.now }
-    ensures { string_bytes page.old ≡ [] → OnOk result (ArePieces (λ fall. IsIfTold (is_told extent fallen.now.listing.now.board.now.pending fall) (IsStep fallen.now.listing.now.board.now.pending fall)) part.now (string_bytes page.new)) }
+    requires { All (λ fall. fall.node < length fallen.now.listing.now.queries.items) falls.now }
+    ensures { string_bytes page.old ≡ [] → OnOk result (AreReasonLines layout.front.now layout.separator.now extent fallen.now.listing.now.board.now.pending falls.now (string_bytes page.new)) }
 {
-    for fall in part {
-        let line = told_step(alloc, fallen, extent, fall)?;
+    for fall in falls {
+        let line = told_line(alloc, fallen, extent, layout, fall)?;
         page.push_str(line.as_str())?;
     }
     Ok(())
@@ -439,7 +458,7 @@ fn waiting_words<A: Allocator + Copy>(
 {
     let part = part_of(fallen, number)?;
     let mut steps = String::new(alloc);
-    put_steps(alloc, fallen, extent, &part, &mut steps)?;
+    put_lines(alloc, fallen, extent, STEP, &part, &mut steps)?;
     let name = name.as_str();
     let steps = steps.as_str();
     format!(in alloc; "{name} waits\n{steps}")

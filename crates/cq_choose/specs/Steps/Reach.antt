@@ -1,7 +1,6 @@
 -- Which queries are concerned, by flags at their places.
-use Rattle.std.specs.Prelude.{◌≡◌, ◌⊎◌, ℕ, ◌+◌, ◌*◌, ◌≤◌, ⊤, Bool, true, false, not, ◌&&◌, ◌||◌, List, [], ◌∷◌, length, slice_index_or, Option, Some, None}
-use Rattle.std.specs.List.{All, Contains}
-use Rattle.cq_atom.specs.declared.edge.Edge.{Edge}
+use Rattle.std.specs.Prelude.{◌≡◌, ℕ, ⊤, Bool, true, false, not, ◌&&◌, List, slice_index_or, Option, Some, None}
+use Rattle.std.specs.List.{All}
 use Rattle.cq_atom.specs.Query.{QueryRecord}
 use Rattle.cq_board.specs.Pool.{PoolRecord}
 use Rattle.cq_board.specs.Board.{is_matched_at, place_of}
@@ -11,36 +10,9 @@ use Rattle.cq_board.specs.Steps.Choices.{IsValid}
 use Rattle.cq_choose.specs.Choosing.{IsChoiceFor}
 use Rattle.cq_choose.specs.Disagreement.{IsConcerned}
 
--- The flag at the place is set: no query that is taken stands there.
+-- The flag at the place is set: no query that is concerned stands there.
 abbrev pub is_spare : List Bool → ℕ → Bool
 is_spare spare place = slice_index_or spare place false
-
--- No query that is taken stands at the place: one with a flag, or none that is matched.
-abbrev pub is_idle : List Bool → List Bool → ℕ → Bool
-is_idle matched spare place = not (is_spare matched place) || is_spare spare place
-
--- How many flags are set.
-abbrev pub spare_count : List Bool → ℕ
-spare_count [] = 0
-spare_count (true ∷ flags) = spare_count flags + 1
-spare_count (false ∷ flags) = spare_count flags
-
--- Queries were taken: their flags are no longer set, and their places are left to be looked at.
-pub record Takes (before : List Bool) (left : List ℕ) (after : List Bool) (more : List ℕ) : Type 0 where
-  pub kept : (p : ℕ) → is_spare before p ≡ false → is_spare after p ≡ false
-  pub noted : (p : ℕ) → is_spare before p ≡ true → is_spare after p ≡ false → Contains more p
-  pub stays : (p : ℕ) → Contains left p → Contains more p
-  pub fewer : length more + 2 * spare_count after ≤ length left + 2 * spare_count before
-
--- Where a matched query is taken, its matched providers are, or its place is left.
-pub record IsClosing (edges : List Edge) (matched spare : List Bool) (left : List ℕ) : Type 0 where
-  pub closing : (e : Edge) → Contains edges e → is_spare matched e.waiter ≡ true → is_spare spare e.waiter ≡ false → (is_spare spare e.provider ≡ false) ⊎ Contains left e.waiter
-
--- Who is taken is concerned, and who is left to be looked at. Only matched queries have flags.
-pub record AreConcerned (pool : PoolRecord) (names : List (List ℕ)) (spare : List Bool) (left : List ℕ) : Type 0 where
-  pub taken : (p : ℕ) → is_matched_at pool p ≡ true → is_spare spare p ≡ false → IsConcerned pool names p
-  pub next : (p : ℕ) → Contains left p → IsConcerned pool names p
-  pub matched : (p : ℕ) → is_spare spare p ≡ true → is_matched_at pool p ≡ true
 
 -- Whether the query is matched; none is not.
 abbrev pub told : Option Bool → Bool

@@ -1,4 +1,4 @@
-use Rattle.std.proofs.Common.{◌≡◌, ◌∙◌, List, Bool, true, map, length, sym, ap}
+use Rattle.std.proofs.Common.{◌≡◌, ◌∙◌, map, length, sym, ap}
 use Rattle.std.proofs.lemmas.List.{length-map}
 use Rattle.cq_board.specs.Pool.{name_of}
 use Rattle.cq_board.specs.Edges.{edges_of}

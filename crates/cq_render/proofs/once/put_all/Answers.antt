@@ -1,4 +1,4 @@
-use Rattle.std.proofs.Common.{◌≡◌, ℕ, ◌<◌, List, length, subst, sym}
+use Rattle.std.proofs.Common.{◌≡◌, ℕ, ◌<◌, length, subst, sym}
 use Rattle.std.specs.List.{All}
 use Rattle.cq_match.specs.declared.falls.Fall.{Fall}
 use Rattle.cq_board.specs.Pool.{PoolRecord}

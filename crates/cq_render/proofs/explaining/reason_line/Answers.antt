@@ -1,18 +1,11 @@
-use Rattle.std.proofs.Common.{◌≡◌, ◌++◌, ◌∙◌, List, ℕ, subst, sym, ap, append_assoc}
+use Rattle.std.proofs.Common.{◌≡◌, ◌++◌, ◌∙◌, List, ℕ, subst, sym, ap}
 use Rattle.std.specs.Prelude.{codes, string_bytes, IfOk}
 use Rattle.std.proofs.lemmas.Result.{IfOk-weaker}
 use Rattle.cq_board.specs.Board.{name_or_none}
 use Rattle.cq_render.proofs.Walked.{name_read, names_of_shown}
 use Rattle.cq_render.specs.Steps.Walking.{shown_read}
 use Rattle.cq_render.specs.Explain.{IsReasonTold, name_of_number}
-use Rattle.cq_render.proofs.once.wait_line.Goals as goal
-
--- the line, of its name and its reason
-abbrev line : List ℕ → List ℕ → List ℕ
-line name words = name ++ codes " waits: " ++ words ++ codes "\n"
-
-whole : (name words : List ℕ) → name ++ (codes " waits: " ++ (words ++ codes "\n")) ≡ line name words
-whole name words = simp append_assoc
+use Rattle.cq_render.proofs.explaining.reason_line.Goals as goal
 
 pub returns : goal.returns
 returns g c =
@@ -25,8 +18,7 @@ returns g c =
     let reason : IsReasonTold pending (name_of_number pending fall.node) fall.node fall.reason c.as_str-reason.result.now =
     subst (IsReasonTold pending (name_of_number pending fall.node) fall.node fall.reason) (sym c.as_str-reason.ensures.value)
     (subst (λ (n : List ℕ). IsReasonTold pending n fall.node fall.reason (string_bytes c.in_ok-reason.reason)) named c.in_ok-reason.ensures) in
-    let written : IfOk c.format.result (λ text. string_bytes text ≡ c.as_str-name.result.now ++ (codes " waits: " ++ (c.as_str-reason.result.now ++ codes "\n"))) = c.format.ensures.ok in
-    let told = subst (λ (bytes : List ℕ). IfOk c.format.result (λ text. string_bytes text ≡ bytes)) (whole c.as_str-name.result.now c.as_str-reason.result.now) written in
+    let written : IfOk c.format.result (λ text. string_bytes text ≡ c.args.layout.front.now ++ (c.as_str-name.result.now ++ (c.args.layout.separator.now ++ (c.as_str-reason.result.now ++ codes "\n")))) = c.format.ensures.ok in
     IfOk-weaker c.format.result _ _
     (λ text is. (c.as_str-reason.result.now, reason, is))
-    (subst (λ (name : List ℕ). IfOk c.format.result (λ text. string_bytes text ≡ line name c.as_str-reason.result.now)) (c.as_str-name.ensures.bytes ∙ named) told)
+    (subst (λ (name : List ℕ). IfOk c.format.result (λ text. string_bytes text ≡ c.args.layout.front.now ++ (name ++ (c.args.layout.separator.now ++ (c.as_str-reason.result.now ++ codes "\n"))))) (c.as_str-name.ensures.bytes ∙ named) written)
