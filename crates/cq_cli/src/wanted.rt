@@ -354,7 +354,7 @@ fn replay_command<'a>(alloc: Global) -> Result<Command<'a>, AllocError> {
             Arg::new(alloc, "why")
                 .long("why")
                 .action(ArgAction::SetTrue)
-                .help("Tell on standard error what is wrong with refused lines"),
+                .help("Tell on standard error what is wrong with the text of refused lines"),
         )?
         .arg(file(alloc))?
         .arg(memory(
