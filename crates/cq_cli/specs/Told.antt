@@ -1,11 +1,12 @@
 -- What is told in the end of a script that is replayed with why lines are refused. (this project's profile)
-use Rattle.std.specs.Prelude.{◌≡◌, ℕ, ◌-◌, ◌^◌, nat_lt, Bool, true, false, List, [], ◌++◌, None, take, codes, if◌then◌else◌}
+use Rattle.std.specs.Prelude.{◌≡◌, ℕ, ◌-◌, ◌^◌, nat_lt, Bool, true, false, List, [], ◌++◌, take, codes, if◌then◌else◌}
 use Rattle.cq_rel.specs.Tables.{Declaration}
 use Rattle.cq_render.specs.Report.{line}
 use Rattle.cq_report.specs.declared.fault.RunFault.{RunFault}
 use Rattle.cq_report.specs.declared.fault.RunFault.TheVariants as runs
 use Rattle.cq_report.specs.Lines.{lines_of}
-use Rattle.cq_report.specs.Machine.{State, shown}
+use Rattle.cq_report.specs.declared.numbering.Numbering.TheVariants.{Plain}
+use Rattle.cq_report.specs.Machine.{State, begin_state, shown}
 use Rattle.cq_report.specs.Output.{left_in}
 use Rattle.cq_report.specs.Summary.{summary}
 use Rattle.cq_why.specs.Why.{AreWhys}
@@ -28,7 +29,7 @@ relations_of state = (shown (left_in state).floor).tables.catalog
 -- What is wrong with the lines that were heard, and the summary.
 pub record IsToldOf (origin : List ℕ) (is_summed : Bool) (script : List ℕ) (state : State) (text : List ℕ) : Type 0 where
   pub whys : List ℕ
-  pub are : AreWhys origin 1 (relations_of state) None (take (told_lines state.lines) (lines_of script)) whys
+  pub are : AreWhys origin (relations_of state) (begin_state Plain) (take (told_lines state.lines) (lines_of script)) whys
   pub is : text ≡ whys ++ summary_if is_summed origin state
 
 -- A script that is read whole is no device: one that is too long is a file that fails.

@@ -60,9 +60,9 @@ reply, and `board: out of memory` is told.
 
 With --strict the replay ends at the first line that is refused, once its reply is written.
 
-With --why the script is read to its end before it is replayed. In the end one line on standard error tells of each line that is no
-command what was expected and what was found there, with the line's number and a caret, and of each command whose row or body
-names a relation that is not declared, or with another number of columns.
+With --why the script is read to its end before it is replayed. In the end one line on standard error tells of each refused line
+why, with its number: of a line that is no command what was expected and what was found there, with a caret, and of a command what
+stands in its way. The script is heard once more for it, which takes as much memory again.
 
 Exit status: 0 done (refused lines included), 1 a device failed, 2 usage, 3 out of memory, 7 a line was refused (--strict).
 docs/formats.md describes the language.";
@@ -354,7 +354,7 @@ fn replay_command<'a>(alloc: Global) -> Result<Command<'a>, AllocError> {
             Arg::new(alloc, "why")
                 .long("why")
                 .action(ArgAction::SetTrue)
-                .help("Tell on standard error what is wrong with the text of refused lines"),
+                .help("Tell on standard error why lines are refused"),
         )?
         .arg(file(alloc))?
         .arg(memory(

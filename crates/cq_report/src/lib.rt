@@ -13,6 +13,7 @@ mod discard;
 mod fault;
 mod happening;
 mod heading;
+mod hearing;
 mod interpreter;
 mod left;
 mod life;
@@ -34,6 +35,7 @@ mod summary;
 
 pub use fault::{LiveFault, RunFault};
 pub use heading::{form_of, headed};
+pub use hearing::Hearing;
 pub use left::{Played, Ran};
 pub use limits::{JOURNAL_LIMIT, POOL_LIMIT};
 pub use living::live;

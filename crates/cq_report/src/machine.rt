@@ -106,8 +106,15 @@ impl<A: Allocator + Copy> Machine<A> {
         self.tally.first.is_some()
     }
 
+    /// How many lines came.
+    pub(crate) fn lines(&self) -> u128
+        ensures { result ≡ self.now.lines }
+    {
+        self.lines
+    }
+
     /// The form in which the next line is read.
-    fn form(&self) -> Form
+    pub(crate) fn form(&self) -> Form
         ensures { result ≡ form_in self.now }
     {
         form_of(self.heading)
@@ -166,6 +173,24 @@ impl<A: Allocator + Copy> Machine<A> {
         }
     }
 
+    /// Reads a line, and gives what is told of it. The line is counted, and kept where it is the first that is refused.
+    ///
+    /// # Errors
+    /// `AllocError` where an allocation failed: then the machine stays as it was.
+    pub(crate) fn take(&mut self, line: &[u8]) -> Result<Said<A>, AllocError>
+        requires lines { lines_before self.old < 2 ^ 100 }
+        ensures lines { OnOk result (lines_before self.new ≤ lines_before self.old + 1) }
+        ensures read { OnOk result ((reading : Reading) × IsReading (form_in self.old) line.now reading) }
+        ensures ok { IfOk result (λ said. (reading : Reading) → IsReading (form_in self.old) line.now reading → (self.new ≡ next self.old reading) × (said ≡ said_in self.old reading)) }
+        ensures err { OnErr result (self.new ≡ self.old) }
+    {
+        let lines = self.lines;
+        let said = self.serve_line(line)?;
+        self.tally.add(lines + 1, said.why());
+        self.lines = lines + 1;
+        Ok(said)
+    }
+
     /// Reads a line, and gives the reply to it.
     ///
     /// # Errors
@@ -177,11 +202,10 @@ impl<A: Allocator + Copy> Machine<A> {
         ensures ok { IfOk result (λ spoken. (reading : Reading) → IsReading (form_in self.old) line.now reading → (self.new ≡ next self.old reading) × (spoken ≡ reply self.old reading)) }
         ensures err { OnErr result (self.new ≡ self.old) }
     {
+        let numbering = self.numbering;
         let lines = self.lines;
-        let said = self.serve_line(line)?;
-        self.tally.add(lines + 1, said.why());
-        self.lines = lines + 1;
-        Ok(Spoken::numbered(self.numbering, lines, said))
+        let said = self.take(line)?;
+        Ok(Spoken::numbered(numbering, lines, said))
     }
 
     /// Reads a line, and puts the reply to it.

@@ -118,6 +118,13 @@ impl<A: Allocator> Said<A> {
         &self.why
     }
 
+    /// Why the line is refused, where it is, and nothing else of it.
+    pub(crate) fn into_why(self) -> Option<Refusal>
+        ensures { result ≡ self.why }
+    {
+        self.why
+    }
+
     /// Puts what is told, and a tail after it.
     fn put<W: Sink>(&self, tail: &str, output: &mut Output<'_, W, A>) -> Result<(), Failed>
         requires { W.write_failures output.old.sink.now < 2 ^ 62 }

@@ -222,18 +222,19 @@ impl Tried for Playing {
 }
 
 /// A word that is no command, a variable in a row, and a relation that is not there, under a `board` line.
-const FAULTY: &[u8] = b"board 2\npubilsh\ninsert T(x)\ndelete U(1)";
+const FAULTY: &[u8] = b"board 2\npubilsh\ninsert T(x)\ndelete U(1)\nwithdraw q";
 
 const WHYS: &str =
     "board: a.board: line 2: pubilsh: no such command; did you mean publish?: ^pubilsh
 board: a.board: line 3: expected a number, a \"text\" or a Capitalised name; x is a variable: insert T(^x)
 board: a.board: line 4: U: no such relation; did you mean T?: delete U(1)
+board: a.board: line 5: no query of this name is pending: withdraw q
 ";
 
 /// Whether these lines tell what is wrong with the script.
 fn is_told<A: Allocator + Copy>(alloc: A, catalog: &Catalog<A>) -> Result<bool, AllocError> {
     let mut page = String::new(alloc);
-    put_whys(alloc, "a.board: ", 4, catalog, FAULTY, &mut page)?;
+    put_whys(alloc, "a.board: ", 5, catalog, FAULTY, &mut page)?;
     Ok(page.as_str() == WHYS)
 }
 

@@ -15,7 +15,8 @@ use Rattle.cq_text.specs.declared.form.Form.{Form}
 use Rattle.cq_text.specs.declared.form.Form.TheVariants.{One, Two}
 use Rattle.cq_render.specs.Explain.{ArePieces}
 use Rattle.cq_report.specs.Reading.{Reading, Reads, Faulty, IsReading}
-use Rattle.cq_report.specs.Machine.{form_of, headed}
+use Rattle.cq_report.specs.Refusals.{refusal}
+use Rattle.cq_report.specs.Machine.{State, form_in, next, staged}
 
 -- ---- what was expected
 
@@ -204,21 +205,51 @@ abbrev pub misuse_words : List Declaration → Use → Option ℕ → List ℕ
 misuse_words catalog used None = used.0 ++ (codes ": no such relation" ++ meant (closest used.0 (map relation_of catalog)))
 misuse_words catalog used (Some count) = used.0 ++ (codes " has " ++ (decimal count ++ (columns count ++ (decimal used.1 ++ codes " given"))))
 
--- The line that tells of it.
-abbrev pub misuse_line : List ℕ → ℕ → List Declaration → List ℕ → Option Use → List ℕ
-misuse_line origin number catalog line None = []
-misuse_line origin number catalog line (Some used) =
-    codes "board: " ++ (origin ++ (codes "line " ++ (decimal number ++ (codes ": " ++ (misuse_words catalog used (arity_in catalog used.0) ++ (codes ": " ++ (shown (take 40 line) ++ codes "\n")))))))
+-- Why a line of a setup is refused, by the words of its reply, in plainer ones, where there are any.
+abbrev pub plain_of_setup : List ℕ → List ℕ
+plain_of_setup why =
+    if bytes_eq why (codes "Late") then codes "the setup is over, or the form is settled"
+    else (if bytes_eq why (codes "Declared") then codes "the relation is declared already"
+    else (if bytes_eq why (codes "CatalogFull") then codes "64 relations are declared, which is the most"
+    else why))
 
--- What is told of a line, by its reading: of a command that its first misused relation is, if any.
-abbrev pub IsWhy : List ℕ → ℕ → List Declaration → Form → List ℕ → Reading → List ℕ → Type 0
-IsWhy origin number catalog form line (Reads command) text = text ≡ misuse_line origin number catalog line (misused catalog (uses_of command))
-IsWhy origin number catalog form line (Faulty kind offset) text =
+-- Why a command is refused, likewise.
+abbrev pub plain : List ℕ → List ℕ
+plain why =
+    if bytes_eq why (codes "PoolFull") then codes "as many queries are pending as the limits allow; see limits"
+    else (if bytes_eq why (codes "JournalFull") then codes "the journal has as many entries as the limits allow; see limits"
+    else (if bytes_eq why (codes "NameTaken") then codes "a query of this name is pending"
+    else (if bytes_eq why (codes "NoSuchName") then codes "no query of this name is pending"
+    else (if bytes_eq why (codes "RowPresent") then codes "the row is there already"
+    else (if bytes_eq why (codes "RowAbsent") then codes "there is no such row"
+    else (if bytes_eq (take 9 why) (codes "NotAnswer") then codes "heads and postconditions name no relation of the database"
+    else plain_of_setup why))))))
+
+-- The reply says that a relation is not declared, or has another number of columns.
+abbrev pub is_of_relation : List ℕ → Bool
+is_of_relation why = bytes_eq (take 15 why) (codes "UnknownRelation") || bytes_eq (take 5 why) (codes "Arity")
+
+-- Why a command is refused: for its first misused relation, or in the words of its reply.
+abbrev pub command_words : List Declaration → Option Use → List ℕ → List ℕ
+command_words catalog None why = plain why
+command_words catalog (Some used) why = if is_of_relation why then misuse_words catalog used (arity_in catalog used.0) else plain why
+
+-- The line that tells of a command, if it is refused.
+abbrev pub command_line : List ℕ → ℕ → List Declaration → Option Use → List ℕ → Option (List ℕ) → List ℕ
+command_line origin number catalog used line None = []
+command_line origin number catalog used line (Some why) =
+    codes "board: " ++ (origin ++ (codes "line " ++ (decimal number ++ (codes ": " ++ (command_words catalog used why ++ (codes ": " ++ (shown (take 40 line) ++ codes "\n")))))))
+
+-- What is told of a line, by its reading, and why it is refused, where it is.
+abbrev pub IsWhy : List ℕ → ℕ → List Declaration → Form → List ℕ → Option (List ℕ) → Reading → List ℕ → Type 0
+IsWhy origin number catalog form line refused (Reads command) text = text ≡ command_line origin number catalog (misused catalog (uses_of command)) line refused
+IsWhy origin number catalog form line refused (Faulty kind offset) text =
     (words : List ℕ) × IsHint form kind (take offset line) (drop offset line) words × (text ≡ why_line origin number words (take offset line) (drop offset line))
 
--- What is told of lines, the first of which has this number, where this form is settled before them, if any.
-abbrev pub AreWhys : List ℕ → ℕ → List Declaration → Option Form → List (List ℕ) → List ℕ → Type 0
-AreWhys origin number catalog heading [] text = text ≡ []
-AreWhys origin number catalog heading (line ∷ lines) text =
-    (reading : Reading) × IsReading (form_of heading) line reading × (piece : List ℕ) × IsWhy origin number catalog (form_of heading) line reading piece
-    × (rest : List ℕ) × AreWhys origin (number + 1) catalog (headed heading reading) lines rest × (text ≡ piece ++ rest)
+-- What is told of lines, over these relations, after others that left this state.
+abbrev pub AreWhys : List ℕ → List Declaration → State → List (List ℕ) → List ℕ → Type 0
+AreWhys origin catalog state [] text = text ≡ []
+AreWhys origin catalog state (line ∷ lines) text =
+    (reading : Reading) × IsReading (form_in state) line reading
+    × (piece : List ℕ) × IsWhy origin (state.lines + 1) catalog (form_in state) line (refusal (staged state.stage state.heading reading).1) reading piece
+    × (rest : List ℕ) × AreWhys origin catalog (next state reading) lines rest × (text ≡ piece ++ rest)

@@ -1,15 +1,15 @@
-//! What is wrong with the lines of a script that are no commands, in plain words.
+//! What is wrong with the lines of a script that are refused, in plain words.
 //!
-//! [`put_whys`] tells of each such line what was expected there and what was found (`specs/Why`). What is expected is found by the grammar: tokens are tried
-//! at the place of the fault.
-//!
-//! Not here: whether a command is refused for what is pending or which rows there are.
+//! [`put_whys`] tells of each line that is no command what was expected there and what was found, and of each command that is refused why (`specs/Why`). What is
+//! expected is found by the grammar: tokens are tried at the place of the fault. Why a command is refused is found by the script's machine, which hears it
+//! again.
 #![tactic(auto)]
 
 mod closest;
 mod found;
 mod hint;
 mod misuse;
+mod refused;
 mod samples;
 mod whys;
 

@@ -1,12 +1,11 @@
 //! Relations that commands name, and the tables have not so.
 
-ghost use Rattle.std.specs.Prelude.{◌≡◌, ◌<◌, ◌++◌, ◌∷◌, [], map, length, string_bytes, decimal, codes, Some, IfOk, OnOk, option_map};
+ghost use Rattle.std.specs.Prelude.{◌≡◌, ◌<◌, ◌++◌, ◌∷◌, [], map, length, string_bytes, decimal, codes, IfOk, OnOk, option_map};
 ghost use Rattle.std.specs.List.{slice_get};
 ghost use Rattle.cq_rel.specs.Tables.{Declaration, arity_in, relation_of};
-ghost use Rattle.cq_why.specs.Why.{uses_of_body, uses_of, has_place, misused, columns, meant, closest, misuse_words, misuse_line};
+ghost use Rattle.cq_why.specs.Why.{uses_of_body, uses_of, has_place, misused, columns, meant, closest, misuse_words};
 
 use crate::closest::closest;
-use crate::found::{put_shown, shortened};
 use crate::hint::put_meant;
 use cq_atom::{Atom, EditKind};
 use cq_rel::Catalog;
@@ -16,8 +15,8 @@ use std::alloc::{AllocError, Allocator};
 /// A relation that a command names, with how many terms or values.
 #[derive(Clone, Copy)]
 pub(crate) struct Use<'c> {
-    relation: &'c str,
-    count: usize,
+    pub(crate) relation: &'c str,
+    pub(crate) count: usize,
 }
 
 /// Whether the relation is declared with as many columns.
@@ -136,7 +135,7 @@ fn put_arity<A: Allocator>(
 }
 
 /// Puts how a relation is misused.
-fn put_words<A: Allocator + Copy>(
+pub(crate) fn put_words<A: Allocator + Copy>(
     alloc: A,
     catalog: &Catalog<A>,
     relation: &str,
@@ -148,52 +147,5 @@ fn put_words<A: Allocator + Copy>(
     match catalog.arity_of(relation) {
         Some(arity) => put_arity(page, relation, arity, count),
         None => put_no_relation(alloc, catalog, relation, page),
-    }
-}
-
-/// Puts the line that tells of it.
-fn put_misused<A: Allocator + Copy>(
-    alloc: A,
-    origin: &str,
-    number: u64,
-    catalog: &Catalog<A>,
-    line: &[u8],
-    relation: &str,
-    count: usize,
-    page: &mut String<A>,
-) -> Result<(), AllocError>
-    ensures { OnOk result (string_bytes page.new ≡ string_bytes page.old ++ misuse_line origin.now number catalog.now line.now (Some (relation.now, count))) }
-{
-    write!(page, "board: {origin}line {number}: ")?;
-    put_words(alloc, catalog, relation, count, page)?;
-    page.push_str(": ")?;
-    put_shown(page, shortened(line))?;
-    page.push_str("\n")
-}
-
-/// Puts the line that tells of a relation that is misused, if one is.
-pub(crate) fn put_misuse<A: Allocator + Copy>(
-    alloc: A,
-    origin: &str,
-    number: u64,
-    catalog: &Catalog<A>,
-    line: &[u8],
-    used: Option<Use<'_>>,
-    page: &mut String<A>,
-) -> Result<(), AllocError>
-    ensures { OnOk result (string_bytes page.new ≡ string_bytes page.old ++ misuse_line origin.now number catalog.now line.now (option_map (λ used. (used.relation.now, used.count)) used.entry)) }
-{
-    match used {
-        Some(used) => put_misused(
-            alloc,
-            origin,
-            number,
-            catalog,
-            line,
-            used.relation,
-            used.count,
-            page,
-        ),
-        None => Ok(()),
     }
 }

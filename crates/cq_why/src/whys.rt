@@ -1,17 +1,20 @@
 //! What is wrong with the lines of a script.
 
-ghost use Rattle.std.specs.Prelude.{◌≡◌, ◌++◌, [], List, ℕ, take, drop, string_bytes, None, IfOk, OnOk};
+ghost use Rattle.std.specs.Prelude.{◌≡◌, ◌+◌, ◌<◌, ◌^◌, ◌++◌, [], List, ℕ, Option, take, drop, string_bytes, IfOk, OnOk};
 ghost use Rattle.cq_rel.specs.Tables.{Declaration};
 ghost use Rattle.cq_report.specs.Lines.{lines_of, HasNoEnd};
-ghost use Rattle.cq_report.specs.Reading.{Reading, Faulty, IsReading};
-ghost use Rattle.cq_report.specs.Machine.{form_of, headed};
+ghost use Rattle.cq_report.specs.declared.numbering.Numbering.TheVariants.{Plain};
+ghost use Rattle.cq_report.specs.Reading.{Reading, Reads, Faulty, IsReading};
+ghost use Rattle.cq_report.specs.Refusals.{refusal};
+ghost use Rattle.cq_report.specs.Machine.{begin_state, form_in, next, staged};
 ghost use Rattle.cq_why.specs.Why.{IsHint, IsWhy, AreWhys, why_line};
 
 use crate::found::put_excerpt;
 use crate::hint::put_hint;
-use crate::misuse::{misused, put_misuse};
+use crate::misuse::misused;
+use crate::refused::put_refused;
 use cq_rel::Catalog;
-use cq_report::{first_line, form_of, headed};
+use cq_report::{Hearing, Refusal, first_line};
 use cq_text::{Form, Kind, TextFault, read_command};
 use std::alloc::{AllocError, Allocator};
 
@@ -58,44 +61,53 @@ fn put_faulty<A: Allocator + Copy>(
     offset: usize,
     page: &mut String<A>,
 ) -> Result<(), AllocError>
-    ensures { OnOk result ((catalog : List Declaration) → (piece : List ℕ) × IsWhy origin.now number catalog form line.now (Faulty kind offset) piece × (string_bytes page.new ≡ string_bytes page.old ++ piece)) }
+    ensures { OnOk result ((catalog : List Declaration) (refused : Option (List ℕ)) → (piece : List ℕ) × IsWhy origin.now number catalog form line.now refused (Faulty kind offset) piece × (string_bytes page.new ≡ string_bytes page.old ++ piece)) }
 {
     let (front, rest) = parted(line, offset);
     put_why(alloc, origin, number, form, kind, front, rest, page)
 }
 
-/// Puts what is wrong with a line of that number, where it is no command or names a relation that the catalog has not so, and gives the form that is settled after it, if any.
+/// Puts what is wrong with a line of that number, where it is refused.
+fn put_refusal<A: Allocator + Copy>(
+    alloc: A,
+    origin: &str,
+    number: u64,
+    catalog: &Catalog<A>,
+    form: Form,
+    line: &[u8],
+    refused: Option<Refusal>,
+    page: &mut String<A>,
+) -> Result<(), AllocError>
+    ensures { OnOk result ((reading : Reading) × IsReading form line.now reading × (piece : List ℕ) × IsWhy origin.now number catalog.now form line.now refused reading piece × (string_bytes page.new ≡ string_bytes page.old ++ piece)) }
+{
+    match read_command(alloc, line, form) {
+        Ok(command) => {
+            let used = misused(catalog, &command);
+            put_refused(alloc, origin, number, catalog, used, line, refused, page)
+        }
+        Err(TextFault::At { kind, offset }) => {
+            put_faulty(alloc, origin, number, form, line, kind, offset, page)
+        }
+        Err(TextFault::NoMemory) => Err(AllocError),
+    }
+}
+
+/// Hears a line of that number, and puts what is wrong with it, where it is refused.
 fn put_line<A: Allocator + Copy>(
     alloc: A,
     origin: &str,
     number: u64,
     catalog: &Catalog<A>,
-    heading: Option<Form>,
+    hearing: &mut Hearing<A>,
     line: &[u8],
     page: &mut String<A>,
-) -> Result<Option<Form>, AllocError>
-    ensures { IfOk result (λ after. (reading : Reading) × IsReading (form_of heading) line.now reading × (after ≡ headed heading reading) × (piece : List ℕ) × IsWhy origin.now number catalog.now (form_of heading) line.now reading piece × (string_bytes page.new ≡ string_bytes page.old ++ piece)) }
+) -> Result<(), AllocError>
+    requires { hearing.old.lines + 1 ≡ number }
+    ensures { OnOk result ((reading : Reading) × IsReading (form_in hearing.old) line.now reading × (hearing.new ≡ next hearing.old reading) × (piece : List ℕ) × IsWhy origin.now number catalog.now (form_in hearing.old) line.now (refusal (staged hearing.old.stage hearing.old.heading reading).1) reading piece × (string_bytes page.new ≡ string_bytes page.old ++ piece)) }
 {
-    let form = form_of(heading);
-    match read_command(alloc, line, form) {
-        Ok(command) => {
-            put_misuse(
-                alloc,
-                origin,
-                number,
-                catalog,
-                line,
-                misused(catalog, &command),
-                page,
-            )?;
-            Ok(headed(heading, &command))
-        }
-        Err(TextFault::At { kind, offset }) => {
-            put_faulty(alloc, origin, number, form, line, kind, offset, page)?;
-            Ok(Some(form))
-        }
-        Err(TextFault::NoMemory) => Err(AllocError),
-    }
+    let form = hearing.form();
+    let refused = hearing.hear(line)?;
+    put_refusal(alloc, origin, number, catalog, form, line, refused, page)
 }
 
 /// Puts what is told of the last line, which no LF ends, if there is one.
@@ -104,24 +116,26 @@ fn put_last<A: Allocator + Copy>(
     origin: &str,
     number: u64,
     catalog: &Catalog<A>,
-    heading: Option<Form>,
+    hearing: &mut Hearing<A>,
     line: &[u8],
     page: &mut String<A>,
 ) -> Result<(), AllocError>
-    requires { HasNoEnd line.now }
-    ensures { OnOk result ((text : List ℕ) × AreWhys origin.now number catalog.now heading (lines_of line.now) text × (string_bytes page.new ≡ string_bytes page.old ++ text)) }
+    requires end { HasNoEnd line.now }
+    requires number { hearing.old.lines + 1 ≡ number }
+    ensures { OnOk result ((text : List ℕ) × AreWhys origin.now catalog.now hearing.old (lines_of line.now) text × (string_bytes page.new ≡ string_bytes page.old ++ text)) }
 {
-    if !line.is_empty() {
-        let _heading = put_line(alloc, origin, number, catalog, heading, line, page)?;
+    if line.is_empty() {
+        return Ok(());
     }
-    Ok(())
+    put_line(alloc, origin, number, catalog, hearing, line, page)
 }
 
-/// Puts a line for each line of a script that is no command, with its number and what is wrong with it, on an empty page: behind `board: ` and the words
-/// that name the script, if any. Of a command it tells where a row or a body names a relation that the catalog has not, or with another number of columns; such
-/// a command is refused where these are the script's relations.
+/// Puts a line for each line of a script that is refused, with its number and what is wrong with it, on an empty page: behind `board: ` and the words
+/// that name the script, if any. The relations are those that are declared; they are told of where a row or a body names another one, or gives it another number
+/// of columns.
 ///
-/// No more than the first lines are told of, as many as are given: a strict script ends at its first refused line.
+/// No more than the first lines are told of, as many as are given: a strict script ends at its first refused line. The script is heard once more for it, with the
+/// work and the memory that this takes.
 ///
 /// # Errors
 /// `AllocError` where an allocation failed. A part of the lines may be put then.
@@ -133,15 +147,31 @@ pub fn put_whys<A: Allocator + Copy>(
     script: &[u8],
     page: &mut String<A>,
 ) -> Result<(), AllocError>
-    ensures { string_bytes page.old ≡ [] → OnOk result (AreWhys origin.now 1 catalog.now None (take most (lines_of script.now)) (string_bytes page.new)) }
+    ensures { string_bytes page.old ≡ [] → OnOk result (AreWhys origin.now catalog.now (begin_state Plain) (take most (lines_of script.now)) (string_bytes page.new)) }
 {
-    let mut heading = None;
+    let mut hearing = Hearing::begin(alloc);
     let mut rest = script;
     for number in 0..most {
         let Some((line, behind)) = first_line(rest) else {
-            return put_last(alloc, origin, number + 1, catalog, heading, rest, page);
+            return put_last(
+                alloc,
+                origin,
+                number + 1,
+                catalog,
+                &mut hearing,
+                rest,
+                page,
+            );
         };
-        heading = put_line(alloc, origin, number + 1, catalog, heading, line, page)?;
+        put_line(
+            alloc,
+            origin,
+            number + 1,
+            catalog,
+            &mut hearing,
+            line,
+            page,
+        )?;
         rest = behind;
     }
     Ok(())

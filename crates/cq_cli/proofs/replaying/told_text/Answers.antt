@@ -1,9 +1,10 @@
-use Rattle.std.proofs.Common.{◌≡◌, ◌∙◌, ℕ, List, None, take, ap, sym, subst}
+use Rattle.std.proofs.Common.{◌≡◌, ◌∙◌, ℕ, List, take, ap, sym, subst}
 use Rattle.std.specs.Prelude.{string_bytes}
 use Rattle.cq_report.specs.Lines.{lines_of}
 use Rattle.cq_rel.specs.Tables.{Declaration, TablesRecord}
 use Rattle.cq_board.specs.Pool.{PoolRecord}
-use Rattle.cq_report.specs.Machine.{shown}
+use Rattle.cq_report.specs.declared.numbering.Numbering.TheVariants.{Plain}
+use Rattle.cq_report.specs.Machine.{begin_state, shown}
 use Rattle.cq_report.specs.Output.{Left, left_in}
 use Rattle.cq_why.specs.Why.{AreWhys}
 use Rattle.cq_cli.specs.Told.{relations_of, told_lines}
@@ -18,7 +19,7 @@ returns g c =
     c.catalog.ensures.value ∙ ap (λ (tables : TablesRecord). tables.catalog) (c.tables.ensures ∙ ap (λ (pool : PoolRecord). pool.tables) (c.board.ensures ∙ ap (λ (l : Left). shown l.floor) left)) in
     record {
       whys = string_bytes c.put_whys.new.page;
-      are = subst (λ (n : ℕ). AreWhys c.args.origin.now 1 (relations_of c.args.ran) None (take n (lines_of script)) (string_bytes c.put_whys.new.page)) lines
-          (subst (λ (ds : List Declaration). AreWhys c.args.origin.now 1 ds None (take c.told_lines.result (lines_of script)) (string_bytes c.put_whys.new.page)) catalog (c.in_ok-put_whys.ensures c.new-text.ensures.bytes));
+      are = subst (λ (n : ℕ). AreWhys c.args.origin.now (relations_of c.args.ran) (begin_state Plain) (take n (lines_of script)) (string_bytes c.put_whys.new.page)) lines
+          (subst (λ (ds : List Declaration). AreWhys c.args.origin.now ds (begin_state Plain) (take c.told_lines.result (lines_of script)) (string_bytes c.put_whys.new.page)) catalog (c.in_ok-put_whys.ensures c.new-text.ensures.bytes));
       is = c.in_ok-put_summary_if.ensures c.args.ran (sym c.in_ok-played.ensures);
     }

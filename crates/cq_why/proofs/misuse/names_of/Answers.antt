@@ -1,4 +1,4 @@
-use Rattle.std.proofs.Common.{◌≡◌, ◌+◌, ◌++◌, ◌∙◌, ◌∷◌, [], List, ℕ, map, drop, ap, arith}
+use Rattle.std.proofs.Common.{◌+◌, ◌++◌, ◌∙◌, ◌∷◌, [], List, ℕ, map, drop, ap, arith}
 use Rattle.std.proofs.lemmas.List.{map-append}
 use Rattle.cq_rel.specs.Tables.{relation_of}
 use Rattle.cq_render.proofs.CallerLemmas.{nothing_left, put_end, put_on}

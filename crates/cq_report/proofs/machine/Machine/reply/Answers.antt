@@ -1,33 +1,11 @@
-use Rattle.std.proofs.Common.{◌≡◌, ◌+◌, ◌∙◌, ℕ, List, Option, ap, arith}
-use Rattle.cq_report.specs.declared.refusal.Tally.{Tally}
-use Rattle.cq_report.specs.Refusals.{tallied}
+use Rattle.std.proofs.Common.{◌∙◌, ap}
 use Rattle.cq_report.specs.Machine.{State, numbered}
-use Rattle.cq_report.specs.Steps.Saying.{Saying, said_in}
+use Rattle.cq_report.specs.Steps.Saying.{Saying}
 use Rattle.cq_report.proofs.machine.Machine.reply.Goals as goal
-
-pub returns-clause-lines : goal.returns-clause-lines
-returns-clause-lines g c =
-    let same = ap (λ (s : State). s.lines) c.self.view_is in
-    omega (arith, same)
-
-pub returns-clause-read : goal.returns-clause-read
-returns-clause-read g c = c.in_ok-said.ensures.read
 
 pub returns-clause-ok : goal.returns-clause-ok
 returns-clause-ok g c = λ reading is.
     let old = c.args.self.now in
-    let mid = c.self-2.inside in
     let bytes = c.in_ok-said.said.bytes in
     let told = c.in_ok-said.ensures.ok reading is in
-    let lines = ap (λ (s : State). s.lines) c.self.view_is in
-    let after = c.self-2.view_is ∙ told.0 in
-    let why = c.why.ensures ∙ ap (λ (said : Saying). said.why) told.1 in
-    let refused = (said_in old reading).why in
-    let tally : c.add.new.self ≡ tallied old.tally (old.lines + 1) refused =
-    c.add.ensures ∙ ap (λ (w : Option (List ℕ)). tallied mid.tally (c.self.inside.lines + 1) w) why ∙ ap (λ (n : ℕ). tallied mid.tally (n + 1) refused) lines
-    ∙ ap (λ (s : State). tallied s.tally (old.lines + 1) refused) after in (
-      ap (λ (t : Tally). let s : State = record { numbering = mid.numbering; lines = c.self.inside.lines + 1; heading = mid.heading; stage = mid.interpreter; before = mid.before; tally = t } in s) tally
-          ∙ ap (λ (n : ℕ). let s : State = record { numbering = mid.numbering; lines = n + 1; heading = mid.heading; stage = mid.interpreter; before = mid.before; tally = tallied old.tally (old.lines + 1) refused } in s) lines
-          ∙ ap (λ (s : State). record s { lines = old.lines + 1; tally = tallied old.tally (old.lines + 1) refused }) after,
-      c.numbered.ensures ∙ ap (λ (n : ℕ). numbered mid.numbering n bytes) lines ∙ ap (λ (s : State). numbered s.numbering old.lines bytes) after ∙ ap (λ (said : Saying). numbered old.numbering old.lines said.bytes) told.1,
-    )
+    (told.0, c.numbered.ensures ∙ ap (λ (s : State). numbered s.numbering s.lines bytes) c.self.view_is ∙ ap (λ (said : Saying). numbered old.numbering old.lines said.bytes) told.1)
