@@ -29,6 +29,17 @@ pub(crate) fn word_len(rest: &[u8]) -> usize
     word_end(rest).unwrap_or(rest.len())
 }
 
+/// The first bytes, so many if there are as many.
+pub(crate) fn first_bytes(bytes: &[u8], count: usize) -> &[u8]
+    ensures { result.now ≡ take count bytes.now }
+{
+    if bytes.len() < count {
+        return bytes;
+    }
+    let (front, _) = bytes.split_at(count);
+    front
+}
+
 /// The byte as it is shown.
 fn shown_byte(byte: u8) -> u8
     ensures { result ≡ shown_byte byte }

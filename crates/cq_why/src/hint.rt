@@ -1,12 +1,12 @@
 //! What is wrong at a place of a line.
 
-ghost use Rattle.std.specs.Prelude.{◌≡◌, ◌++◌, ◌&&◌, List, ℕ, true, false, map, take, codes, string_bytes, OnOk, IfOk, Some, option_map};
+ghost use Rattle.std.specs.Prelude.{◌≡◌, ◌++◌, ◌&&◌, List, ℕ, true, false, map, codes, string_bytes, OnOk, IfOk, Some, option_map};
 ghost use Rattle.std.specs.List.{list_any};
 ghost use Rattle.std.specs.Str.{bytes_eq};
 ghost use Rattle.cq_why.specs.Why.{is_lower, found, found_words, one_of, separator, meant, shape_words, is_no_command, is_mark, token_words, limit_words, IsHint};
 
 use crate::closest::closest;
-use crate::found::{put_found, word_len};
+use crate::found::{first_bytes, put_found, word_len};
 use crate::samples::{expected, is_first};
 use cq_text::{Form, Kind};
 use std::alloc::{AllocError, Allocator};
@@ -178,22 +178,11 @@ fn put_shape<A: Allocator + Copy>(
     }
 }
 
-/// The first three bytes, if there are as many.
-fn first_bytes(rest: &[u8]) -> &[u8]
-    ensures { result.now ≡ take 3 rest.now }
-{
-    if rest.len() < 3 {
-        return rest;
-    }
-    let (front, _) = rest.split_at(3);
-    front
-}
-
 /// Whether a byte order mark stands in front of the line.
 fn is_mark(front: &[u8], rest: &[u8]) -> bool
     ensures { result ≡ is_mark front.now rest.now }
 {
-    front.is_empty() && first_bytes(rest) == b"\xef\xbb\xbf".as_slice()
+    front.is_empty() && first_bytes(rest, 3) == b"\xef\xbb\xbf".as_slice()
 }
 
 /// Puts what is wrong with a byte that begins no token.

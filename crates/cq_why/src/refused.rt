@@ -1,25 +1,14 @@
 //! Commands that are refused.
 
-ghost use Rattle.std.specs.Prelude.{◌≡◌, ◌++◌, ◌||◌, take, codes, string_bytes, OnOk, option_map};
+ghost use Rattle.std.specs.Prelude.{◌≡◌, ◌++◌, ◌||◌, codes, string_bytes, OnOk, option_map};
 ghost use Rattle.std.specs.Str.{bytes_eq};
 ghost use Rattle.cq_why.specs.Why.{plain, plain_of_setup, is_of_relation, command_words, command_line};
 
-use crate::found::{put_shown, shortened};
+use crate::found::{first_bytes, put_shown, shortened};
 use crate::misuse::{Use, put_words};
 use cq_rel::Catalog;
 use cq_report::Refusal;
 use std::alloc::{AllocError, Allocator};
-
-/// The first bytes, so many if there are as many.
-fn first_bytes(bytes: &[u8], count: usize) -> &[u8]
-    ensures { result.now ≡ take count bytes.now }
-{
-    if bytes.len() < count {
-        return bytes;
-    }
-    let (front, _) = bytes.split_at(count);
-    front
-}
 
 /// Why a line of a setup is refused, in plainer words than those of its reply, where there are any.
 fn plain_of_setup(why: &str) -> &str

@@ -1,6 +1,6 @@
 use Rattle.std.proofs.Common.{sym, arith}
 use Rattle.std.proofs.lemmas.List.{take_all}
-use Rattle.cq_why.proofs.refused.first_bytes.Goals as goal
+use Rattle.cq_why.proofs.found.first_bytes.Goals as goal
 
 pub returns-then-bytes-count : goal.returns-then-bytes-count
 returns-then-bytes-count c = sym (take_all c.args.count c.args.bytes.now (omega arith))
