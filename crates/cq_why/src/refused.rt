@@ -53,7 +53,8 @@ fn is_of_relation(why: &str) -> bool
     ensures { result ≡ is_of_relation why.now }
 {
     let why = why.as_bytes();
-    first_bytes(why, 15) == b"UnknownRelation".as_slice() || first_bytes(why, 5) == b"Arity".as_slice()
+    first_bytes(why, 15) == b"UnknownRelation".as_slice()
+        || first_bytes(why, 5) == b"Arity".as_slice()
 }
 
 /// Puts why a command is refused, whose reply says so.

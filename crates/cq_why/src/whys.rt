@@ -153,25 +153,9 @@ pub fn put_whys<A: Allocator + Copy>(
     let mut rest = script;
     for number in 0..most {
         let Some((line, behind)) = first_line(rest) else {
-            return put_last(
-                alloc,
-                origin,
-                number + 1,
-                catalog,
-                &mut hearing,
-                rest,
-                page,
-            );
+            return put_last(alloc, origin, number + 1, catalog, &mut hearing, rest, page);
         };
-        put_line(
-            alloc,
-            origin,
-            number + 1,
-            catalog,
-            &mut hearing,
-            line,
-            page,
-        )?;
+        put_line(alloc, origin, number + 1, catalog, &mut hearing, line, page)?;
         rest = behind;
     }
     Ok(())

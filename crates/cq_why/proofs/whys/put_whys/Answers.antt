@@ -18,9 +18,9 @@ loop-number-init g c =
     let none : c.args.most - 0 ≡ c.args.most = omega arith in (
       ap (λ (s : State). s.lines) c.begin-hearing.ensures,
       λ empty text told.
-      let first : AreWhys origin catalog c.begin-hearing.result all text = subst (λ (n : ℕ). AreWhys origin catalog c.begin-hearing.result (take n script) text) none told in
-      let begun : AreWhys origin catalog (begin_state Plain) all text = subst (λ (s : State). AreWhys origin catalog s all text) c.begin-hearing.ensures first in
-      subst (λ (page : List ℕ). AreWhys origin catalog (begin_state Plain) all (page ++ text)) (sym empty) begun,
+          let first : AreWhys origin catalog c.begin-hearing.result all text = subst (λ (n : ℕ). AreWhys origin catalog c.begin-hearing.result (take n script) text) none told in
+          let begun : AreWhys origin catalog (begin_state Plain) all text = subst (λ (s : State). AreWhys origin catalog s all text) c.begin-hearing.ensures first in
+          subst (λ (page : List ℕ). AreWhys origin catalog (begin_state Plain) all (page ++ text)) (sym empty) begun,
     )
 
 pub put_line-requires : goal.put_line-requires
@@ -45,11 +45,11 @@ loop-number-preserved g c =
     subst (λ (n : ℕ). IsWhy origin n catalog (form_in state) line (refusal (staged state.stage state.heading heard.0).1) heard.0 piece) number heard.4 in (
       ap (λ (s : State). s.lines) heard.2 ∙ sym number,
       λ empty text told.
-      let all = c.loop-number.invariant.1 empty (piece ++ text)
-      (told_more origin catalog state c.put_line.new.hearing line c.loop-number.rest.now c.in-Some.behind.now (c.args.most - i) (c.args.most - (i + 1)) heard.0 piece text
-      c.in-Some.ensures.cut c.in-Some.ensures.line (omega (arith, low)) heard.1 heard.2 why told) in
-      let joined : page ++ (piece ++ text) ≡ string_bytes c.put_line.new.page ++ text = sym (append_assoc page piece text) ∙ ap (λ (p : List ℕ). p ++ text) (sym heard.5) in
-      subst (λ (bytes : List ℕ). AreWhys origin catalog (begin_state Plain) (take c.args.most (lines_of c.args.script.now)) bytes) joined all,
+          let all = c.loop-number.invariant.1 empty (piece ++ text)
+          (told_more origin catalog state c.put_line.new.hearing line c.loop-number.rest.now c.in-Some.behind.now (c.args.most - i) (c.args.most - (i + 1)) heard.0 piece text
+          c.in-Some.ensures.cut c.in-Some.ensures.line (omega (arith, low)) heard.1 heard.2 why told) in
+          let joined : page ++ (piece ++ text) ≡ string_bytes c.put_line.new.page ++ text = sym (append_assoc page piece text) ∙ ap (λ (p : List ℕ). p ++ text) (sym heard.5) in
+          subst (λ (bytes : List ℕ). AreWhys origin catalog (begin_state Plain) (take c.args.most (lines_of c.args.script.now)) bytes) joined all,
     )
 
 pub returns : goal.returns
