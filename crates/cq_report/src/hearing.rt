@@ -1,6 +1,6 @@
 //! Lines of a script that are heard one after the other, and not answered.
 
-ghost use Rattle.std.specs.Prelude.{◌≡◌, ◌<◌, ◌^◌, IfOk, OnErr};
+ghost use Rattle.std.specs.Prelude.{◌≡◌, ◌<◌, ◌^◌, IfOk, OnErr, OnOk};
 ghost use Rattle.cq_report.specs.declared.numbering.Numbering.TheVariants.{Plain};
 ghost use Rattle.cq_report.specs.Reading.{Reading, IsReading};
 ghost use Rattle.cq_report.specs.Refusals.{refusal};
@@ -44,12 +44,13 @@ impl<A: Allocator + Copy> Hearing<A> {
         self.machine.form()
     }
 
-    /// Hears the next line, and tells why it is refused, where it is.
+    /// Hears the next line, and tells why it is refused, where it is: the work is that of its reply in a replay. Lines are counted in 128 bits.
     ///
     /// # Errors
     /// `AllocError` where an allocation failed: then the line was not heard.
     pub fn hear(&mut self, line: &[u8]) -> Result<Option<Refusal>, AllocError>
         requires { self.old.lines < 2 ^ 100 }
+        ensures read { OnOk result ((reading : Reading) × IsReading (form_in self.old) line.now reading) }
         ensures heard { IfOk result (λ why. (reading : Reading) → IsReading (form_in self.old) line.now reading → (self.new ≡ next self.old reading) × (why ≡ refusal (staged self.old.stage self.old.heading reading).1)) }
         ensures err { OnErr result (self.new ≡ self.old) }
     {

@@ -106,13 +106,6 @@ impl<A: Allocator + Copy> Machine<A> {
         self.tally.first.is_some()
     }
 
-    /// How many lines came.
-    pub(crate) fn lines(&self) -> u128
-        ensures { result ≡ self.now.lines }
-    {
-        self.lines
-    }
-
     /// The form in which the next line is read.
     pub(crate) fn form(&self) -> Form
         ensures { result ≡ form_in self.now }

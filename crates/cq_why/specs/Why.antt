@@ -1,4 +1,4 @@
--- What is wrong with the lines of a script that are no commands, in plain words. (this project's profile)
+-- Why lines of a script are refused, in plain words. (this project's profile)
 use Rattle.std.specs.Prelude.{◌≡◌, ℕ, ◌+◌, ◌-◌, ◌==◌, Bool, true, false, not, ◌||◌, ◌&&◌, nat_lt, nat_le, nat_eq, max, List, [], ◌∷◌, ◌++◌, length, map, fold, take, drop, codes, decimal, Option, Some, None, if◌then◌else◌}
 use Rattle.std.specs.List.{enumerate_from, flat_map, list_all, list_any, position}
 use Rattle.std.specs.Option.{option_map_or, unwrap_or}
@@ -37,6 +37,7 @@ tokens =
     ∷ (codes "{", codes "{") ∷ (codes "}", codes "}") ∷ (codes "(", codes "(") ∷ (codes ")", codes ")") ∷ (codes ",", codes ",") ∷ (codes "<-", codes "<-")
     ∷ ([], codes "the end of the line") ∷ []
 
+-- A space, a tab or a carriage return.
 abbrev pub is_gap : ℕ → Bool
 is_gap byte = (byte == 32) || ((byte == 9) || (byte == 13))
 
@@ -44,6 +45,7 @@ is_gap byte = (byte == 32) || ((byte == 9) || (byte == 13))
 abbrev pub is_first : List ℕ → Bool
 is_first front = list_all is_gap front
 
+-- What is tried at the front of a line, and behind it.
 abbrev pub samples : Bool → List Sample
 samples true = commands
 samples false = tokens
@@ -52,6 +54,7 @@ samples false = tokens
 abbrev pub trial : List ℕ → List ℕ → List ℕ
 trial front token = front ++ (codes " " ++ token)
 
+-- The fault is of a variable that no atom of the body has.
 abbrev pub is_of_unbound : Kind → Bool
 is_of_unbound kinds.Token = false
 is_of_unbound kinds.Text = false
@@ -75,6 +78,7 @@ AreExpected form front words = ArePieces (IsTried form front) (samples (is_first
 
 -- ---- in words
 
+-- What stands in front of one of so many words, by its place.
 abbrev pub separator : ℕ → ℕ → List ℕ
 separator count place = if place == 0 then [] else (if count - place == 1 then codes " or " else codes ", ")
 
@@ -94,6 +98,7 @@ word_len rest = unwrap_or (position (λ byte. not (is_word_byte byte)) rest) (le
 abbrev pub shown_byte : ℕ → ℕ
 shown_byte byte = if nat_le 32 byte && nat_le byte 126 then byte else 63
 
+-- Bytes as they are shown.
 abbrev pub shown : List ℕ → List ℕ
 shown bytes = map shown_byte bytes
 
@@ -101,6 +106,7 @@ shown bytes = map shown_byte bytes
 abbrev pub found : List ℕ → List ℕ
 found rest = shown (take (max 1 (word_len rest)) rest)
 
+-- A lower-case letter begins it, as it begins a variable.
 abbrev pub is_lower : List ℕ → Bool
 is_lower [] = false
 is_lower (byte ∷ bytes) = nat_le 97 byte && nat_le byte 122
@@ -124,6 +130,7 @@ closer word (Some best) name = if nat_lt (distance word name) (distance word bes
 abbrev pub closest : List ℕ → List (List ℕ) → Option (List ℕ)
 closest word names = fold (closer word) None names
 
+-- The word that may have been meant, if there is one.
 abbrev pub meant : Option (List ℕ) → List ℕ
 meant None = []
 meant (Some name) = codes "; did you mean " ++ (name ++ codes "?")
@@ -146,6 +153,7 @@ abbrev pub token_words : Bool → List ℕ → List ℕ
 token_words true rest = codes "a byte order mark, with which no script begins"
 token_words false rest = found rest ++ codes ": begins no token"
 
+-- What the form allows.
 abbrev pub limit_words : Form → List ℕ
 limit_words One = codes "form 1 has names of up to 32 characters, up to 8 terms to an atom, 8 atoms to a part of a query, 131072 bytes to a line, and counts from 1"
 limit_words Two = codes "form 2 has names of up to 32 characters, up to 16 terms to an atom, 16 atoms to a part of a query, 524288 bytes to a line, and counts from 1"
@@ -165,6 +173,7 @@ IsHint form kinds.Unbound front rest text = text ≡ found rest ++ codes ": no a
 abbrev pub excerpt : (front rest : List ℕ) → List ℕ
 excerpt front rest = shown (drop (length front - 40) front) ++ (codes "^" ++ shown (take 40 rest))
 
+-- The line that tells what is wrong at a place of a line of that number.
 abbrev pub why_line : List ℕ → ℕ → List ℕ → (front rest : List ℕ) → List ℕ
 why_line origin number words front rest =
     codes "board: " ++ (origin ++ (codes "line " ++ (decimal number ++ (codes ": " ++ (words ++ (codes ": " ++ (excerpt front rest ++ codes "\n")))))))
@@ -197,6 +206,7 @@ abbrev pub misused : List Declaration → List Use → Option Use
 misused catalog [] = None
 misused catalog (used ∷ more) = if has_place catalog used then misused catalog more else Some used
 
+-- One column, or several.
 abbrev pub columns : ℕ → List ℕ
 columns count = if count == 1 then codes " column, " else codes " columns, "
 
