@@ -143,10 +143,12 @@ reasons alone are told that rest on no other query.
 Example:
   relation Flights 2
   insert Flights(122, Paris)
-  post kramer {R(Jerry, x)} R(Kramer, x) <- Flights(x, Paris)
+  post kramer {R(Jery, x)} R(Kramer, x) <- Flights(x, Paris)
+  post jerry {} R(Jerry, y) <- Flights(y, Rome)
   publish
 tells
-  kramer waits: post 0 R(\"Jerry\", x): no provider; near: kramer head 0 R(\"Kramer\", x)
+  kramer waits: post 0 R(\"Jery\", x): no provider; near: jerry head 0 R(\"Jerry\", y)
+  jerry waits: no row for its body: Flights(y, \"Rome\"): 0 of 1 row; near \"Paris\"
 
 Exit status: 0 done, 1 a device failed, 2 usage, 3 out of memory, 5 no query of a NAME is pending.
 docs/formats.md describes the lines.";

@@ -4,10 +4,9 @@ use Rattle.std.specs.Prelude.{filter, ◌&&◌, not, codes, Option, Some, None, 
 use Rattle.std.specs.List.{join_by}
 use Rattle.std.specs.Option.{option_map_or}
 use Rattle.std.proofs.lemmas.List.{map-append, take_more}
-use Rattle.cq_board.specs.declared.near.NearMiss.{NearMiss}
-use Rattle.cq_board.specs.Pool.{PendingQuery, PoolRecord}
+use Rattle.cq_board.specs.Pool.{PoolRecord}
 use Rattle.cq_render.specs.declared.extent.Extent.{Extent}
-use Rattle.cq_render.specs.Explain.{ArePieces, near_words, missing_words, IsExplanation, IsToldBy}
+use Rattle.cq_render.specs.Explain.{ArePieces, missing_words, IsExplanation, IsToldBy}
 use Rattle.cq_render.proofs.Pieces.{by_bool}
 
 pieces_more : {X Y : Type 0} (tells : X → List Y → Type 0) (xs : List X) (x : X) (text piece : List Y) → ArePieces tells xs text → tells x piece → ArePieces tells (xs ++ x ∷ []) (text ++ piece)
@@ -42,10 +41,10 @@ filter_both {X} p q (x ∷ xs) =
     (λ f. rw f (filter_both p q xs))
 
 -- what is reported where there are heads
-pub missing_some : {X : Type 0} (pending : List PendingQuery) (read : X → NearMiss (List ℕ)) (near : List X) → (length near == 0) ≡ false
-    → codes "no provider; near: " ++ join_by (near_words pending) (codes ", ") (map read near) ≡ missing_words pending (map read near)
-missing_some pending read [] many = absurd (let never : true ≡ false = many in cc)
-missing_some pending read (n ∷ near) many = refl
+pub missing_some : {X : Type 0} (read : X → List ℕ) (near : List X) → (length near == 0) ≡ false
+    → codes "no provider; near: " ++ join_by (λ words. words) (codes ", ") (map read near) ≡ missing_words (map read near)
+missing_some read [] many = absurd (let never : true ≡ false = many in cc)
+missing_some read (n ∷ near) many = refl
 
 -- ---- what is reported about a name
 

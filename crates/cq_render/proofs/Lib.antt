@@ -8,3 +8,4 @@ pub mod Telling
 pub mod Explained
 mod Flagged
 pub mod Numbers
+mod Liked

@@ -1,5 +1,6 @@
 pub mod Limits
 pub mod Report
+pub mod Hints
 pub mod Explain
 pub mod Graph
 pub mod Json

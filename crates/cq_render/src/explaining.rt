@@ -1,6 +1,6 @@
 //! Why the queries of a board wait, put on a page line by line.
 
-ghost use Rattle.std.specs.Prelude.{◌≡◌, ◌<◌, ◌++◌, ℕ, List, length, map, filter, string_bytes, true, false, [], Some, IfOk, OnOk};
+ghost use Rattle.std.specs.Prelude.{◌≡◌, ◌<◌, ◌++◌, ℕ, List, codes, length, map, filter, string_bytes, true, false, [], Some, IfOk, OnOk};
 ghost use Rattle.std.specs.HashMap.{get_by};
 ghost use Rattle.std.specs.List.{All, flat_map};
 ghost use Rattle.std.specs.Option.{option_copied};
@@ -13,10 +13,14 @@ ghost use Rattle.cq_board.specs.Near.{miss_read, post_named};
 ghost use Rattle.cq_board.specs.Waiting.{is_waiting, IsReasonPart};
 ghost use Rattle.cq_render.specs.Steps.Falls.{AreFalls};
 ghost use Rattle.cq_render.specs.declared.extent.Extent.{Extent};
-ghost use Rattle.cq_render.specs.Explain.{ArePieces, AreProviders, IsExplanation, atom_or_none, head_named, name_of_number, near_words, missing_words, wait_word, only_words, IsUnmetTold, IsReasonTold, IsReasonLine, AreReasonLines, is_cause, is_told, IsIfTold, IsToldBy, IsTold, waiting_names, IsExplained, IsNearTold};
+ghost use Rattle.cq_render.specs.declared.hints.Hints.{Hints};
+ghost use Rattle.cq_render.specs.Explain.{ArePieces, AreProviders, IsExplanation, atom_or_none, head_named, name_of_number, near_words, miss_words, like_words, missing_words, wait_word, only_words, IsNear, IsUnmetTold, body_words, IsReasonTold, IsReasonLine, AreReasonLines, is_cause, is_told, IsIfTold, IsToldBy, IsTold, waiting_names, IsExplained, IsNearTold};
 ghost use Rattle.cq_render.specs.Report.{line};
 
 use crate::extent::Extent;
+use crate::hints::Hints;
+use crate::lacking::lack_words;
+use crate::likes::{Like, nearest};
 use crate::numbering::{Numbers, numbers_of};
 use crate::walking::{Listing, name_or_none, providers, walk};
 use cq_atom::{Atom, Bad, Edge, Name};
@@ -25,17 +29,19 @@ use cq_match::{Fall, Parts, Reason};
 use cq_text::print_atom;
 use std::alloc::{AllocError, Allocator};
 
-/// How a line tells of a query: what stands in front of its name, and between that and the reason.
+/// How a line tells of a query: what stands in front of its name, and between that and the reason, and what is told beside that.
 #[derive(Clone, Copy)]
 pub(crate) struct Layout {
     pub(crate) front: &'static str,
     pub(crate) separator: &'static str,
+    pub(crate) hints: Hints,
 }
 
 /// The layout of a step below the query that rests on it.
 const STEP: Layout = Layout {
     front: "  ",
     separator: ": ",
+    hints: Hints::Misses,
 };
 
 /// What a board lists, the heads by relation and arity, the number of each name, and the parts of the falls of the queries that
@@ -148,16 +154,17 @@ pub(crate) fn post_of<'a, A: Allocator + Copy>(
     query.posts().get(usize::from(post))
 }
 
+/// A head of the pending query of that name, counted from 0.
 fn near_words<A: Allocator + Copy>(
     alloc: A,
     board: &Board<A>,
-    near: &NearMiss<&Name<A>>,
+    provider: &Name<A>,
+    head: u8,
 ) -> Result<String<A>, AllocError>
-    ensures { IfOk result (λ text. string_bytes text ≡ near_words board.now.pending (miss_read (λ name. name.now) near.now)) }
+    ensures { IfOk result (λ text. string_bytes text ≡ near_words board.now.pending provider.now head) }
 {
-    let atom = atom_words(alloc, head_of(board, near.provider, near.head))?;
-    let name = near.provider.as_str();
-    let head = near.head;
+    let atom = atom_words(alloc, head_of(board, provider, head))?;
+    let name = provider.as_str();
     let atom = atom.as_str();
     format!(in alloc; "{name} head {head} {atom}")
 }
@@ -169,9 +176,9 @@ fn put_near<A: Allocator + Copy>(
     near: &NearMiss<&Name<A>>,
     page: &mut String<A>,
 ) -> Result<(), AllocError>
-    ensures { OnOk result (string_bytes page.new ≡ string_bytes page.old ++ line (near_words board.now.pending (miss_read (λ name. name.now) near.now))) }
+    ensures { OnOk result (string_bytes page.new ≡ string_bytes page.old ++ line (miss_words board.now.pending (miss_read (λ name. name.now) near.now))) }
 {
-    let words = near_words(alloc, board, near)?;
+    let words = near_words(alloc, board, near.provider, near.head)?;
     page.push_str(words.as_str())?;
     page.push('\n')
 }
@@ -183,7 +190,7 @@ fn put_nears<A: Allocator + Copy>(
     near: &[NearMiss<&Name<A>>],
     page: &mut String<A>,
 ) -> Result<(), AllocError>
-    ensures { OnOk result (string_bytes page.new ≡ string_bytes page.old ++ flat_map (λ near. line (near_words board.now.pending near)) (map (miss_read (λ name. name.now)) near.now)) }
+    ensures { OnOk result (string_bytes page.new ≡ string_bytes page.old ++ flat_map (λ near. line (miss_words board.now.pending near)) (map (miss_read (λ name. name.now)) near.now)) }
 {
     for miss in near {
         put_near(alloc, board, miss, page)?;
@@ -192,32 +199,79 @@ fn put_nears<A: Allocator + Copy>(
 }
 
 /// The words of each of these heads.
-fn each_near<A: Allocator + Copy>(
+fn each_miss<A: Allocator + Copy>(
     alloc: A,
     board: &Board<A>,
     near: &[NearMiss<&Name<A>>],
 ) -> Result<Vec<String<A>, A>, AllocError>
-    ensures { IfOk result (λ words. map string_bytes words.items ≡ map (near_words board.now.pending) (map (miss_read (λ name. name.now)) near.now)) }
+    ensures { IfOk result (λ words. map string_bytes words.items ≡ map (miss_words board.now.pending) (map (miss_read (λ name. name.now)) near.now)) }
 {
     let mut words = Vec::new(alloc);
     for miss in near {
-        words.push(near_words(alloc, board, miss)?)?;
+        words.push(near_words(alloc, board, miss.provider, miss.head)?)?;
     }
     Ok(words)
 }
 
-fn missing_words<A: Allocator + Copy>(
+/// The words of a head that is like a postcondition.
+fn like_words<A: Allocator + Copy>(
     alloc: A,
-    board: &Board<A>,
-    near: &[NearMiss<&Name<A>>],
+    listing: &Listing<'_, A>,
+    like: Like,
 ) -> Result<String<A>, AllocError>
-    ensures { IfOk result (λ text. string_bytes text ≡ missing_words board.now.pending (map (miss_read (λ name. name.now)) near.now)) }
+    requires { like.1 < length listing.now.queries.items }
+    ensures { IfOk result (λ text. string_bytes text ≡ like_words listing.now.board.now.pending like) }
+{
+    let (_, number, head) = like;
+    near_words(alloc, listing.board, listing.queries[number].name, head)
+}
+
+/// The words of each of these heads.
+fn each_like<A: Allocator + Copy>(
+    alloc: A,
+    listing: &Listing<'_, A>,
+    likes: &[Like],
+) -> Result<Vec<String<A>, A>, AllocError>
+    requires { All (λ like. like.1 < length listing.now.queries.items) likes.now }
+    ensures { IfOk result (λ words. map string_bytes words.items ≡ map (like_words listing.now.board.now.pending) likes.now) }
+{
+    let mut words = Vec::new(alloc);
+    for like in likes {
+        words.push(like_words(alloc, listing, *like)?)?;
+    }
+    Ok(words)
+}
+
+/// The heads that are told to be near to a postcondition of the query of that name and number.
+fn near_heads<A: Allocator + Copy>(
+    alloc: A,
+    fallen: &Fallen<'_, '_, A>,
+    hints: Hints,
+    name: &Name<A>,
+    waiter: usize,
+    post: u8,
+) -> Result<Vec<String<A>, A>, AllocError>
+    ensures { IfOk result (λ words. IsNear hints fallen.now.listing.now.board.now.pending name.now waiter post (map string_bytes words.items)) }
+{
+    match hints {
+        Hints::Misses => {
+            let near = fallen.heads.near_misses(name, post)?;
+            each_miss(alloc, fallen.listing.board, &near)
+        }
+        Hints::Likes => {
+            let likes = nearest(alloc, fallen.listing, name, waiter, post)?;
+            each_like(alloc, fallen.listing, &likes)
+        }
+    }
+}
+
+fn missing_words<A: Allocator + Copy>(alloc: A, near: &[String<A>]) -> Result<String<A>, AllocError>
+    ensures { IfOk result (λ text. string_bytes text ≡ missing_words (map string_bytes near.now)) }
 {
     if near.is_empty() {
         return String::from_str(alloc, "no provider");
     }
-    let words = each_near(alloc, board, near)?;
-    let joined = words.join(alloc, ", ")?;
+    let joined = near.join(alloc, ", ")?;
     let joined = joined.as_str();
     format!(in alloc; "no provider; near: {joined}")
 }
@@ -226,13 +280,15 @@ fn missing_words<A: Allocator + Copy>(
 fn missing<A: Allocator + Copy>(
     alloc: A,
     fallen: &Fallen<'_, '_, A>,
+    hints: Hints,
     name: &Name<A>,
+    waiter: usize,
     post: u8,
 ) -> Result<String<A>, AllocError>
-    ensures { IfOk result (λ text. IsUnmetTold fallen.now.listing.now.board.now.pending name.now post [] (string_bytes text)) }
+    ensures { IfOk result (λ text. IsUnmetTold hints fallen.now.listing.now.board.now.pending name.now waiter post [] (string_bytes text)) }
 {
-    let near = fallen.heads.near_misses(name, post)?;
-    missing_words(alloc, fallen.listing.board, &near)
+    let near = near_heads(alloc, fallen, hints, name, waiter, post)?;
+    missing_words(alloc, &near)
 }
 
 /// The numbers of the queries from which the edges come.
@@ -295,14 +351,16 @@ fn only_words<A: Allocator + Copy>(alloc: A, names: &[&str]) -> Result<String<A>
 fn unmet<A: Allocator + Copy>(
     alloc: A,
     fallen: &Fallen<'_, '_, A>,
+    hints: Hints,
     name: &Name<A>,
+    waiter: usize,
     post: u8,
     providers: &[&str],
 ) -> Result<String<A>, AllocError>
-    ensures { IfOk result (λ text. IsUnmetTold fallen.now.listing.now.board.now.pending name.now post (map (λ name. name.now) providers.now) (string_bytes text)) }
+    ensures { IfOk result (λ text. IsUnmetTold hints fallen.now.listing.now.board.now.pending name.now waiter post (map (λ name. name.now) providers.now) (string_bytes text)) }
 {
     if providers.is_empty() {
-        missing(alloc, fallen, name, post)
+        missing(alloc, fallen, hints, name, waiter, post)
     } else {
         only_words(alloc, providers)
     }
@@ -312,45 +370,81 @@ fn unmet<A: Allocator + Copy>(
 fn unmet_words<A: Allocator + Copy>(
     alloc: A,
     fallen: &Fallen<'_, '_, A>,
+    hints: Hints,
     name: &Name<A>,
+    waiter: usize,
     post: u8,
     providers: &[usize],
 ) -> Result<String<A>, AllocError>
-    ensures { IfOk result (λ text. IsUnmetTold fallen.now.listing.now.board.now.pending name.now post (map (name_of_number fallen.now.listing.now.board.now.pending) providers.now) (string_bytes text)) }
+    ensures { IfOk result (λ text. IsUnmetTold hints fallen.now.listing.now.board.now.pending name.now waiter post (map (name_of_number fallen.now.listing.now.board.now.pending) providers.now) (string_bytes text)) }
 {
     let names = names_of(alloc, fallen.listing, providers)?;
-    unmet(alloc, fallen, name, post, &names)
+    unmet(alloc, fallen, hints, name, waiter, post, &names)
 }
 
 fn post_reason<A: Allocator + Copy>(
     alloc: A,
     fallen: &Fallen<'_, '_, A>,
+    hints: Hints,
     name: &Name<A>,
     waiter: usize,
     post: u8,
 ) -> Result<String<A>, AllocError>
-    ensures { IfOk result (λ text. IsReasonTold fallen.now.listing.now.board.now.pending name.now waiter (Reason.Unmet post) (string_bytes text)) }
+    ensures { IfOk result (λ text. IsReasonTold hints fallen.now.listing.now.board.now name.now waiter (Reason.Unmet post) (string_bytes text)) }
 {
     let providers = providers_of(alloc, fallen, waiter, post)?;
     let atom = atom_words(alloc, post_of(fallen.listing.board, name, post))?;
-    let unmet = unmet_words(alloc, fallen, name, post, &providers)?;
+    let unmet = unmet_words(alloc, fallen, hints, name, waiter, post, &providers)?;
     let atom = atom.as_str();
     let unmet = unmet.as_str();
     format!(in alloc; "post {post} {atom}: {unmet}")
+}
+
+/// What is told of a body that has no grounding.
+fn body_words<A: Allocator + Copy>(
+    alloc: A,
+    fallen: &Fallen<'_, '_, A>,
+    hints: Hints,
+    number: usize,
+) -> Result<String<A>, AllocError>
+    requires { number < length fallen.now.listing.now.queries.items }
+    ensures { IfOk result (λ text. string_bytes text ≡ body_words hints fallen.now.listing.now.board.now number) }
+{
+    match hints {
+        Hints::Misses => Ok(String::new(alloc)),
+        Hints::Likes => lack_words(alloc, fallen.listing, number),
+    }
+}
+
+/// That there is no row for the body of the query of that number.
+fn body_reason<A: Allocator + Copy>(
+    alloc: A,
+    fallen: &Fallen<'_, '_, A>,
+    hints: Hints,
+    number: usize,
+) -> Result<String<A>, AllocError>
+    requires { number < length fallen.now.listing.now.queries.items }
+    ensures { IfOk result (λ text. string_bytes text ≡ codes "no row for its body" ++ body_words hints fallen.now.listing.now.board.now number) }
+{
+    let lack = body_words(alloc, fallen, hints, number)?;
+    let lack = lack.as_str();
+    format!(in alloc; "no row for its body{lack}")
 }
 
 /// The reason for which the query of that name falls.
 fn reason_words<A: Allocator + Copy>(
     alloc: A,
     fallen: &Fallen<'_, '_, A>,
+    hints: Hints,
     name: &Name<A>,
     fall: &Fall,
 ) -> Result<String<A>, AllocError>
-    ensures { IfOk result (λ text. IsReasonTold fallen.now.listing.now.board.now.pending name.now fall.now.node fall.now.reason (string_bytes text)) }
+    requires { fall.now.node < length fallen.now.listing.now.queries.items }
+    ensures { IfOk result (λ text. IsReasonTold hints fallen.now.listing.now.board.now name.now fall.now.node fall.now.reason (string_bytes text)) }
 {
     match fall.reason {
-        Reason::NotAble => String::from_str(alloc, "no row for its body"),
-        Reason::Unmet(post) => post_reason(alloc, fallen, name, fall.node, post),
+        Reason::NotAble => body_reason(alloc, fallen, hints, fall.node),
+        Reason::Unmet(post) => post_reason(alloc, fallen, hints, name, fall.node, post),
     }
 }
 
@@ -362,10 +456,10 @@ fn reason_line<A: Allocator + Copy>(
     fall: &Fall,
 ) -> Result<String<A>, AllocError>
     requires { fall.now.node < length fallen.now.listing.now.queries.items }
-    ensures { IfOk result (λ text. IsReasonLine layout.front.now layout.separator.now fallen.now.listing.now.board.now.pending fall.now (string_bytes text)) }
+    ensures { IfOk result (λ text. IsReasonLine layout.front.now layout.separator.now layout.hints fallen.now.listing.now.board.now fall.now (string_bytes text)) }
 {
     let name = fallen.listing.queries[fall.node].name;
-    let reason = reason_words(alloc, fallen, name, fall)?;
+    let reason = reason_words(alloc, fallen, layout.hints, name, fall)?;
     let front = layout.front;
     let name = name.as_str();
     let separator = layout.separator;
@@ -402,7 +496,7 @@ fn told_line<A: Allocator + Copy>(
     fall: &Fall,
 ) -> Result<String<A>, AllocError>
     requires { fall.now.node < length fallen.now.listing.now.queries.items }
-    ensures { IfOk result (λ text. IsIfTold (is_told extent fallen.now.listing.now.board.now.pending fall.now) (IsReasonLine layout.front.now layout.separator.now fallen.now.listing.now.board.now.pending fall.now) (string_bytes text)) }
+    ensures { IfOk result (λ text. IsIfTold (is_told extent fallen.now.listing.now.board.now.pending fall.now) (IsReasonLine layout.front.now layout.separator.now layout.hints fallen.now.listing.now.board.now fall.now) (string_bytes text)) }
 {
     if is_told(fallen, extent, fall) {
         reason_line(alloc, fallen, layout, fall)
@@ -421,7 +515,7 @@ pub(crate) fn put_lines<A: Allocator + Copy>(
     page: &mut String<A>,
 ) -> Result<(), AllocError>
     requires { All (λ fall. fall.node < length fallen.now.listing.now.queries.items) falls.now }
-    ensures { string_bytes page.old ≡ [] → OnOk result (AreReasonLines layout.front.now layout.separator.now extent fallen.now.listing.now.board.now.pending falls.now (string_bytes page.new)) }
+    ensures { string_bytes page.old ≡ [] → OnOk result (AreReasonLines layout.front.now layout.separator.now layout.hints extent fallen.now.listing.now.board.now falls.now (string_bytes page.new)) }
 {
     for fall in falls {
         let line = told_line(alloc, fallen, extent, layout, fall)?;

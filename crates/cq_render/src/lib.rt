@@ -5,7 +5,7 @@
 //! the report tells, as `specs/Json` has it, printed by the library for JSON.
 //!
 //! Who answers in JSON puts values on a `JsonText`: `put_named` and `put_standing` for a query by its name, `put_near` for the heads near to a postcondition, and `put_reasons`, which
-//! tells why queries wait, as `specs/Data` has them; and `put_atom`, `put_value`, `put_constant` and `put_variable` for their parts.
+//! tells why queries wait, as `specs/Data` has them; and `put_values`, `put_constant` and `put_variable` for their parts.
 //!
 //! Not here: who asks for a text, and where it goes.
 #![tactic(auto)]
@@ -15,8 +15,11 @@ mod drawn;
 mod explaining;
 mod extent;
 mod graphing;
+mod hints;
 mod json_text;
 mod keeping;
+mod lacking;
+mod likes;
 mod limits;
 mod naming;
 mod numbering;

@@ -2,10 +2,12 @@
 
 ghost use Rattle.std.specs.Prelude.{◌≡◌, codes, string_bytes, [], IfOk, OnOk};
 ghost use Rattle.cq_render.specs.Steps.Falls.{AreFalls};
+ghost use Rattle.cq_render.specs.declared.hints.Hints.TheVariants as hints;
 ghost use Rattle.cq_render.specs.Explain.{AreReasonLines, IsToldOnce};
 
 use crate::explaining::{Layout, Looked, fallen_of, look, put_lines};
 use crate::extent::Extent;
+use crate::hints::Hints;
 use cq_board::Board;
 use std::alloc::{AllocError, Allocator};
 
@@ -13,6 +15,7 @@ use std::alloc::{AllocError, Allocator};
 const LINE: Layout = Layout {
     front: "",
     separator: " waits: ",
+    hints: Hints::Likes,
 };
 
 /// Puts a line for each of all falls that are told on an empty page.
@@ -23,7 +26,7 @@ fn put_all<A: Allocator + Copy>(
     page: &mut String<A>,
 ) -> Result<(), AllocError>
     requires { AreFalls looked.now.listing.board.now looked.now.falls.items }
-    ensures { string_bytes page.old ≡ [] → OnOk result (AreReasonLines [] (codes " waits: ") extent looked.now.listing.board.now.pending looked.now.falls.items (string_bytes page.new)) }
+    ensures { string_bytes page.old ≡ [] → OnOk result (AreReasonLines [] (codes " waits: ") hints.Likes extent looked.now.listing.board.now looked.now.falls.items (string_bytes page.new)) }
 {
     let parts = looked.parts(alloc)?;
     put_lines(

@@ -38,6 +38,10 @@ const SUPPLIED: &[u8] = b"relation T 1\ninsert T(1)\npost a {S(2), R(x)} S(x) <-
 const WAITING: &[u8] =
     b"relation T 1\npost a {} S(1) <- T(x)\npost b {S(1)} R(2) <-\npost c {R(3)} Q(1) <-\npublish\n";
 
+/// The first query finds no row, the second waits for it, and the third has a slip of the pen in a name.
+const LACKING: &[u8] =
+    b"relation T 1\ninsert T(21)\npost a {} S(1) <- T(20)\npost b {S(1)} Red(2) <-\npost c {Rad(3)} Q(1) <-\npublish\n";
+
 /// The second query supplies the first, and the third nobody.
 const HANGING: &[u8] = b"post a {S(1)} Q(1) <-\npost b {} S(1) <-\npost c {} S(2) <-\npublish\n";
 
@@ -77,8 +81,8 @@ a waits
   a: no row for its body
 ";
 
-const CAUSES: &str = "a waits: no row for its body
-c waits: post 0 R(3): no provider; near: b head 0 R(2)
+const CAUSES: &str = "a waits: no row for its body: T(20): 0 of 1 row; near 21
+c waits: post 0 Rad(3): no provider; near: b head 0 Red(2)
 ";
 
 const BOXED: &str = "digraph board {
@@ -96,7 +100,7 @@ const TEXTS: &[Text] = &[
     (SUPPLIED, View::Json, JSON),
     (WAITING, View::Explained, EXPLAINED),
     (WAITING, View::Named, NAMED),
-    (WAITING, View::Causes, CAUSES),
+    (LACKING, View::Causes, CAUSES),
     (HANGING, View::Boxed, BOXED),
 ];
 

@@ -2,8 +2,7 @@
 use Rattle.std.specs.Prelude.{◌≡◌, ℕ, ◌+◌, ◌-◌, ◌==◌, Bool, true, false, not, ◌||◌, ◌&&◌, nat_lt, nat_le, nat_eq, max, List, [], ◌∷◌, ◌++◌, length, map, fold, take, drop, codes, decimal, Option, Some, None, if◌then◌else◌}
 use Rattle.std.specs.List.{enumerate_from, flat_map, list_all, list_any, position}
 use Rattle.std.specs.Option.{option_map_or, unwrap_or}
-use Rattle.std.specs.Str.{bytes_eq, chars}
-use Rattle.strsim.specs.Edits.{levenshtein_row}
+use Rattle.std.specs.Str.{bytes_eq}
 use Rattle.cq_atom.specs.Atom.{AtomRecord}
 use Rattle.cq_atom.specs.declared.edit.EditKind.TheVariants as edits
 use Rattle.cq_rel.specs.Tables.{Declaration, arity_in, relation_of}
@@ -13,6 +12,7 @@ use Rattle.cq_text.specs.declared.fault.Kind.{Kind}
 use Rattle.cq_text.specs.declared.fault.Kind.TheVariants as kinds
 use Rattle.cq_text.specs.declared.form.Form.{Form}
 use Rattle.cq_text.specs.declared.form.Form.TheVariants.{One, Two}
+use Rattle.cq_near.specs.Alike.{distance}
 use Rattle.cq_render.specs.Explain.{ArePieces}
 use Rattle.cq_report.specs.Reading.{Reading, Reads, Faulty, IsReading}
 use Rattle.cq_report.specs.Refusals.{refusal}
@@ -116,10 +116,6 @@ abbrev pub found_words : List (List ℕ) → List ℕ → List ℕ
 found_words words [] = codes "the line ends"
 found_words words (byte ∷ bytes) =
     if is_lower (byte ∷ bytes) && list_any (bytes_eq (codes "a \"text\"")) words then found (byte ∷ bytes) ++ codes " is a variable" else codes "found " ++ found (byte ∷ bytes)
-
--- How many letters are to be changed, put in or left out, so that one word becomes the other. (Levenshtein 1966)
-abbrev pub distance : List ℕ → List ℕ → ℕ
-distance word name = levenshtein_row nat_eq (chars word) (chars name) (length (chars name))
 
 -- The closer one: one that is within two changes, where there is none yet, or one that is closer than that.
 abbrev pub closer : List ℕ → Option (List ℕ) → List ℕ → Option (List ℕ)

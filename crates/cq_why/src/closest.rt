@@ -1,19 +1,13 @@
 //! Which name somebody meant.
 
 ghost use Rattle.std.specs.Prelude.{◌≡◌, map, IfOk, Option, option_map};
-ghost use Rattle.cq_why.specs.Why.{distance, closer, closest};
+ghost use Rattle.cq_why.specs.Why.{closer, closest};
 
+use cq_near::distance;
 use std::alloc::{AllocError, Allocator};
-use strsim::levenshtein;
 
 /// How many changes a name may be away from the word.
 const MOST_CHANGES: usize = 2;
-
-fn distance<A: Allocator + Copy>(alloc: A, word: &str, name: &str) -> Result<usize, AllocError>
-    ensures { IfOk result (λ changes. changes ≡ distance word.now name.now) }
-{
-    levenshtein(alloc, word, name)
-}
 
 /// The closer one of a name and the best so far, if there is one.
 fn closer<'n, A: Allocator + Copy>(

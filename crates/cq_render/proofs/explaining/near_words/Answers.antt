@@ -11,10 +11,11 @@ whole name head atom = simp append_assoc
 
 pub returns : goal.returns
 returns g c =
-    let near = c.args.near.now in
-    let atom : c.as_str-atom.result.now ≡ atom_or_none (head_named near.provider.now near.head c.args.board.now.pending) = c.as_str-atom.ensures.value ∙ c.in_ok-atom.ensures ∙ ap atom_or_none c.head_of.ensures in
-    let name : c.as_str-name.result.now ≡ near.provider.now = c.as_str-name.ensures.bytes in
-    let written : IfOk c.format.result (λ text. string_bytes text ≡ c.as_str-name.result.now ++ (codes " head " ++ (decimal near.head ++ (codes " " ++ c.as_str-atom.result.now)))) = c.format.ensures.ok in
-    let told = subst (λ (bytes : List ℕ). IfOk c.format.result (λ text. string_bytes text ≡ bytes)) (whole c.as_str-name.result.now near.head c.as_str-atom.result.now) written in
-    subst (λ (words : List ℕ). IfOk c.format.result (λ text. string_bytes text ≡ line near.provider.now near.head words)) atom
-    (subst (λ (words : List ℕ). IfOk c.format.result (λ text. string_bytes text ≡ line words near.head c.as_str-atom.result.now)) name told)
+    let provider = c.args.provider.now in
+    let head = c.args.head in
+    let atom : c.as_str-atom.result.now ≡ atom_or_none (head_named provider head c.args.board.now.pending) = c.as_str-atom.ensures.value ∙ c.in_ok-atom.ensures ∙ ap atom_or_none c.head_of.ensures in
+    let name : c.as_str-name.result.now ≡ provider = c.as_str-name.ensures.bytes in
+    let written : IfOk c.format.result (λ text. string_bytes text ≡ c.as_str-name.result.now ++ (codes " head " ++ (decimal head ++ (codes " " ++ c.as_str-atom.result.now)))) = c.format.ensures.ok in
+    let told = subst (λ (bytes : List ℕ). IfOk c.format.result (λ text. string_bytes text ≡ bytes)) (whole c.as_str-name.result.now head c.as_str-atom.result.now) written in
+    subst (λ (words : List ℕ). IfOk c.format.result (λ text. string_bytes text ≡ line provider head words)) atom
+    (subst (λ (words : List ℕ). IfOk c.format.result (λ text. string_bytes text ≡ line words head c.as_str-atom.result.now)) name told)

@@ -19,8 +19,8 @@ returns g c =
     let providers = c.in_ok-providers.providers.items in
     let names : List (List ℕ) = map (name_of_number pending) providers in
     let atom : c.as_str-atom.result.now ≡ atom_or_none (post_named name post pending) = c.as_str-atom.ensures.value ∙ c.in_ok-atom.ensures ∙ ap atom_or_none c.post_of.ensures in
-    let told_of : IsUnmetTold pending name post names (string_bytes c.in_ok-unmet.unmet) = rw c.deref.ensures.value at c.in_ok-unmet.ensures in
-    let unmet : IsUnmetTold pending name post names c.as_str-unmet.result.now = subst (IsUnmetTold pending name post names) (sym c.as_str-unmet.ensures.value) told_of in
+    let told_of : IsUnmetTold c.args.hints pending name c.args.waiter post names (string_bytes c.in_ok-unmet.unmet) = rw c.deref.ensures.value at c.in_ok-unmet.ensures in
+    let unmet : IsUnmetTold c.args.hints pending name c.args.waiter post names c.as_str-unmet.result.now = subst (IsUnmetTold c.args.hints pending name c.args.waiter post names) (sym c.as_str-unmet.ensures.value) told_of in
     let written : IfOk c.format.result (λ text. string_bytes text ≡ codes "post " ++ (decimal post ++ (codes " " ++ (c.as_str-atom.result.now ++ (codes ": " ++ c.as_str-unmet.result.now))))) = c.format.ensures.ok in
     let told = subst (λ (bytes : List ℕ). IfOk c.format.result (λ text. string_bytes text ≡ bytes)) (whole post c.as_str-atom.result.now c.as_str-unmet.result.now) written in
     IfOk-weaker c.format.result _ _

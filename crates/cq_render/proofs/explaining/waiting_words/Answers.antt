@@ -2,6 +2,7 @@ use Rattle.std.proofs.Common.{◌≡◌, ◌++◌, List, ℕ, subst, sym, append
 use Rattle.std.specs.Prelude.{codes, string_bytes, IfOk}
 use Rattle.std.proofs.lemmas.Result.{IfOk-weaker}
 use Rattle.cq_match.specs.declared.falls.Fall.{Fall}
+use Rattle.cq_render.specs.declared.hints.Hints.TheVariants.{Misses}
 use Rattle.cq_render.specs.Explain.{AreReasonLines}
 use Rattle.cq_render.proofs.Numbers.{unmatched_at}
 use Rattle.cq_render.proofs.explaining.waiting_words.Goals as goal
@@ -19,7 +20,7 @@ pub returns : goal.returns
 returns g c =
     let pool = c.args.fallen.now.listing.now.board.now in
     let part = c.in_ok-part.part.items in
-    let tells : List Fall → List ℕ → Type 0 = AreReasonLines (codes "  ") (codes ": ") c.args.extent pool.pending in
+    let tells : List Fall → List ℕ → Type 0 = AreReasonLines (codes "  ") (codes ": ") Misses c.args.extent pool in
     let steps : tells part c.as_str-steps.result.now =
     subst (tells part) (sym c.as_str-steps.ensures.value) (rw c.deref.ensures.value at (c.in_ok-put_lines.ensures c.new-steps.ensures.bytes)) in
     let written : IfOk c.format.result (λ text. string_bytes text ≡ c.as_str-name.result.now ++ (codes " waits\n" ++ c.as_str-steps.result.now)) = c.format.ensures.ok in

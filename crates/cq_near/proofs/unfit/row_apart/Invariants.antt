@@ -1,0 +1,13 @@
+use Rattle.std.proofs.Common.{◌≡◌, ◌≤◌, ◌+◌, ◌*◌, ◌-◌, map, take, length, Some}
+use Rattle.std.specs.Prelude.{max, min, zip, fold}
+use Rattle.cq_atom.specs.Atom.{constant_of}
+use Rattle.cq_near.specs.Alike.{apart_at}
+use Rattle.cq_near.proofs.unfit.row_apart.Given as goal
+
+-- the places so far are counted
+abbrev pub invariant-loop-place : goal.invariant-loop-place
+invariant-loop-place g l = record {
+  so_far : l.changes
+      ≡ fold (λ changes places. changes + apart_at places.0 places.1) (max (length l.terms) (length l.values) - min (length l.terms) (length l.values)) (take l.place (zip (map constant_of l.terms) (map Some l.values)));
+  few : l.changes ≤ 16 + l.place * 18446744073709551615;
+}
