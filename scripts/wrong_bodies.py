@@ -1,8 +1,8 @@
 """Wrong bodies: edits of a crate that the prover must refuse (crates/NAME/must-fail/*.edit).
 
 An edit is a line `file: src/..` and pairs of lines `old: TEXT`, `new: TEXT`; each old text stands in the file once. It is
-tried on a copy of the crate, over the proved libraries below it: first the edited functions alone, with what they call, and
-where these are still proved, the whole crate. It counts as refused only where a goal was not proved, and not where a proof
+tried on a copy of the crate, over the proved libraries below it: first the edited functions alone, or those that name an
+edited constant, with what they call, and where these are still proved, the whole crate. It counts as refused only where a goal was not proved, and not where a proof
 file merely names what the edit took away.
 
 Wrong bodies of different functions are tried together, by one check, and each whose function meets no goal that refuses it
@@ -134,14 +134,29 @@ def homes_of(crate):
     return found
 
 
+def users_of(crate, text, place, homes):
+    """The functions of the crate that name the constant whose line the place stands in, each with its module; none where it is no constant's."""
+    line = text[text.rfind("\n", 0, place) + 1 :].partition("\n")[0]
+    constant = re.match(r"\s*(?:pub(?:\([^)]*\))? )?const (\w+)", line)
+    found = {}
+    for file in crate.files("src") if constant else []:
+        source, module = text_of(file), module_of(os.path.relpath(file, crate.folder))
+        for it in re.finditer(rf"\b{constant[1]}\b", source):
+            name = function_at(source, it.start(), module, homes)
+            if name:
+                found[name] = module
+    return found
+
+
 def asked_for(crate, places):
-    """The functions that an edit changes, each with the module that it stands in, or nothing where one of its places stands in no function."""
+    """The functions that an edit changes, or that name a constant which it changes, each with the module that it stands in; nothing where it changes what is neither."""
     found, homes = {}, homes_of(crate)
     for path, text, place in places:
         name = function_at(text, place, module_of(path), homes)
-        if not name:
+        users = {name: module_of(path)} if name else users_of(crate, text, place, homes)
+        if not users:
             return {}
-        found[name] = module_of(path)
+        found |= users
     return found
 
 
