@@ -1,5 +1,5 @@
 -- A loop over the places that two lists both have.
-use Rattle.std.proofs.Common.{◌≡◌, ℕ, ◌+◌, ◌<◌, ◌≤◌, Bool, true, false, List, [], ◌∷◌, ◌++◌, append-nil, length, map, take, drop, get_or, refl, sym, ap, subst, ◌∙◌, arith}
+use Rattle.std.proofs.Common.{◌≡◌, ℕ, ◌+◌, ◌<◌, ◌≤◌, Bool, true, false, List, [], ◌∷◌, ◌++◌, append-nil, length, map, take, drop, get_or, sym, ap, subst, ◌∙◌, arith}
 use Rattle.std.specs.Prelude.{min, max, ◌-◌, zip, fold, filter, ◌&&◌, ◌||◌, Option, Some, None, option_map}
 use Rattle.std.proofs.lemmas.Option.{same_Some}
 use Rattle.std.specs.List.{list_all, list_any}
@@ -15,9 +15,6 @@ use Rattle.cq_near.specs.Alike.{apart_at, apart}
 -- all places are gone over
 pub all_places : {X Y : Type 0} (xs : List X) (ys : List Y) (i : ℕ) → min (length xs) (length ys) ≤ i → take i (zip xs ys) ≡ zip xs ys
 all_places xs ys i h = take_all i (zip xs ys) (subst (λ (n : ℕ). n ≤ i) (sym (length-zip xs ys)) h)
-
-false_and : (b : Bool) → (false && b) ≡ false
-false_and b = refl
 
 -- what fails for a front fails for all
 pub all_fail : {X : Type 0} (p : X → Bool) (xs : List X) (i : ℕ) → list_all p (take i xs) ≡ false → list_all p xs ≡ false
