@@ -1,6 +1,6 @@
 //! Each allocation of a call refused in turn.
 
-use crate::groundings::{JERRY, all};
+use crate::groundings::{JERRY, all, holds};
 use crate::samples::{travel, travel_begun, travel_catalog};
 use cq_atom::{Meter, Row, Value};
 use cq_ground::Groundings;
@@ -205,6 +205,26 @@ impl Tried for Grounding {
 #[test]
 fn failed_allocation_in_all(rt: HostRuntime) {
     assert!(rt; matches!(refusals::<Grounding>(rt.alloc()), Ok(6..)));
+}
+
+/// Whether the first atom of the same body has a grounding.
+struct Holding;
+
+impl Tried for Holding {
+    fn tried<A: Allocator + Copy>(alloc: A) -> Outcome {
+        let Ok(tables) = travel(alloc) else {
+            return Outcome::Unready;
+        };
+        match holds(alloc, &tables, JERRY, 1) {
+            Ok(found) => Outcome::done_if(found),
+            Err(_) => Outcome::refused_if(holds(alloc, &tables, JERRY, 1) == Ok(true)),
+        }
+    }
+}
+
+#[test]
+fn failed_allocation_in_has_grounding(rt: HostRuntime) {
+    assert!(rt; matches!(refusals::<Holding>(rt.alloc()), Ok(5..)));
 }
 
 /// A copy of these groundings.

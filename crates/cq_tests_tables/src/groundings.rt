@@ -2,7 +2,7 @@
 
 use crate::samples::{pairs, travel};
 use cq_atom::Meter;
-use cq_ground::{Groundings, reads};
+use cq_ground::{Groundings, has_grounding, reads};
 use cq_rel::Tables;
 use cq_text::{Form, print_values, read_ground_atom, read_query};
 use std::alloc::{AllocError, Allocator, Global};
@@ -140,4 +140,38 @@ fn relations_read(rt: HostRuntime) {
         assert!(rt; told == Some(is_read), "{relation}");
     }
     assert!(rt; query_reads(rt.alloc(), "{} R(1) <-", "T") == Some(false));
+}
+
+/// Whether so many atoms of the body of the query of that text have a grounding by themselves; a text of no query counts as out of memory.
+pub fn holds<A: Allocator + Copy>(
+    alloc: A,
+    tables: &Tables<A>,
+    text: &str,
+    count: usize,
+) -> Result<bool, AllocError> {
+    match read_query(alloc, text.as_bytes(), Form::One) {
+        Ok(query) => has_grounding(alloc, &query, tables, count),
+        Err(_) => Err(AllocError),
+    }
+}
+
+#[test]
+fn fronts_of_bodies(rt: HostRuntime) -> Result<(), Fail> {
+    let tables = travel(rt.alloc())?;
+    let apart = "{} R(x) <- Flights(x, Rome), Flights(x, y), Flights(x, Paris)";
+    for (text, count, wanted) in [
+        (apart, 0, true),
+        (apart, 1, true),
+        (apart, 2, true),
+        (apart, 3, false),
+        // All atoms, where there are no more.
+        (apart, 4, false),
+        (JERRY, 2, true),
+    ] {
+        assert!(rt;
+            holds(rt.alloc(), &tables, text, count)? == wanted,
+            "{count} of {text}"
+        );
+    }
+    Ok(())
 }
