@@ -1,2 +1,3 @@
 pub mod Alike
 pub mod Unfit
+pub mod Clash

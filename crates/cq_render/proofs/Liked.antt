@@ -2,16 +2,15 @@
 use Rattle.std.proofs.Common.{◌≡◌, ℕ, zero, suc, ◌+◌, ◌<◌, List, [], ◌∷◌, length, map, get_or, refl, sym, ap, subst, ◌∙◌, arith, Some, None, if◌then◌else◌}
 use Rattle.std.specs.Prelude.{Option, option_map, ◌==◌}
 use Rattle.std.specs.List.{All, flat_map, enumerate_from, slice_get}
-use Rattle.std.specs.Option.{option_and_then, option_map_or}
+use Rattle.std.specs.Option.{option_map_or}
 use Rattle.std.proofs.lemmas.Option.{same_Some, slice_get-map, slice_get_read}
 use Rattle.std.proofs.lemmas.List.Elements.{All-append, All-take}
 use Rattle.std.proofs.lemmas.List.Sorted.{All-permutation}
 use Rattle.cq_atom.specs.Atom.{AtomRecord}
 use Rattle.cq_near.specs.Alike.{likeness}
-use Rattle.cq_near.specs.Unfit.{first_unfit}
 use Rattle.cq_board.specs.Pool.{PendingQuery, PoolRecord}
 use Rattle.cq_board.specs.Near.{post_named, AreNearest}
-use Rattle.cq_render.specs.Hints.{like_if, likes_of, likes_named, unfit_words, lack_words}
+use Rattle.cq_render.specs.Hints.{like_if, likes_of, likes_named, body_lack, lack_words}
 use Rattle.cq_render.specs.Steps.Walking.{ShownRecord, shown_of, all_shown}
 use Rattle.cq_render.proofs.Pieces.{by_bool}
 
@@ -30,8 +29,8 @@ query_read read items pool walked i x low is =
     shown_from pool 0 i pool.pending (read x) (ap (option_map read) (sym (slice_get_read items (length items) i x refl low is)) ∙ sym (slice_get-map read items i) ∙ ap (λ (all : List ShownRecord). slice_get all i) walked)
 
 -- what the body of a query lacks
-pub lack_at : (pool : PoolRecord) (i : ℕ) (posted : PendingQuery) → slice_get pool.pending i ≡ Some posted → lack_words pool i ≡ option_map_or unfit_words (first_unfit pool.tables posted.query.body) []
-lack_at pool i posted there = ap (λ (o : Option PendingQuery). option_map_or unfit_words (option_and_then (λ p. first_unfit pool.tables p.query.body) o) []) there
+pub lack_at : (pool : PoolRecord) (i : ℕ) (posted : PendingQuery) → slice_get pool.pending i ≡ Some posted → lack_words pool i ≡ body_lack pool.tables posted.query.body
+lack_at pool i posted there = ap (λ (o : Option PendingQuery). option_map_or (λ (p : PendingQuery). body_lack pool.tables p.query.body) o []) there
 
 -- ---- the numbers of likes are those of pending queries
 

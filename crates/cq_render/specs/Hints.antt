@@ -1,13 +1,16 @@
 -- What is like that which a query lacks. (this project's profile)
 use Rattle.std.specs.Prelude.{ℕ, ◌==◌, List, [], ◌∷◌, ◌++◌, codes, decimal, if◌then◌else◌}
 use Rattle.std.specs.List.{flat_map, enumerate_from, slice_get, join_by}
-use Rattle.std.specs.Option.{option_and_then, option_map_or}
+use Rattle.std.specs.Option.{option_map_or}
 use Rattle.cq_atom.specs.Value.{ValueContent}
 use Rattle.cq_atom.specs.Atom.{AtomRecord}
 use Rattle.cq_text.specs.Print.{printed_atom, printed_value}
 use Rattle.cq_near.specs.declared.unfit.Unfit.{Unfit}
 use Rattle.cq_near.specs.Alike.{likeness}
 use Rattle.cq_near.specs.Unfit.{first_unfit}
+use Rattle.cq_near.specs.declared.clash.Clash.{Clash}
+use Rattle.cq_near.specs.Clash.{first_clash}
+use Rattle.cq_rel.specs.Tables.{TablesRecord}
 use Rattle.cq_board.specs.Pool.{PendingQuery, PoolRecord}
 use Rattle.cq_board.specs.Near.{post_named}
 
@@ -38,6 +41,14 @@ abbrev pub unfit_words : Unfit AtomRecord (List ValueContent) → List ℕ
 unfit_words found =
     codes ": " ++ (printed_atom found.atom ++ (codes ": 0 of " ++ (decimal found.rows ++ (codes " " ++ (rows_word found.rows ++ near_values found.near)))))
 
--- What the body of the query of that number lacks: the first atom that no row fits by itself, if there is one.
+-- An atom that has no grounding together with those before it.
+abbrev pub clash_words : Clash AtomRecord → List ℕ
+clash_words found = codes ": " ++ (printed_atom found.atom ++ (codes ": 0 of " ++ (decimal found.rows ++ (codes " " ++ (rows_word found.rows ++ codes " with the atoms before it")))))
+
+-- What a body lacks: the first atom that no row fits by itself; where each fits one, the first that has no grounding together with those before it.
+abbrev pub body_lack : TablesRecord → List AtomRecord → List ℕ
+body_lack tables body = option_map_or unfit_words (first_unfit tables body) (option_map_or clash_words (first_clash tables body) [])
+
+-- What the body of the query of that number lacks.
 abbrev pub lack_words : PoolRecord → ℕ → List ℕ
-lack_words pool number = option_map_or unfit_words (option_and_then (λ posted. first_unfit pool.tables posted.query.body) (slice_get pool.pending number)) []
+lack_words pool number = option_map_or (λ posted. body_lack pool.tables posted.query.body) (slice_get pool.pending number) []

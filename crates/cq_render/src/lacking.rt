@@ -4,11 +4,13 @@ ghost use Rattle.std.specs.Prelude.{◌≡◌, ◌++◌, ◌<◌, codes, length,
 ghost use Rattle.std.specs.List.{flat_map};
 ghost use Rattle.cq_text.specs.Print.{printed_value};
 ghost use Rattle.cq_near.specs.Unfit.{unfit_read};
-ghost use Rattle.cq_render.specs.Hints.{rows_word, near_values, unfit_words, lack_words};
+ghost use Rattle.cq_near.specs.Clash.{clash_read};
+ghost use Rattle.cq_render.specs.Hints.{rows_word, near_values, unfit_words, clash_words, body_lack, lack_words};
 
 use crate::walking::Listing;
-use cq_atom::{Atom, Value};
-use cq_near::{Unfit, first_unfit};
+use cq_atom::{Atom, Query, Value};
+use cq_near::{Clash, Unfit, first_clash, first_unfit};
+use cq_rel::Tables;
 use cq_text::{print_atom, push_escaped};
 use std::alloc::{AllocError, Allocator};
 
@@ -76,6 +78,36 @@ fn unfit_words<A: Allocator + Copy>(
     format!(in alloc; ": {atom}: 0 of {count} {rows}{near}")
 }
 
+fn clash_words<A: Allocator + Copy>(
+    alloc: A,
+    found: &Clash<&Atom<A>>,
+) -> Result<String<A>, AllocError>
+    ensures { IfOk result (λ text. string_bytes text ≡ clash_words (clash_read (λ atom. atom.now) found.now)) }
+{
+    let atom = print_atom(alloc, found.atom)?;
+    let atom = atom.as_str();
+    let count = found.rows;
+    let rows = rows_word(count);
+    format!(in alloc; ": {atom}: 0 of {count} {rows} with the atoms before it")
+}
+
+/// What a body lacks.
+fn body_lack<A: Allocator + Copy>(
+    alloc: A,
+    tables: &Tables<A>,
+    query: &Query<A>,
+) -> Result<String<A>, AllocError>
+    ensures { IfOk result (λ text. string_bytes text ≡ body_lack tables.now query.now.body) }
+{
+    if let Some(found) = first_unfit(alloc, tables, query.body())? {
+        return unfit_words(alloc, &found);
+    }
+    match first_clash(alloc, tables, query)? {
+        Some(found) => clash_words(alloc, &found),
+        None => Ok(String::new(alloc)),
+    }
+}
+
 /// What the body of the query of that number lacks.
 pub(crate) fn lack_words<A: Allocator + Copy>(
     alloc: A,
@@ -85,9 +117,5 @@ pub(crate) fn lack_words<A: Allocator + Copy>(
     requires { number < length listing.now.queries.items }
     ensures { IfOk result (λ text. string_bytes text ≡ lack_words listing.now.board.now number) }
 {
-    let query = listing.queries[number].query;
-    match first_unfit(alloc, listing.board.tables(), query.body())? {
-        Some(found) => unfit_words(alloc, &found),
-        None => Ok(String::new(alloc)),
-    }
+    body_lack(alloc, listing.board.tables(), listing.queries[number].query)
 }

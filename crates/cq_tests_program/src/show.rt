@@ -38,9 +38,9 @@ const SUPPLIED: &[u8] = b"relation T 1\ninsert T(1)\npost a {S(2), R(x)} S(x) <-
 const WAITING: &[u8] =
     b"relation T 1\npost a {} S(1) <- T(x)\npost b {S(1)} R(2) <-\npost c {R(3)} Q(1) <-\npublish\n";
 
-/// The first query finds no row, the second waits for it, and the third has a slip of the pen in a name.
+/// The first query finds no row, the second waits for it, the third has a slip of the pen in a name, and the fourth finds a row for each of its atoms, but none for both.
 const LACKING: &[u8] =
-    b"relation T 1\ninsert T(21)\npost a {} S(1) <- T(20)\npost b {S(1)} Red(2) <-\npost c {Rad(3)} Q(1) <-\npublish\n";
+    b"relation T 1\nrelation U 1\ninsert T(21)\ninsert U(22)\npost a {} S(1) <- T(20)\npost b {S(1)} Red(2) <-\npost c {Rad(3)} Q(1) <-\npost d {} P(x) <- T(x), U(x)\npublish\n";
 
 /// The second query supplies the first, and the third nobody.
 const HANGING: &[u8] = b"post a {S(1)} Q(1) <-\npost b {} S(1) <-\npost c {} S(2) <-\npublish\n";
@@ -83,6 +83,7 @@ a waits
 
 const CAUSES: &str = "a waits: no row for its body: T(20): 0 of 1 row; near 21
 c waits: post 0 Rad(3): no provider; near: b head 0 Red(2)
+d waits: no row for its body: U(x): 0 of 1 row with the atoms before it
 ";
 
 const BOXED: &str = "digraph board {
