@@ -156,8 +156,8 @@ rows_reported before after words writer of_record of_memory rows.Write h reads w
 rows_reported before after words writer of_record of_memory rows.BadName h reads writes = none_failed before after Usage (λ is. cc) (reads (λ no. no)) (omega (arith, writes))
 rows_reported before after words writer of_record of_memory rows.BadArity h reads writes = none_failed before after Usage (λ is. cc) (reads (λ no. no)) (omega (arith, writes))
 rows_reported before after words writer of_record of_memory rows.BadDelimiter h reads writes = none_failed before after Usage (λ is. cc) (reads (λ no. no)) (omega (arith, writes))
-rows_reported before after words writer of_record of_memory (rows.Width index arity fields) h reads writes = none_failed before after BadRecord (λ is. cc) (reads (λ no. no)) (omega (arith, writes))
-rows_reported before after words writer of_record of_memory (rows.Text index field flaw) h reads writes = none_failed before after BadRecord (λ is. cc) (reads (λ no. no)) (omega (arith, writes))
+rows_reported before after words writer of_record of_memory (rows.Width line index arity fields) h reads writes = none_failed before after BadRecord (λ is. cc) (reads (λ no. no)) (omega (arith, writes))
+rows_reported before after words writer of_record of_memory (rows.Text line index field flaw) h reads writes = none_failed before after BadRecord (λ is. cc) (reads (λ no. no)) (omega (arith, writes))
 rows_reported before after words writer of_record of_memory rows.NoMemory h reads writes = none_failed before after NoMemory (λ is. cc) (reads (λ no. no)) (omega (arith, writes))
 
 not_below : (m n : ℕ) → m < n → nat_le n m ≡ false

@@ -10,7 +10,7 @@ use Rattle.cq_atom.specs.Value.{number_of}
 use Rattle.cq_text.specs.Print.{printed_row}
 use Rattle.cq_csv.specs.declared.fault.CsvFault.{CsvFault}
 use Rattle.cq_csv.specs.declared.fault.CsvFault.TheVariants as csv
-use Rattle.cq_csv.specs.Csv.{csv_records, records_fault, row_of_record}
+use Rattle.cq_csv.specs.Csv.{AreGood, IsFirstFault, csv_records, row_of_record}
 use Rattle.cq_csv.specs.declared.layout.Layout.{Layout}
 use Rattle.cq_cli.specs.declared.rows.Hint.{Hint}
 use Rattle.cq_cli.specs.declared.rows.Sheet.{Sheet}
@@ -68,23 +68,19 @@ abbrev pub told : CsvFault → ℕ → RowsFault
 told csv.BadName arity = BadName
 told csv.BadArity arity = BadArity
 told (csv.Device turn) arity = Read turn
-told (csv.Width index fields) arity = Width index arity fields
-told (csv.Text index field flaw) arity = Text index field flaw
+told (csv.Width line index fields) arity = Width line index arity fields
+told (csv.Text line index field flaw) arity = Text line index field flaw
 told csv.NoMemory arity = NoMemory
-
--- The lines of records that are all good, or the first fault of them.
-abbrev pub output_or : Option CsvFault → ℕ → List ℕ → Result (List ℕ) RowsFault
-output_or None arity output = Ok output
-output_or (Some fault) arity output = Err (told fault arity)
 
 -- The rows of the records of bytes.
 abbrev pub rows_of : (relation : List ℕ) → Layout → (bytes : List ℕ) → List RowRecord
 rows_of relation layout bytes = map (row_of_record relation) (csv_records layout bytes)
 
--- What `rows` makes of bytes of CSV: the insert lines of their records' rows, or the fault of the first record at fault.
-abbrev pub rows_answer : (relation : List ℕ) → Sheet → (bytes : List ℕ) → Result (List ℕ) RowsFault
-rows_answer relation sheet bytes =
-    output_or (records_fault sheet.arity (csv_records sheet.layout bytes)) sheet.arity (rows_output (rows_of relation sheet.layout bytes))
+-- What `rows` makes of bytes of CSV: where no record is at fault the insert lines of the records' rows, else the fault of the first record at fault, with a line in
+-- which that record begins.
+abbrev pub IsRowsAnswer : (relation : List ℕ) → Sheet → (bytes : List ℕ) → Result (List ℕ) RowsFault → Type 0
+IsRowsAnswer relation sheet bytes (Ok lines) = AreGood sheet.arity (csv_records sheet.layout bytes) × (lines ≡ rows_output (rows_of relation sheet.layout bytes))
+IsRowsAnswer relation sheet bytes (Err fault) = (first : CsvFault) × IsFirstFault sheet.arity sheet.layout bytes first × (fault ≡ told first sheet.arity)
 
 -- A value is a number.
 abbrev pub has_number : RowRecord → Bool
@@ -108,8 +104,8 @@ MatchFault BadArity words reader writer of_record of_memory = words
 MatchFault BadDelimiter words reader writer of_record of_memory = words
 MatchFault (Read turn) words reader writer of_record of_memory = reader turn
 MatchFault Write words reader writer of_record of_memory = writer
-MatchFault (Width index arity fields) words reader writer of_record of_memory = of_record
-MatchFault (Text index field flaw) words reader writer of_record of_memory = of_record
+MatchFault (Width line index arity fields) words reader writer of_record of_memory = of_record
+MatchFault (Text line index field flaw) words reader writer of_record of_memory = of_record
 MatchFault NoMemory words reader writer of_record of_memory = of_memory
 
 -- The fault is that of a read.
@@ -127,18 +123,18 @@ failures_of BadArity = 0
 failures_of BadDelimiter = 0
 failures_of (Read turn) = 0
 failures_of Write = 1
-failures_of (Width index arity fields) = 0
-failures_of (Text index field flaw) = 0
+failures_of (Width line index arity fields) = 0
+failures_of (Text line index field flaw) = 0
 failures_of NoMemory = 0
 
 -- The writer took the lines of the bytes' records, all of which are good.
 pub record WroteLines (relation : List ℕ) (sheet : Sheet) (bytes : List ℕ) (taken taken' : Option (List ℕ)) : Type 0 where
   pub lines : List ℕ
-  pub good : rows_answer relation sheet bytes ≡ Ok lines
+  pub good : IsRowsAnswer relation sheet bytes (Ok lines)
   pub wrote : Appends taken taken' lines
 
 -- The writer took a front of these lines.
 pub record WroteFront (relation : List ℕ) (sheet : Sheet) (bytes : List ℕ) (taken taken' : Option (List ℕ)) : Type 0 where
   pub lines : List ℕ
-  pub good : rows_answer relation sheet bytes ≡ Ok lines
+  pub good : IsRowsAnswer relation sheet bytes (Ok lines)
   pub wrote : TakesFront taken taken' lines

@@ -71,8 +71,8 @@ status_of_rows rows.BadArity = Usage
 status_of_rows rows.BadDelimiter = Usage
 status_of_rows (rows.Read turn) = Failed
 status_of_rows rows.Write = Failed
-status_of_rows (rows.Width index arity fields) = BadRecord
-status_of_rows (rows.Text index field flaw) = BadRecord
+status_of_rows (rows.Width line index arity fields) = BadRecord
+status_of_rows (rows.Text line index field flaw) = BadRecord
 status_of_rows rows.NoMemory = NoMemory
 
 -- A choice that was found is told; that there is none is what is not so.

@@ -4,7 +4,7 @@ ghost use Rattle.std.specs.Prelude.{◌≡◌, ◌<◌, ◌≤◌, ◌+◌, ◌^
 ghost use Rattle.cq_devices.specs.Device.{FailedAtTurn};
 ghost use Rattle.cq_cli.specs.declared.rows.RowsFault.{RowsFault};
 ghost use Rattle.cq_cli.specs.Devices.{counts, HaveRoom};
-ghost use Rattle.cq_cli.specs.Rows.{arity_of, is_delimiter, delimiter_of, wanted_sheet, insert_line, rows_output, rows_of, rows_answer, has_number, seem_headed, hint_of, told, MatchFault, IsOfReader, IsOfWriter, failures_of, WroteLines, WroteFront};
+ghost use Rattle.cq_cli.specs.Rows.{arity_of, is_delimiter, delimiter_of, wanted_sheet, insert_line, rows_output, rows_of, IsRowsAnswer, has_number, seem_headed, hint_of, told, MatchFault, IsOfReader, IsOfWriter, failures_of, WroteLines, WroteFront};
 
 use crate::writing::write_text;
 use cq_atom::{Row, is_relation_text};
@@ -34,16 +34,18 @@ pub(crate) enum RowsFault {
     /// The writer failed.
     #[error("write failed")]
     Write,
-    /// A record has not as many fields as the relation. Records count from 0.
-    #[error("record {index}: expected {arity} fields\n  fields of record {index}: {fields}")]
+    /// A record has not as many fields as the relation. Records count from 0, and the lines in which they begin from 1.
+    #[error("line {line}: record {index}: expected {arity} fields\n  fields of record {index}: {fields}")]
     Width {
+        line: usize,
         index: usize,
         arity: usize,
         fields: usize,
     },
     /// A field of a record is no value. Fields count from 0.
-    #[error("record {index}: bad text\n  field {field} of record {index} {flaw}")]
+    #[error("line {line}: record {index}: bad text\n  field {field} of record {index} {flaw}")]
     Text {
+        line: usize,
         index: usize,
         field: usize,
         flaw: Flaw,
@@ -202,12 +204,27 @@ fn told(fault: CsvFault, arity: usize) -> RowsFault
         CsvFault::BadName => RowsFault::BadName,
         CsvFault::BadArity => RowsFault::BadArity,
         CsvFault::Device { turn } => RowsFault::Read { turn },
-        CsvFault::Width { index, fields } => RowsFault::Width {
+        CsvFault::Width {
+            line,
+            index,
+            fields,
+        } => RowsFault::Width {
+            line,
             index,
             arity,
             fields,
         },
-        CsvFault::Text { index, field, flaw } => RowsFault::Text { index, field, flaw },
+        CsvFault::Text {
+            line,
+            index,
+            field,
+            flaw,
+        } => RowsFault::Text {
+            line,
+            index,
+            field,
+            flaw,
+        },
         CsvFault::NoMemory => RowsFault::NoMemory,
     }
 }
@@ -273,13 +290,13 @@ fn read_lines<A: Allocator + Copy, R: Source>(
     requires reads { R.reads_made source.old < 2 ^ 62 }
     requires failures { R.failures_met source.old < 2 ^ 62 }
     ensures words { IfErr (wanted_sheet words.now) (λ fault. (result ≡ Err fault) × (source.new ≡ source.old)) }
-    ensures lines { IfOk result (λ inserts. IfOk (wanted_sheet words.now) (λ sheet. IfSome (R.left source.old) (λ input. rows_answer words.now.relation.now sheet input ≡ Ok (string_bytes inserts.lines)))) }
+    ensures lines { IfOk result (λ inserts. IfOk (wanted_sheet words.now) (λ sheet. IfSome (R.left source.old) (λ input. IsRowsAnswer words.now.relation.now sheet input (Ok (string_bytes inserts.lines))))) }
     ensures hint { IfOk result (λ inserts. IfOk (wanted_sheet words.now) (λ sheet. IfSome (R.left source.old) (λ input. inserts.hint ≡ hint_of sheet (rows_of words.now.relation.now sheet.layout input)))) }
     ensures fault { IfErr result (λ fault. MatchFault fault
         (wanted_sheet words.now ≡ Err fault)
         (λ turn. FailedAtTurn turn (R.reads_made source.old) (R.reads_made source.new) (R.failures_met source.old) (R.failures_met source.new))
         ⊥
-        (IfOk (wanted_sheet words.now) (λ sheet. IfSome (R.left source.old) (λ input. rows_answer words.now.relation.now sheet input ≡ Err fault)))
+        (IfOk (wanted_sheet words.now) (λ sheet. IfSome (R.left source.old) (λ input. IsRowsAnswer words.now.relation.now sheet input (Err fault))))
         (Unit {0})) }
     ensures reads { R.reads_made source.new ≤ R.reads_made source.old + MAX_READS }
     ensures read_failures { MatchResult result (λ _. R.failures_met source.new ≡ R.failures_met source.old) (λ fault. (IsOfReader fault → ⊥) → R.failures_met source.new ≡ R.failures_met source.old) }
@@ -330,7 +347,7 @@ pub(crate) fn write_rows<A: Allocator + Copy, R: Source, W: Sink>(
         (wanted_sheet words.now ≡ Err fault)
         (λ turn. FailedAtTurn turn (R.reads_made source.old) (R.reads_made source.new) (R.failures_met source.old) (R.failures_met source.new))
         (IfOk (wanted_sheet words.now) (λ sheet. IfSome (R.left source.old) (λ input. WroteFront words.now.relation.now sheet input (W.taken sink.old) (W.taken sink.new))))
-        (IfOk (wanted_sheet words.now) (λ sheet. IfSome (R.left source.old) (λ input. rows_answer words.now.relation.now sheet input ≡ Err fault)))
+        (IfOk (wanted_sheet words.now) (λ sheet. IfSome (R.left source.old) (λ input. IsRowsAnswer words.now.relation.now sheet input (Err fault))))
         (Unit {0})) }
     ensures reads { R.reads_made source.new ≤ R.reads_made source.old + MAX_READS }
     ensures read_failures { MatchResult result (λ _. R.failures_met source.new ≡ R.failures_met source.old) (λ fault. (IsOfReader fault → ⊥) → R.failures_met source.new ≡ R.failures_met source.old) }

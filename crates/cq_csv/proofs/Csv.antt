@@ -1,5 +1,5 @@
 -- The records of a text, and the faults of records.
-use Rattle.std.proofs.Common.{◌≡◌, ◌≤◌, ◌<◌, ℕ, ◌+◌, ◌-◌, suc, zero, List, [], ◌∷◌, ◌++◌, length, map, take, drop, filter_map, nat_le, Option, Some, None, Bool, true, false, refl, ap, ◌∙◌, append_assoc, arith, length-append, subst, sym}
+use Rattle.std.proofs.Common.{◌≡◌, ◌≤◌, ◌<◌, ℕ, ◌+◌, ◌-◌, suc, zero, List, [], ◌∷◌, ◌++◌, length, map, take, drop, filter_map, nat_le, nat_eq, not, ◌⊎◌, inl, inr, Option, Some, None, Bool, true, false, refl, ap, ◌∙◌, append_assoc, arith, length-append, subst, sym}
 use Rattle.std.specs.Str.{IsUtf8, is_utf8}
 use Rattle.std.proofs.lemmas.Str.{IsUtf8-from_is_utf8}
 use Rattle.std.specs.Prelude.{if◌then◌else◌, Ok, Err, Result, IfOk, IfErr, IfSome, option_map}
@@ -18,7 +18,12 @@ use Rattle.cq_atom.specs.declared.fault.Bad.{Bad}
 use Rattle.cq_devices.specs.Device.{ReadWhole}
 use Rattle.cq_csv.specs.declared.fault.CsvFault.{CsvFault}
 use Rattle.cq_csv.specs.declared.fault.CsvFault.TheVariants.{BadName, BadArity, Device, Width, Text, NoMemory}
-use Rattle.cq_csv.specs.Csv.{CsvRecord, IfOfRecord, first_of, first_wrong, field_flaw, flaw_of, is_field, record_fault, records_fault}
+use Rattle.cq_csv.specs.declared.fault.Flaw.{Flaw}
+use Rattle.cq_csv.specs.declared.fault.Wrong.{Wrong}
+use Rattle.cq_csv.specs.declared.fault.Wrong.TheVariants as wrong
+use Rattle.cq_csv.specs.declared.layout.Layout.{Layout}
+use Rattle.cq_csv.specs.Csv.{AreGood, BeginsInLine, CsvRecord, IfOfRecord, IsFirstFault, csv_records, first_of, first_wrong, field_flaw, flaw_of, is_field, record_fault, records_fault}
+use Rattle.cq_csv.specs.Steps.Csv.{fault_at, wrong_of}
 use Rattle.std.proofs.lemmas.Bool.{eq-eqb}
 
 -- ---- the records of a text
@@ -54,7 +59,7 @@ few-left : (o : Option Read) (n : ℕ) (q : Read) → LeavesFew o n → o ≡ So
 few-left o n q h e = rw e at h
 
 -- after the end of a text there is no record
-none-at-start : (cfg : Config) → next_record cfg st.StartRecord [] [] [] ≡ None
+pub none-at-start : (cfg : Config) → next_record cfg st.StartRecord [] [] [] ≡ None
 unfolding next_record
 none-at-start cfg = refl
 
@@ -67,7 +72,7 @@ last-left cfg s q e = by (ends_at_end s) e
     by true e = (cc e, cc e)
     by false e = cc e
 
-none-behind : (cfg : Config) (rows : List CsvRecord) (s2 : State) (ys : List ℕ) → Reached cfg st.StartRecord [] rows s2 ys → rows ≡ []
+pub none-behind : (cfg : Config) (rows : List CsvRecord) (s2 : State) (ys : List ℕ) → Reached cfg st.StartRecord [] rows s2 ys → rows ≡ []
 unfolding Reached
 none-behind cfg [] s2 ys h = refl
 none-behind cfg (r ∷ rs) s2 ys h = cc (h.1, none-at-start cfg)
@@ -208,41 +213,78 @@ module _ {X Y : Type 0} (wrong : ℕ × X → Option Y) where
 -- ---- the faults of records
 
 -- a record of the right width
-pub record_good : (arity n : ℕ) (fields : CsvRecord) → length fields ≡ arity → first_wrong field_flaw fields ≡ None → record_fault arity (n, fields) ≡ None
-record_good arity n fields width good = rw (eq-eqb (length fields) arity width, good) refl
+pub record_good : (arity : ℕ) (fields : CsvRecord) → length fields ≡ arity → first_wrong field_flaw fields ≡ None → wrong_of arity fields ≡ None
+record_good arity fields width good = rw (eq-eqb (length fields) arity width, good) refl
 
-pub record_bad : (arity n : ℕ) (fields : CsvRecord) (fault : CsvFault) → length fields ≡ arity → option_map (λ f. Text n f.0 f.1) (first_wrong field_flaw fields) ≡ Some fault → record_fault arity (n, fields) ≡ Some fault
-record_bad arity n fields fault width bad = rw (eq-eqb (length fields) arity width) bad
+-- a record's fault is what is wrong with it, told with its line and its place
+told_wrong : (line arity n : ℕ) (fields : CsvRecord) → record_fault line arity (n, fields) ≡ option_map (fault_at line n) (wrong_of arity fields)
+told_wrong line arity n fields = by (nat_eq (length fields) arity) (first_wrong field_flaw fields)
+  where
+    by : (b : Bool) (o : Option (ℕ × Flaw))
+        → (if not b then Some (Width line n (length fields)) else option_map (λ f. Text line n f.0 f.1) o)
+        ≡ option_map (fault_at line n) (if not b then Some (wrong.Width (length fields)) else option_map (λ f. wrong.Text f.0 f.1) o)
+    by false o = refl
+    by true None = refl
+    by true (Some f) = refl
 
 -- ---- a header in front
 
 -- one record more, of the header or behind it
 pub read_more : {R : Type 0} (arity : ℕ) (row : CsvRecord → R) (h : ℕ) (read : List CsvRecord) (r : CsvRecord) (place : ℕ) (rows rows' : List R) → length read ≡ place
-    → records_fault arity (drop h read) ≡ None → rows ≡ map row (drop h read)
-    → (h ≤ place → (record_fault arity (place - h, r) ≡ None) × (rows' ≡ rows ++ (row r ∷ []))) → (place < h → rows' ≡ rows)
-    → (records_fault arity (drop h (read ++ (r ∷ []))) ≡ None) × (rows' ≡ map row (drop h (read ++ (r ∷ []))))
+    → AreGood arity (drop h read) → rows ≡ map row (drop h read)
+    → (h ≤ place → (wrong_of arity r ≡ None) × (rows' ≡ rows ++ (row r ∷ []))) → (place < h → rows' ≡ rows)
+    → AreGood arity (drop h (read ++ (r ∷ []))) × (rows' ≡ map row (drop h (read ++ (r ∷ []))))
 read_more arity row h read r place rows rows' count good are past within = by (nat_le h place) refl
   where
-    by : (b : Bool) → nat_le h place ≡ b → (records_fault arity (drop h (read ++ (r ∷ []))) ≡ None) × (rows' ≡ map row (drop h (read ++ (r ∷ []))))
+    by : (b : Bool) → nat_le h place ≡ b → AreGood arity (drop h (read ++ (r ∷ []))) × (rows' ≡ map row (drop h (read ++ (r ∷ []))))
     by true e =
         let low : h ≤ place = leb-true h place e in
         let one = past low in
         let cut = drop-append-le h read (r ∷ []) (omega (arith, low, count)) in
-        rw cut (good_more (record_fault arity) (drop h read) (place - h) r good (length-drop h read ∙ omega (arith, count)) one.0, one.1 ∙ ap (λ rs. rs ++ (row r ∷ [])) are ∙ sym (map-append row (drop h read) (r ∷ [])))
+        let more : AreGood arity (drop h read ++ (r ∷ [])) = λ line.
+        good_more (record_fault line arity) (drop h read) (place - h) r (good line) (length-drop h read ∙ omega (arith, count)) (told_wrong line arity (place - h) r ∙ ap (option_map (fault_at line (place - h))) one.0)
+        in
+        rw cut (more, one.1 ∙ ap (λ rs. rs ++ (row r ∷ [])) are ∙ sym (map-append row (drop h read) (r ∷ [])))
     by false e =
         let few : place < h = leb-false h place e in
         let same : drop h (read ++ (r ∷ [])) ≡ drop h read = drop_all h (read ++ (r ∷ [])) (omega (arith, few, count, length-append read (r ∷ []))) ∙ sym (drop_all h read (omega (arith, few, count))) in
         rw same (good, within few ∙ are)
 
--- a record at fault behind the header
-pub bad_behind : (arity h : ℕ) (read more : List CsvRecord) (r : CsvRecord) (place : ℕ) (fault : CsvFault) → records_fault arity (drop h read) ≡ None → length read ≡ place
-    → (h ≤ place) × (record_fault arity (place - h, r) ≡ Some fault) → records_fault arity (drop h ((read ++ (r ∷ [])) ++ more)) ≡ Some fault
-bad_behind arity h read more r place fault good count (low, bad) =
+-- the records behind the header, where these are the first ones
+cut_behind : (h : ℕ) (read more : List CsvRecord) (r : CsvRecord) (place : ℕ) → length read ≡ place → h ≤ place → drop h ((read ++ (r ∷ [])) ++ more) ≡ (drop h read ++ (r ∷ [])) ++ more
+cut_behind h read more r place count low =
     let front = drop-append-le h read (r ∷ []) (omega (arith, low, count)) in
-    let whole : drop h ((read ++ (r ∷ [])) ++ more) ≡ (drop h read ++ (r ∷ [])) ++ more =
     drop-append-le h (read ++ (r ∷ [])) more (omega (arith, low, count, length-append read (r ∷ []))) ∙ ap (λ (l : List CsvRecord). l ++ more) front
-    in
-    ap (records_fault arity) whole ∙ first_bad (record_fault arity) (drop h read) (place - h) r more fault good (length-drop h read ∙ omega (arith, count)) bad
+
+-- a record with which something is wrong, behind the header
+pub bad_behind : (line arity h : ℕ) (read more : List CsvRecord) (r : CsvRecord) (place : ℕ) (w : Wrong) → AreGood arity (drop h read) → length read ≡ place → h ≤ place
+    → wrong_of arity r ≡ Some w → records_fault line arity (drop h ((read ++ (r ∷ [])) ++ more)) ≡ Some (fault_at line (place - h) w)
+bad_behind line arity h read more r place w good count low bad =
+    let told = told_wrong line arity (place - h) r ∙ ap (option_map (fault_at line (place - h))) bad in
+    ap (records_fault line arity) (cut_behind h read more r place count low) ∙ first_bad (record_fault line arity) (drop h read) (place - h) r more (fault_at line (place - h) w) (good line) (length-drop h read ∙ omega (arith, count)) told
+
+-- its place is that of a record behind the header
+pub place_behind : (h : ℕ) (read more : List CsvRecord) (r : CsvRecord) (place : ℕ) → length read ≡ place → h ≤ place → place - h < length (drop h ((read ++ (r ∷ [])) ++ more))
+place_behind h read more r place count low =
+    let front = drop h read in
+    let whole = ap length (cut_behind h read more r place count low) in
+    omega (arith, whole, length-append (front ++ (r ∷ [])) more, length-append front (r ∷ []), length-drop h read, count, low)
+
+-- what is told of the first record with which something is wrong
+told_first : (arity : ℕ) (layout : Layout) (bytes : List ℕ) (line index : ℕ) (w : Wrong) → records_fault line arity (csv_records layout bytes) ≡ Some (fault_at line index w) → BeginsInLine layout bytes index line
+    → IfOfRecord (fault_at line index w) (IsFirstFault arity layout bytes (fault_at line index w))
+told_first arity layout bytes line index (wrong.Width fields) is begins = (is, begins)
+told_first arity layout bytes line index (wrong.Text field flaw) is begins = (is, begins)
+told_first arity layout bytes line index wrong.NoMemory is begins = tt
+
+-- the same, where memory may have run out
+pub told_fault : (arity : ℕ) (layout : Layout) (bytes : List ℕ) (index : ℕ) (w : Wrong) (fault : CsvFault) → (w ≡ wrong.NoMemory) ⊎ ((line : ℕ) → records_fault line arity (csv_records layout bytes) ≡ Some (fault_at line index w))
+    → (fault ≡ NoMemory) ⊎ ((line : ℕ) × BeginsInLine layout bytes index line × (fault ≡ fault_at line index w)) → IfOfRecord fault (IsFirstFault arity layout bytes fault)
+told_fault arity layout bytes index w fault is (inl e) = subst (λ f. IfOfRecord f (IsFirstFault arity layout bytes f)) (sym e) tt
+told_fault arity layout bytes index w fault (inl none) (inr p) =
+    subst (λ f. IfOfRecord f (IsFirstFault arity layout bytes f)) (sym (p.2 ∙ ap (fault_at p.0 index) none)) tt
+told_fault arity layout bytes index w fault (inr is) (inr p) =
+    subst (λ f. IfOfRecord f (IsFirstFault arity layout bytes f)) (sym p.2) (told_first arity layout bytes p.0 index w (is p.0) p.1)
 
 -- a field that is a value has no flaw
 pub no_flaw : (n : ℕ) (field : List ℕ) → is_field field ≡ true → field_flaw (n, field) ≡ None
@@ -255,14 +297,6 @@ its_flaw n field none = rw none refl
 pub made_row : (fault : Option Bad) (v row : RowRecord) → Answers {V = RowRecord} Bad.NoMemory fault v (Ok row) → row ≡ v
 made_row None v row h = h
 made_row (Some fault) v row h = cc h
-
-pub if_of_record : (fault : CsvFault) (P : Type 0) → P → IfOfRecord fault P
-if_of_record BadName P h = tt
-if_of_record BadArity P h = tt
-if_of_record (Device turn) P h = tt
-if_of_record (Width index fields) P h = h
-if_of_record (Text index field flaw) P h = h
-if_of_record NoMemory P h = tt
 
 -- ---- the fields of a record
 
@@ -320,8 +354,8 @@ module _ (left left' : Option (List ℕ)) (bytes : List ℕ) (whole : ReadWhole 
   fault_of_input (Err BadName) Q h = tt
   fault_of_input (Err BadArity) Q h = tt
   fault_of_input (Err (Device turn)) Q h = tt
-  fault_of_input (Err (Width index fields)) Q h = of_input left left' bytes (Q (Width index fields)) whole h
-  fault_of_input (Err (Text index field flaw)) Q h = of_input left left' bytes (Q (Text index field flaw)) whole h
+  fault_of_input (Err (Width line index fields)) Q h = of_input left left' bytes (Q (Width line index fields)) whole h
+  fault_of_input (Err (Text line index field flaw)) Q h = of_input left left' bytes (Q (Text line index field flaw)) whole h
   fault_of_input (Err NoMemory) Q h = tt
 
 -- ---- UTF-8

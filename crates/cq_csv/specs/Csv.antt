@@ -1,5 +1,5 @@
 -- Rows from CSV: which records bytes have, and which rows or which fault these give. (this project's profile)
-use Rattle.std.specs.Prelude.{ℕ, Bool, not, nat_eq, nat_le, List, [], ◌∷◌, length, drop, filter_map, if◌then◌else◌, Option, Some, None, option_map}
+use Rattle.std.specs.Prelude.{◌≡◌, ◌==◌, ◌<◌, ◌≤◌, ◌-◌, ℕ, Bool, not, nat_eq, nat_le, List, [], ◌∷◌, length, drop, filter_map, if◌then◌else◌, Option, Some, None, option_map}
 use Rattle.std.specs.List.{enumerate_from}
 use Rattle.std.specs.Option.{is_some}
 use Rattle.std.specs.Str.{is_utf8}
@@ -52,15 +52,39 @@ first_of (x ∷ xs) = Some x
 abbrev pub first_wrong : {X Y : Type 0} → (ℕ × X → Option Y) → List X → Option Y
 first_wrong wrong xs = first_of (filter_map wrong (enumerate_from 0 xs))
 
--- Why the record at that place is no row of that arity: its width is looked at before its fields, which count from 0.
-abbrev pub record_fault : ℕ → ℕ × CsvRecord → Option CsvFault
-record_fault arity r =
-    if not (nat_eq (length r.1) arity) then Some (Width r.0 (length r.1))
-    else option_map (λ f. Text r.0 f.0 f.1) (first_wrong field_flaw r.1)
+-- Why the record at that place is no row of that arity, told with that line: its width is looked at before its fields, which count from 0.
+abbrev pub record_fault : (line arity : ℕ) → ℕ × CsvRecord → Option CsvFault
+record_fault line arity r =
+    if not (nat_eq (length r.1) arity) then Some (Width line r.0 (length r.1))
+    else option_map (λ f. Text line r.0 f.0 f.1) (first_wrong field_flaw r.1)
 
--- The fault of the first record that has one; records count from 0.
-abbrev pub records_fault : ℕ → List CsvRecord → Option CsvFault
-records_fault arity rs = first_wrong (record_fault arity) rs
+-- The fault of the first record that has one, told with that line; records count from 0.
+abbrev pub records_fault : (line arity : ℕ) → List CsvRecord → Option CsvFault
+records_fault line arity rs = first_wrong (record_fault line arity) rs
+
+-- No record has a fault, whichever line were told.
+abbrev pub AreGood : ℕ → List CsvRecord → Type 0
+AreGood arity rs = (line : ℕ) → records_fault line arity rs ≡ None
+
+-- So many lines in front, each with its LF, which is byte 10; all bytes, where they have no more lines.
+abbrev pub first_lines : ℕ → List ℕ → List ℕ
+first_lines n [] = []
+first_lines n (b ∷ bytes) = if n == 0 then [] else b ∷ first_lines (if b == 10 then n - 1 else n) bytes
+
+-- The record at that place, behind the header, begins in that line of the bytes: the lines before it alone have no more records than stand before this
+-- one, and with it they have more. Where they end inside a record they have it already, since the end of bytes ends a record. It begins in one line alone (`one_line`).
+pub record BeginsInLine (layout : Layout) (bytes : List ℕ) (index line : ℕ) : Type 0 where
+  pub before : length (csv_records layout (first_lines (line - 1) bytes)) ≤ index
+  pub within : index < length (csv_records layout (first_lines line bytes))
+
+-- The fault is that of the first record that has one, told with a line in which that record begins.
+abbrev pub IsFirstFault : (arity : ℕ) → Layout → (bytes : List ℕ) → CsvFault → Type 0
+IsFirstFault arity layout bytes BadName = ⊥
+IsFirstFault arity layout bytes BadArity = ⊥
+IsFirstFault arity layout bytes (Device turn) = ⊥
+IsFirstFault arity layout bytes (Width line index fields) = (records_fault line arity (csv_records layout bytes) ≡ Some (Width line index fields)) × BeginsInLine layout bytes index line
+IsFirstFault arity layout bytes (Text line index field flaw) = (records_fault line arity (csv_records layout bytes) ≡ Some (Text line index field flaw)) × BeginsInLine layout bytes index line
+IsFirstFault arity layout bytes NoMemory = ⊥
 
 -- The row of a record: the values that its fields stand for, in order.
 abbrev pub row_of_record : List ℕ → CsvRecord → RowRecord
@@ -77,24 +101,24 @@ abbrev pub IfOfCall : CsvFault → Type 0 → Type 0
 IfOfCall BadName P = P
 IfOfCall BadArity P = P
 IfOfCall (Device turn) P = Unit {0}
-IfOfCall (Width index fields) P = Unit {0}
-IfOfCall (Text index field flaw) P = Unit {0}
+IfOfCall (Width line index fields) P = Unit {0}
+IfOfCall (Text line index field flaw) P = Unit {0}
 IfOfCall NoMemory P = Unit {0}
 
 abbrev pub IfOfDevice : CsvFault → (ℕ → Type 0) → Type 0
 IfOfDevice BadName P = Unit {0}
 IfOfDevice BadArity P = Unit {0}
 IfOfDevice (Device turn) P = P turn
-IfOfDevice (Width index fields) P = Unit {0}
-IfOfDevice (Text index field flaw) P = Unit {0}
+IfOfDevice (Width line index fields) P = Unit {0}
+IfOfDevice (Text line index field flaw) P = Unit {0}
 IfOfDevice NoMemory P = Unit {0}
 
 abbrev pub IfOfRecord : CsvFault → Type 0 → Type 0
 IfOfRecord BadName P = Unit {0}
 IfOfRecord BadArity P = Unit {0}
 IfOfRecord (Device turn) P = Unit {0}
-IfOfRecord (Width index fields) P = P
-IfOfRecord (Text index field flaw) P = P
+IfOfRecord (Width line index fields) P = P
+IfOfRecord (Text line index field flaw) P = P
 IfOfRecord NoMemory P = Unit {0}
 
 -- The fault is that of the device.
@@ -102,6 +126,6 @@ abbrev pub IsOfDevice : CsvFault → Type 0
 IsOfDevice BadName = ⊥
 IsOfDevice BadArity = ⊥
 IsOfDevice (Device turn) = Unit {0}
-IsOfDevice (Width index fields) = ⊥
-IsOfDevice (Text index field flaw) = ⊥
+IsOfDevice (Width line index fields) = ⊥
+IsOfDevice (Text line index field flaw) = ⊥
 IsOfDevice NoMemory = ⊥

@@ -32,17 +32,21 @@ pub enum CsvFault {
         /// The number of the read that failed.
         turn: u64,
     },
-    /// The number of a record's fields is not the arity. Records count from 0.
-    #[error("record {index} has {fields} fields")]
+    /// The number of a record's fields is not the arity. Lines count from 1, records from 0.
+    #[error("line {line}: record {index} has {fields} fields")]
     Width {
+        /// The line in which the record begins.
+        line: usize,
         /// The place of the record.
         index: usize,
         /// How many fields it has.
         fields: usize,
     },
-    /// A field of a record is no value. Records and fields count from 0.
-    #[error("field {field} of record {index} {flaw}")]
+    /// A field of a record is no value. Lines count from 1, records and fields from 0.
+    #[error("line {line}: field {field} of record {index} {flaw}")]
     Text {
+        /// The line in which the record begins.
+        line: usize,
         /// The place of the record.
         index: usize,
         /// The place of its first field that is no value.
@@ -74,5 +78,38 @@ impl<T: Drop> From<AllocFailed<T>> for CsvFault {
 
     fn from(_e: AllocFailed<T>) -> CsvFault {
         CsvFault::NoMemory
+    }
+}
+
+/// Why a record is no row, wherever it stands.
+#[derive(Clone, Copy, Debug, PartialEq, Eq)]
+pub(crate) enum Wrong {
+    /// The number of its fields is not the arity.
+    Width { fields: usize },
+    /// Its first field that is no value. Fields count from 0.
+    Text { field: usize, flaw: Flaw },
+    /// An allocation failed.
+    NoMemory,
+}
+
+impl From<AllocError> for Wrong {
+    ghost use Rattle.std.specs.Prelude.{◌≡◌};
+    ghost use Rattle.cq_csv.specs.declared.fault.Wrong.TheVariants.{NoMemory};
+
+    ghost from_gives = { λ _ e. e ≡ NoMemory };
+
+    fn from(_e: AllocError) -> Wrong {
+        Wrong::NoMemory
+    }
+}
+
+impl<T: Drop> From<AllocFailed<T>> for Wrong {
+    ghost use Rattle.std.specs.Prelude.{◌≡◌};
+    ghost use Rattle.cq_csv.specs.declared.fault.Wrong.TheVariants.{NoMemory};
+
+    ghost from_gives = { λ _ e. e ≡ NoMemory };
+
+    fn from(_e: AllocFailed<T>) -> Wrong {
+        Wrong::NoMemory
     }
 }

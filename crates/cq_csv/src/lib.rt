@@ -8,10 +8,13 @@
 
 mod fault;
 mod layout;
+mod lines;
+mod reader;
 mod reading;
 mod records;
 
 pub use fault::{CsvFault, Flaw};
 pub use layout::Layout;
+pub use lines::one_line;
 pub use reading::read_csv;
 pub use records::all_records;

@@ -4,7 +4,7 @@ ghost use Rattle.std.specs.Prelude.{◌≡◌, ◌<◌, ◌≤◌, ◌+◌, ◌^
 ghost use Rattle.std.specs.Io.KnownBytes.{IsAtEnd};
 ghost use Rattle.cq_devices.specs.Limits.{max_reads};
 ghost use Rattle.cq_devices.specs.Device.{FailedAtTurn, ReadWhole};
-ghost use Rattle.cq_csv.specs.Csv.{IfOfCall, IfOfDevice, IfOfRecord, IsOfDevice, call_fault, csv_records, records_fault, row_of_record};
+ghost use Rattle.cq_csv.specs.Csv.{AreGood, IfOfCall, IfOfDevice, IfOfRecord, IsFirstFault, IsOfDevice, call_fault, csv_records, row_of_record};
 
 use crate::fault::CsvFault;
 use crate::layout::Layout;
@@ -51,7 +51,8 @@ fn call_fault(relation: &str, arity: usize) -> Option<CsvFault>
 /// All bytes are read first, by reads of up to 4,096 bytes, of which there are at most 1,048,576. Their
 /// records are those of the crate `csv` with this byte between fields and its default settings else, behind the header, where
 /// the layout has one: of that nothing is looked at, and no row is made. The
-/// time is in proportion to the bytes. The bytes and the rows are on `alloc`; that crate keeps the
+/// time is in proportion to the bytes; where a record is at fault, its line is found by reading fronts of them again, about as
+/// often as the number of lines can be halved. The bytes and the rows are on `alloc`; that crate keeps the
 /// record that it reads on `heap`.
 ///
 /// # Errors
@@ -59,8 +60,8 @@ fn call_fault(relation: &str, arity: usize) -> Option<CsvFault>
 /// Before any read `BadName` unless the bytes are a name that begins with an upper-case letter, and then
 /// `BadArity` unless the arity is 1 to 16. `Device` tells the number, from 1, of the read that failed,
 /// and 1,048,577 where no read failed and none came to the end. Then the first record at fault is reported, counted
-/// from 0 behind the header: `Width` with the number of its fields where that is not the arity, else `Text` with its first field that is no
-/// value, counted from 0, and why it is none. `NoMemory` where an allocation failed.
+/// from 0 behind the header, with the line of the bytes in which it begins: `Width` with the number of its fields where that is not the arity, else `Text` with its first field that is no
+/// value, counted from 0, and why it is none. Lines count from 1, and end behind each LF. `NoMemory` where an allocation failed.
 pub fn read_csv<A: Allocator + Copy, R: Source>(
     alloc: A,
     heap: Global,
@@ -76,9 +77,9 @@ pub fn read_csv<A: Allocator + Copy, R: Source>(
     ensures refused { IfSome (call_fault relation.now arity) (λ fault. (result ≡ Err fault) × (source.new ≡ source.old)) }
     ensures call { IfErr result (λ fault. IfOfCall fault (call_fault relation.now arity ≡ Some fault)) }
 
-    // Where the bytes are known, the rows of all records, or the fault of the first record at fault.
-    ensures rows { IfOk result (λ rows. IfSome (R.left source.old) (λ input. (records_fault arity (csv_records layout input) ≡ None) × (rows.items ≡ map (row_of_record relation.now) (csv_records layout input)))) }
-    ensures record { IfErr result (λ fault. IfOfRecord fault (IfSome (R.left source.old) (λ input. records_fault arity (csv_records layout input) ≡ Some fault))) }
+    // Where the bytes are known, the rows of all records, or the fault of the first record at fault, with a line in which it begins.
+    ensures rows { IfOk result (λ rows. IfSome (R.left source.old) (λ input. AreGood arity (csv_records layout input) × (rows.items ≡ map (row_of_record relation.now) (csv_records layout input)))) }
+    ensures record { IfErr result (λ fault. IfOfRecord fault (IfSome (R.left source.old) (λ input. IsFirstFault arity layout input fault))) }
 
     // Either is reported at the end of the bytes.
     ensures end { MatchResult result (λ _. IsAtEnd (R.left source.new)) (λ fault. IfOfRecord fault (IsAtEnd (R.left source.new))) }

@@ -1,19 +1,21 @@
 //! Rows of the records that bytes of CSV have.
 
-ghost use Rattle.std.specs.Prelude.{◌≡◌, ◌<◌, ◌≤◌, ◌-◌, ◌++◌, ◌∷◌, ◌⊎◌, ℕ, List, [], None, Some, true, length, drop, map, filter_map, option_map, IfOk, IfErr, OnOk};
+ghost use Rattle.std.specs.Prelude.{◌≡◌, ◌<◌, ◌≤◌, ◌-◌, ◌++◌, ◌∷◌, ◌⊎◌, ℕ, List, [], None, Some, length, map, filter_map, option_map, IfOk, IfErr, OnOk};
 ghost use Rattle.cq_text.specs.Field.{value_of_field};
-ghost use Rattle.csv.specs.Reading.{AreRecords, ReadRecord, reader_config, records, strip_bom};
+ghost use Rattle.csv.specs.Reading.{AreRecords, records, strip_bom};
 ghost use Rattle.csv.specs.Records.{fields_of};
 ghost use Rattle.csv.specs.declared.parser.State.TheVariants as st;
-ghost use Rattle.cq_csv.specs.Csv.{IfOfRecord, config_of, csv_records, field_flaw, first_wrong, flaw_of, header_count, record_fault, records_fault, row_of_record};
+ghost use Rattle.cq_csv.specs.Csv.{AreGood, BeginsInLine, IfOfRecord, IsFirstFault, config_of, csv_records, field_flaw, first_wrong, flaw_of, row_of_record};
 ghost use Rattle.cq_csv.specs.declared.layout.Layout.{Layout};
-ghost use Rattle.cq_csv.specs.Steps.Csv.{IsAtStart, IsInRecords, IsPlain, bytes_of, text_left};
+ghost use Rattle.cq_csv.specs.Steps.Csv.{IsAtStart, IsInRecords, fault_at, text_left, wrong_of};
 
-use crate::fault::{CsvFault, Flaw};
+use crate::fault::{CsvFault, Flaw, Wrong};
 use crate::layout::Layout;
+use crate::lines::{header_count, line_of};
+use crate::reader::{next_record, reader_of};
 use cq_atom::{MAX_TEXT, Row, Value};
 use cq_text::{TextFault, read_field};
-use csv::{ByteRecord, ErrorKind, Reader, ReaderBuilder};
+use csv::{ByteRecord, Reader};
 use std::alloc::{Allocator, Global};
 use std::str;
 
@@ -34,77 +36,49 @@ fn flaw_of(field: &[u8]) -> Flaw
 fn push_values<A: Allocator + Copy>(
     alloc: A,
     fields: &ByteRecord,
-    index: usize,
     values: &mut Vec<Value<A>, A>,
-) -> Result<(), CsvFault>
+) -> Result<(), Wrong>
     requires { values.old.items ≡ [] }
     ensures fields { OnOk result (first_wrong field_flaw (fields_of fields.now) ≡ None) }
     ensures values { OnOk result (values.new.items ≡ filter_map value_of_field (fields_of fields.now)) }
-    ensures fault { IfErr result (λ fault. (fault ≡ CsvFault.NoMemory) ⊎ (option_map (λ f. CsvFault.Text index f.0 f.1) (first_wrong field_flaw (fields_of fields.now)) ≡ Some fault)) }
+    ensures wrong { IfErr result (λ wrong. (wrong ≡ Wrong.NoMemory) ⊎ (option_map (λ f. Wrong.Text f.0 f.1) (first_wrong field_flaw (fields_of fields.now)) ≡ Some wrong)) }
 {
     for field in fields {
         match read_field(alloc, field) {
             Ok(value) => values.push(value)?,
             Err(TextFault::At { .. }) => {
-                return Err(CsvFault::Text {
-                    index,
+                return Err(Wrong::Text {
                     field: values.len(),
                     flaw: flaw_of(field),
                 });
             }
-            Err(TextFault::NoMemory) => return Err(CsvFault::NoMemory),
+            Err(TextFault::NoMemory) => return Err(Wrong::NoMemory),
         }
     }
     Ok(())
 }
 
-/// The row of the record at that place.
+/// The row of the record.
 fn row_of<A: Allocator + Copy>(
     alloc: A,
     relation: &str,
     arity: usize,
     fields: &ByteRecord,
-    index: usize,
-) -> Result<Row<A>, CsvFault>
-    ensures row { IfOk result (λ row. (record_fault arity (index, fields_of fields.now) ≡ None) × (row ≡ row_of_record relation.now (fields_of fields.now))) }
-    ensures fault { IfErr result (λ fault. (fault ≡ CsvFault.NoMemory) ⊎ (record_fault arity (index, fields_of fields.now) ≡ Some fault)) }
+) -> Result<Row<A>, Wrong>
+    ensures row { IfOk result (λ row. (wrong_of arity (fields_of fields.now) ≡ None) × (row ≡ row_of_record relation.now (fields_of fields.now))) }
+    ensures wrong { IfErr result (λ wrong. (wrong ≡ Wrong.NoMemory) ⊎ (wrong_of arity (fields_of fields.now) ≡ Some wrong)) }
 {
     if fields.len() != arity {
-        return Err(CsvFault::Width {
-            index,
+        return Err(Wrong::Width {
             fields: fields.len(),
         });
     }
     let mut values = Vec::new(alloc);
-    push_values(alloc, fields, index, &mut values)?;
+    push_values(alloc, fields, &mut values)?;
     match Row::new(alloc, relation, values) {
         Ok(row) => Ok(row),
         // The relation and the number of its values are good, so that only memory can run out.
-        Err(_) => Err(CsvFault::NoMemory),
-    }
-}
-
-/// How many records in front are a header.
-fn header_count(layout: Layout) -> usize
-    ensures { result ≡ header_count layout }
-{
-    if layout.has_header { 1 } else { 0 }
-}
-
-/// Reads the next record, if there is one.
-fn next_record(reader: &mut Reader<&[u8]>, fields: &mut ByteRecord) -> Result<bool, CsvFault>
-    requires { IsPlain (reader_config reader.old) reader.old }
-    ensures read { IfOk result (λ found. ReadRecord bytes_of reader.old reader.new found (fields_of fields.new)) }
-    ensures plain { IfOk result (λ found. found ≡ true → IsPlain (reader_config reader.old) reader.new) }
-    ensures memory { IfErr result (λ fault. fault ≡ CsvFault.NoMemory) }
-{
-    match reader.read_byte_record(fields) {
-        Ok(found) => Ok(found),
-        Err(error) => match error.kind() {
-            // Bytes in memory are read without a failure.
-            ErrorKind::OutOfMemory | ErrorKind::Io(_) => Err(CsvFault::NoMemory),
-            _ => unreachable!(),
-        },
+        Err(_) => Err(Wrong::NoMemory),
     }
 }
 
@@ -117,44 +91,82 @@ fn push_row<A: Allocator + Copy>(
     place: usize,
     fields: &ByteRecord,
     rows: &mut Vec<Row<A>, A>,
-) -> Result<(), CsvFault>
-    ensures row { OnOk result (first ≤ place → (record_fault arity (place - first, fields_of fields.now) ≡ None) × (rows.new.items ≡ rows.old.items ++ row_of_record relation.now (fields_of fields.now) ∷ [])) }
+) -> Result<(), Wrong>
+    ensures row { OnOk result (first ≤ place → (wrong_of arity (fields_of fields.now) ≡ None) × (rows.new.items ≡ rows.old.items ++ row_of_record relation.now (fields_of fields.now) ∷ [])) }
     ensures header { OnOk result (place < first → rows.new.items ≡ rows.old.items) }
-    ensures fault { IfErr result (λ fault. (fault ≡ CsvFault.NoMemory) ⊎ ((first ≤ place) × (record_fault arity (place - first, fields_of fields.now) ≡ Some fault))) }
+    ensures behind { IfErr result (λ _. first ≤ place) }
+    ensures wrong { IfErr result (λ wrong. (wrong ≡ Wrong.NoMemory) ⊎ (wrong_of arity (fields_of fields.now) ≡ Some wrong)) }
 {
     if place < first {
         return Ok(());
     }
-    let row = row_of(alloc, relation, arity, fields, place - first)?;
+    let row = row_of(alloc, relation, arity, fields)?;
     rows.push(row)?;
     Ok(())
 }
 
-/// Adds the rows of the records behind the header, if there is one. Of all there are at most so many. All that it works with is lent.
+/// How it is told what is wrong with a record.
+fn fault_at(line: usize, index: usize, wrong: Wrong) -> CsvFault
+    ensures { result ≡ fault_at line index wrong }
+{
+    match wrong {
+        Wrong::Width { fields } => CsvFault::Width {
+            line,
+            index,
+            fields,
+        },
+        Wrong::Text { field, flaw } => CsvFault::Text {
+            line,
+            index,
+            field,
+            flaw,
+        },
+        Wrong::NoMemory => CsvFault::NoMemory,
+    }
+}
+
+/// How it is told what is wrong with the record at that place behind the header. Only now its line is looked for.
+fn fault_of(heap: Global, bytes: &[u8], layout: Layout, index: usize, wrong: Wrong) -> CsvFault
+    requires { index < length (csv_records layout bytes.now) }
+    ensures { (result ≡ CsvFault.NoMemory) ⊎ ((line : ℕ) × BeginsInLine layout bytes.now index line × (result ≡ fault_at line index wrong)) }
+{
+    if wrong == Wrong::NoMemory {
+        return CsvFault::NoMemory;
+    }
+    match line_of(heap, bytes, layout, index) {
+        Ok(line) => fault_at(line, index, wrong),
+        Err(fault) => fault,
+    }
+}
+
+/// Adds the rows of the records of bytes, behind the header, if there is one. All that it works with is lent.
 fn push_rows<A: Allocator + Copy>(
     alloc: A,
+    heap: Global,
+    bytes: &[u8],
     relation: &str,
     arity: usize,
     layout: Layout,
-    most: usize,
     reader: &mut Reader<&[u8]>,
     fields: &mut ByteRecord,
     rows: &mut Vec<Row<A>, A>,
 ) -> Result<(), CsvFault>
-    requires most { length (text_left reader.old) < most }
     requires start { IsAtStart (config_of layout) reader.old }
+    requires text { text_left reader.old ≡ strip_bom bytes.now }
     requires rows { rows.old.items ≡ [] }
-    ensures good { OnOk result (records_fault arity (drop (header_count layout) (records (config_of layout) (text_left reader.old))) ≡ None) }
-    ensures rows { OnOk result (rows.new.items ≡ map (row_of_record relation.now) (drop (header_count layout) (records (config_of layout) (text_left reader.old)))) }
-    ensures fault { IfErr result (λ fault. IfOfRecord fault (records_fault arity (drop (header_count layout) (records (config_of layout) (text_left reader.old))) ≡ Some fault)) }
+    ensures good { OnOk result (AreGood arity (csv_records layout bytes.now)) }
+    ensures rows { OnOk result (rows.new.items ≡ map (row_of_record relation.now) (csv_records layout bytes.now)) }
+    ensures fault { IfErr result (λ fault. IfOfRecord fault (IsFirstFault arity layout bytes.now fault)) }
     ensures memory { IfErr result (λ fault. IsInRecords fault) }
 {
     let first = header_count(layout);
-    for place in 0..most {
+    for place in 0..bytes.len() + 1 {
         if !next_record(reader, fields)? {
             return Ok(());
         }
-        push_row(alloc, relation, arity, first, place, fields, rows)?;
+        if let Err(wrong) = push_row(alloc, relation, arity, first, place, fields, rows) {
+            return Err(fault_of(heap, bytes, layout, place - first, wrong));
+        }
     }
     Ok(())
 }
@@ -168,23 +180,20 @@ pub(crate) fn rows_of<A: Allocator + Copy>(
     arity: usize,
     layout: Layout,
 ) -> Result<Vec<Row<A>, A>, CsvFault>
-    ensures rows { IfOk result (λ rows. (records_fault arity (csv_records layout bytes.now) ≡ None) × (rows.items ≡ map (row_of_record relation.now) (csv_records layout bytes.now))) }
-    ensures fault { IfErr result (λ fault. IfOfRecord fault (records_fault arity (csv_records layout bytes.now) ≡ Some fault)) }
+    ensures rows { IfOk result (λ rows. AreGood arity (csv_records layout bytes.now) × (rows.items ≡ map (row_of_record relation.now) (csv_records layout bytes.now))) }
+    ensures fault { IfErr result (λ fault. IfOfRecord fault (IsFirstFault arity layout bytes.now fault)) }
     ensures memory { IfErr result (λ fault. IsInRecords fault) }
 {
-    let mut reader = ReaderBuilder::new()
-        .has_headers(false)
-        .flexible(true)
-        .delimiter(layout.delimiter)
-        .from_reader(heap, bytes);
+    let mut reader = reader_of(heap, bytes, layout);
     let mut fields = ByteRecord::new(heap);
     let mut rows = Vec::new(alloc);
     push_rows(
         alloc,
+        heap,
+        bytes,
         relation,
         arity,
         layout,
-        bytes.len() + 1,
         &mut reader,
         &mut fields,
         &mut rows,

@@ -1,7 +1,7 @@
 //! Rows from CSV: worked texts, each fault, failing and endless sources, and each allocation refused in turn.
 
 use cq_atom::{Row, Value};
-use cq_csv::{CsvFault, Flaw, Layout, all_records, read_csv};
+use cq_csv::{CsvFault, Flaw, Layout, all_records, one_line, read_csv};
 use cq_devices::Counted;
 use cq_refusing::Refusing;
 use cq_text::print_row;
@@ -137,28 +137,37 @@ fn fault_of(heap: Global, text: &[u8], relation: &str, arity: usize) -> Option<C
     read_csv(heap, heap, &mut Counted::new(text), relation, arity, PLAIN).err()
 }
 
-fn width(index: usize, fields: usize) -> Option<CsvFault> {
-    Some(CsvFault::Width { index, fields })
+fn width(line: usize, index: usize, fields: usize) -> Option<CsvFault> {
+    Some(CsvFault::Width {
+        line,
+        index,
+        fields,
+    })
 }
 
-fn text(index: usize, field: usize, flaw: Flaw) -> Option<CsvFault> {
-    Some(CsvFault::Text { index, field, flaw })
+fn text(line: usize, index: usize, field: usize, flaw: Flaw) -> Option<CsvFault> {
+    Some(CsvFault::Text {
+        line,
+        index,
+        field,
+        flaw,
+    })
 }
 
 #[test]
 fn csv_faults(rt: HostRuntime) {
     for (text, arity, fault) in [
-        (b"a,b\nc\n".as_slice(), 2, width(1, 1)),
-        (b"\xff\n", 1, text(0, 0, Flaw::NotUtf8)),
-        (b"\xff,b\n", 1, width(0, 2)),
-        (b"\xff\na,b", 1, text(0, 0, Flaw::NotUtf8)),
-        (b"\"a\nb\",1", 2, text(0, 0, Flaw::Control)),
-        (b"1,2\n3,\x7f\n4", 2, text(1, 1, Flaw::Control)),
-        (b"1,\0,\xff", 3, text(0, 1, Flaw::Control)),
-        (b"a\tb", 1, text(0, 0, Flaw::Control)),
-        (b"\0", 1, text(0, 0, Flaw::Control)),
+        (b"a,b\nc\n".as_slice(), 2, width(2, 1, 1)),
+        (b"\xff\n", 1, text(1, 0, 0, Flaw::NotUtf8)),
+        (b"\xff,b\n", 1, width(1, 0, 2)),
+        (b"\xff\na,b", 1, text(1, 0, 0, Flaw::NotUtf8)),
+        (b"\"a\nb\",1", 2, text(1, 0, 0, Flaw::Control)),
+        (b"1,2\n3,\x7f\n4", 2, text(2, 1, 1, Flaw::Control)),
+        (b"1,\0,\xff", 3, text(1, 0, 1, Flaw::Control)),
+        (b"a\tb", 1, text(1, 0, 0, Flaw::Control)),
+        (b"\0", 1, text(1, 0, 0, Flaw::Control)),
         (b"1,2,3,4,5,6,7,8", 8, None),
-        (b"1,2,3,4,5,6,7,8,9", 8, width(0, 9)),
+        (b"1,2,3,4,5,6,7,8,9", 8, width(1, 0, 9)),
         (LONG, 1, None),
         (b"", 1, None),
         (b"", 0, Some(CsvFault::BadArity)),
@@ -171,12 +180,63 @@ fn csv_faults(rt: HostRuntime) {
     assert!(rt; fault_of(rt.alloc(), b"\xff", "t", 0) == Some(CsvFault::BadName));
 }
 
+#[test]
+fn csv_lines(rt: HostRuntime) {
+    // No other line than that which is told is right.
+    one_line();
+    for (has_header, bytes, fault) in [
+        // The last line needs no end, and the first one may hold the record.
+        (false, b"1,2,3".as_slice(), width(1, 0, 3)),
+        (false, b"1,2\n3", width(2, 1, 1)),
+        // Lines that are no record count.
+        (false, b"\n\n1\n", width(3, 0, 1)),
+        (false, b"\r\n\n1,2\n\n\n3\n", width(6, 1, 1)),
+        // A record is in the line in which it begins, and those behind it are in lines of their own.
+        (false, b"1,\"a\nb\"", text(1, 0, 1, Flaw::Control)),
+        (false, b"1,2\n\"a\n\n", width(2, 1, 1)),
+        (false, b"\n1,\"a\n\n\",3\n5,6\n", width(2, 0, 3)),
+        (false, b"1,2\n\"\"\"\n\",\xff", text(2, 1, 0, Flaw::Control)),
+        // So is one behind a header, which counts as lines and not as a record.
+        (true, b"a,b\n1,2\n3\n", width(3, 1, 1)),
+        (true, b"\n\"a\nb\n\"\n\n1\n", width(6, 0, 1)),
+        (true, b"a\nb\nc", width(2, 0, 1)),
+        // CR and LF end one line, and CR alone ends none.
+        (false, b"1,2\r\n3,4\r\n5\r\n", width(3, 2, 1)),
+        (false, b"1,2\r3,4\r5\r", width(1, 2, 1)),
+        (false, b"1,2\r3\n", width(1, 1, 1)),
+        (false, b"1,2\n\r3\n", width(2, 1, 1)),
+        // A byte order mark changes nothing.
+        (false, b"\xef\xbb\xbf1,2\n3\n", width(2, 1, 1)),
+        (true, b"\xef\xbb\xbf\n\n1,2\n\n3\n", width(5, 0, 1)),
+        // Of many lines each is found.
+        (
+            false,
+            b"1,2\n1,2\n1,2\n1,2\n1,2\n1,2\n1,2\n1,2\n1,2\n1\n1,2\n1,2\n",
+            width(10, 9, 1),
+        ),
+    ] {
+        let layout = Layout {
+            delimiter: b',',
+            has_header,
+        };
+        let told = read_csv(
+            rt.alloc(),
+            rt.alloc(),
+            &mut Counted::new(bytes),
+            "T",
+            2,
+            layout,
+        );
+        assert!(rt; told.err() == fault, "{bytes:?}");
+    }
+}
+
 /// Whether a text of a byte more than a text may have is no value.
 fn is_too_long(heap: Global) -> Result<bool, AllocError> {
     let mut long = Vec::new(heap);
     long.extend_from_slice(LONG)?;
     long.push(b'a')?;
-    Ok(fault_of(heap, &long, "T", 1) == text(0, 0, Flaw::Long))
+    Ok(fault_of(heap, &long, "T", 1) == text(1, 0, 0, Flaw::Long))
 }
 
 #[test]
@@ -220,7 +280,7 @@ fn csv_reads_that_fail(rt: HostRuntime) {
         let told = failing_at(rt.alloc(), good);
         assert!(rt; told == Some(CsvFault::Device { turn: good + 1 }), "{good}");
     }
-    assert!(rt; failing_at(rt.alloc(), 6) == width(1, 1));
+    assert!(rt; failing_at(rt.alloc(), 6) == width(2, 1, 1));
 }
 
 /// Gives a line feed at each read.

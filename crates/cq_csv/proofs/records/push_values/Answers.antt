@@ -2,7 +2,7 @@ use Rattle.std.proofs.Common.{◌≡◌, ◌∷◌, ◌+◌, [], refl, ◌∙◌
 use Rattle.std.specs.Prelude.{option_map}
 use Rattle.csv.specs.Records.{field_at, fields_of}
 use Rattle.cq_text.specs.Field.{value_of_field}
-use Rattle.cq_csv.specs.declared.fault.CsvFault.TheVariants.{Text}
+use Rattle.cq_csv.specs.declared.fault.Wrong.TheVariants.{Text}
 use Rattle.cq_csv.specs.Csv.{field_flaw, first_wrong, flaw_of, is_field}
 use Rattle.cq_csv.proofs.Csv.{fields_all, fields_from, fields_more, first_bad, good_more, its_flaw, no_flaw, values_more}
 use Rattle.cq_csv.proofs.records.push_values.Goals as goal
@@ -26,8 +26,8 @@ loop-field-preserved g c =
       count = rw (s.2, more, c.in_ok-push-in-Ok.ensures.items) (omega (arith, i.count, length-append front (f ∷ []), length-append c.loop-field.values.items (c.in-Ok.value ∷ [])));
     }
 
-pub returns-in-Err-At-clause-fault : goal.returns-in-Err-At-clause-fault
-returns-in-Err-At-clause-fault g c =
+pub returns-in-Err-At-clause-wrong : goal.returns-in-Err-At-clause-wrong
+returns-in-Err-At-clause-wrong g c =
     let i = c.loop-field.invariant in
     let s = c.in-Some.ensures.steps in
     let at = c.loop-field.field-iterator.at in
@@ -42,7 +42,7 @@ returns-in-Err-At-clause-fault g c =
     ap (first_wrong field_flaw) (fields_from fields at f here) ∙ first_bad field_flaw front n f (drop (at + 1) fields) (n, flaw_of f) i.fields refl (its_flaw n f bad)
     in
     let len : n ≡ vec_len c.loop-field.values = omega (arith, i.count, c.loop-field.values.ok) in
-    inr (ap (option_map (λ w. Text c.args.index w.0 w.1)) wrong ∙ rw (c.len.ensures, c.flaw_of.ensures) (ap (λ n. Some (Text c.args.index n (flaw_of f))) len))
+    inr (ap (option_map (λ w. Text w.0 w.1)) wrong ∙ rw (c.len.ensures, c.flaw_of.ensures) (ap (λ n. Some (Text n (flaw_of f))) len))
 
 pub returns-clause-fields : goal.returns-clause-fields
 returns-clause-fields g c =

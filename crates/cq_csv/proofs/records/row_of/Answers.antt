@@ -7,4 +7,4 @@ pub returns-in-Ok-clause-row : goal.returns-in-Ok-clause-row
 returns-in-Ok-clause-row g c =
     let width : length (fields_of c.args.fields.now) ≡ c.args.arity = omega (arith, c.if-len-arity.false, c.len.ensures) in
     let made = made_row _ _ c.in-Ok.row c.in-Ok.ensures in
-    (record_good c.args.arity c.args.index (fields_of c.args.fields.now) width c.in_ok-push_values.ensures.fields, rw (made, c.in_ok-push_values.ensures.values) refl)
+    (record_good c.args.arity (fields_of c.args.fields.now) width c.in_ok-push_values.ensures.fields, rw (made, c.in_ok-push_values.ensures.values) refl)
