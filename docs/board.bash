@@ -5,16 +5,16 @@ _board_words() {
     options='' valued='' filed='' takes=''
     case $1 in
     '') options='-h --help -V --version' takes='commands' ;;
-    replay) options='--number --strict --summary --why --memory -h --help' valued='--memory' takes='files' ;;
+    replay) options='--number --strict --summary --why --progress --memory -h --help' valued='--memory' takes='files' ;;
     live) options='--json --memory -h --help' valued='--memory' takes='files' ;;
     rows) options='--header --delimiter --memory -h --help' valued='--delimiter --memory' takes='files' ;;
     sessions) options='--memory -h --help' valued='--memory' takes='files' ;;
-    explain) options='--tree --roots --file --memory -h --help' valued='--file --memory' filed='--file' ;;
-    graph) options='--only --clusters --memory -h --help' valued='--only --memory' takes='files' ;;
-    json) options='--memory -h --help' valued='--memory' takes='files' ;;
-    choice) options='--file --memory -h --help' valued='--file --memory' filed='--file' ;;
-    choose) options='--steps --file --memory -h --help' valued='--steps --file --memory' filed='--file' ;;
-    groups) options='--steps --memory -h --help' valued='--steps --memory' takes='files' ;;
+    explain) options='--tree --roots --file --progress --memory -h --help' valued='--file --memory' filed='--file' ;;
+    graph) options='--only --clusters --progress --memory -h --help' valued='--only --memory' takes='files' ;;
+    json) options='--progress --memory -h --help' valued='--memory' takes='files' ;;
+    choice) options='--file --progress --memory -h --help' valued='--file --memory' filed='--file' ;;
+    choose) options='--steps --file --progress --memory -h --help' valued='--steps --file --memory' filed='--file' ;;
+    groups) options='--steps --progress --memory -h --help' valued='--steps --memory' takes='files' ;;
     version) options='-h --help' ;;
     help) takes='commands' ;;
     esac

@@ -1,11 +1,35 @@
-"""Runs a program whose standard input is a terminal, at which two lines are typed. usage: at_terminal.py WORD.."""
+"""Runs a program at a terminal.
+
+usage: at_terminal.py WORD..           its standard input is the terminal, at which two lines are typed
+       at_terminal.py --told WORD..    its standard error is the terminal, and what that shows is written to standard error
+"""
 import os
 import pty
 import subprocess
 import sys
+import tty
 
+
+def shown(keys):
+    """What the terminal shows, once nobody writes to it any more."""
+    pieces = []
+    try:
+        while piece := os.read(keys, 4096):
+            pieces.append(piece)
+    except OSError:
+        pass
+    return b"".join(pieces)
+
+
+words = sys.argv[1:]
 keys, terminal = pty.openpty()
-program = subprocess.Popen(sys.argv[1:], stdin=terminal)
-os.close(terminal)
-os.write(keys, b"count\nquit\n")
+if words[:1] == ["--told"]:
+    tty.setraw(terminal)
+    program = subprocess.Popen(words[1:], stderr=terminal)
+    os.close(terminal)
+    sys.stderr.buffer.write(shown(keys))
+else:
+    program = subprocess.Popen(words, stdin=terminal)
+    os.close(terminal)
+    os.write(keys, b"count\nquit\n")
 sys.exit(program.wait())

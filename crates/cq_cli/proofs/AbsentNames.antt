@@ -1,5 +1,6 @@
 -- The names under which no query is pending, reported line by line.
-use Rattle.std.proofs.Common.{◌≡◌, ℕ, ◌+◌, ◌<◌, true, false, List, [], ◌∷◌, ◌++◌, length, map, take, get_or, refl, sym, ap, subst, ◌∙◌, append_assoc, append-nil, arith}
+use Rattle.std.proofs.Common.{◌≡◌, ℕ, ◌+◌, ◌<◌, true, false, List, [], ◌∷◌, ◌++◌, length, map, take, get_or, refl, sym, ap, subst, ◌∙◌, append_assoc, append-nil, arith, Bool}
+use Rattle.std.specs.Io.KnownBytes.{Keeps}
 use Rattle.std.specs.Prelude.{not, Option, Some, None, IfSome}
 use Rattle.std.specs.List.{flat_map}
 use Rattle.std.specs.Option.{is_some}
@@ -10,6 +11,7 @@ use Rattle.cq_render.specs.Explain.{state_of}
 use Rattle.cq_report.specs.Lines.{lines_of}
 use Rattle.cq_report.specs.Reading.{Reading}
 use Rattle.cq_report.specs.Output.{AreReadings, Left, left_after}
+use Rattle.cq_why.specs.Why.{is_mark}
 use Rattle.cq_cli.specs.declared.status.Status.TheVariants.{Done, NotSo}
 use Rattle.cq_cli.specs.Explained.{absent_line, absent_lines, absent_names, status_of_absent}
 
@@ -51,8 +53,12 @@ no_absent pool names none = none_of (absent_names pool names) none
 pub some_absent : (pool : PoolRecord) (names : List (List ℕ)) (lines : List ℕ) → lines ≡ absent_lines pool names → 0 < length lines → NotSo ≡ status_of_absent (absent_names pool names)
 some_absent pool names lines is some = some_of (absent_names pool names) lines is some
 
--- what is said of what was read is said of what the lines leave, however they are read
-pub left_over : (left : Option (List ℕ)) (script : Left) (Says : Left → Type 0) → IfSome left (λ input. (readings : List Reading) → AreReadings (lines_of input) readings → script ≡ left_after readings)
-    → Says script → IfSome left (λ input. (readings : List Reading) → AreReadings (lines_of input) readings → Says (left_after readings))
-left_over None script Says reads said = tt
-left_over (Some input) script Says reads said = λ readings are. subst Says (reads readings are) said
+-- what is said of what was read is said of what the lines leave, however they are read, and of whether a byte order mark stood in front of them
+pub left_over : (left mid : Option (List ℕ)) (marked : Bool) (script : Left) (Says : Bool → Left → Type 0) → Keeps left mid → IfSome left (λ input. marked ≡ is_mark [] input)
+    → IfSome mid (λ input. (readings : List Reading) → AreReadings (lines_of input) readings → script ≡ left_after readings)
+    → Says marked script → IfSome left (λ input. (readings : List Reading) → AreReadings (lines_of input) readings → Says (is_mark [] input) (left_after readings))
+left_over None mid marked script Says kept is reads said = tt
+left_over (Some input) None marked script Says kept is reads said = absurd kept
+left_over (Some input) (Some rest) marked script Says kept is reads said = λ readings are.
+    subst (λ (m : Bool). Says m (left_after readings)) is
+    (subst (Says marked) (subst (λ (bytes : List ℕ). (rs : List Reading) → AreReadings (lines_of bytes) rs → script ≡ left_after rs) kept reads readings are) said)

@@ -1,5 +1,5 @@
 -- What is said of a board that a script leaves.
-use Rattle.std.proofs.Common.{◌≡◌, ◌∙◌, ◌<◌, ℕ, Bool, true, false, ◌+◌, nat_le, List, Option, refl, sym, ap, subst, arith, inl, inr}
+use Rattle.std.proofs.Common.{◌≡◌, ◌∙◌, ◌<◌, ℕ, Bool, true, false, ◌+◌, nat_le, List, [], Option, refl, sym, ap, subst, arith, inl, inr}
 use Rattle.std.proofs.lemmas.Bool.Decides.{nat_tests}
 use Rattle.std.specs.Prelude.{◌⊎◌, Result, Ok, Err, IfOk, IfErr, IfSome}
 use Rattle.std.proofs.lemmas.Option.{IfSome_then}
@@ -32,6 +32,7 @@ use Rattle.cq_cli.specs.Rows.{MatchFault, IsOfReader}
 use Rattle.cq_cli.specs.Rows as rows_failures
 use Rattle.cq_ask.specs.Choices.{StandForChoices}
 use Rattle.cq_cli.specs.Steps.Answers.{fault_of_answer}
+use Rattle.cq_why.specs.Why.{is_mark}
 
 -- it ended by a fault of reading the script
 pub read_ends : {X : Type 0} (before after : DeviceCounts) (fault : WholeFault) → IfAtTurn fault (λ turn. FailedAtTurn turn before.reads after.reads before.read_failures after.read_failures) → ((IsAtTurn fault → ⊥) → after.read_failures ≡ before.read_failures)
@@ -50,9 +51,9 @@ where_failed (Ok status) p = tt
 where_failed (Err fault) p = p
 
 -- what is said of choices is said of words that stand for them
-pub said_of_words : (left : Option (List ℕ)) (words : List (List ℕ)) (choices : List ChoiceRecord) (Says : Left → List ChoiceRecord → Type 0) → StandForChoices words choices
-    → IfSome left (λ input. (readings : List Reading) → AreReadings (lines_of input) readings → Says (left_after readings) choices)
-    → IfSome left (λ input. (readings : List Reading) → AreReadings (lines_of input) readings → (chosen : List ChoiceRecord) × StandForChoices words chosen × Says (left_after readings) chosen)
+pub said_of_words : (left : Option (List ℕ)) (words : List (List ℕ)) (choices : List ChoiceRecord) (Says : Bool → Left → List ChoiceRecord → Type 0) → StandForChoices words choices
+    → IfSome left (λ input. (readings : List Reading) → AreReadings (lines_of input) readings → Says (is_mark [] input) (left_after readings) choices)
+    → IfSome left (λ input. (readings : List Reading) → AreReadings (lines_of input) readings → (chosen : List ChoiceRecord) × StandForChoices words chosen × Says (is_mark [] input) (left_after readings) chosen)
 said_of_words left words choices Says stand said = IfSome_then left said (λ input says readings are. (choices, stand, says readings are))
 
 -- no device failed

@@ -1,5 +1,6 @@
 -- What the devices of the program did, and how that is reported. (this project's profile)
-use Rattle.std.specs.Prelude.{◌≡◌, ◌<◌, ◌+◌, ◌^◌, ℕ, ◌⊎◌, Result, MatchResult, IfErr}
+use Rattle.std.specs.Prelude.{◌≡◌, ◌<◌, ◌+◌, ◌^◌, ℕ, ◌⊎◌, List, Option, Result, MatchResult, IfErr}
+use Rattle.std.specs.Io.KnownBytes.{prepend_known}
 use Rattle.cq_devices.specs.Device.{FailedAtTurn}
 use Rattle.cq_report.specs.declared.fault.RunFault.{RunFault}
 use Rattle.cq_report.specs.Live.{max_live_reads}
@@ -7,6 +8,17 @@ use Rattle.cq_report.specs.Run.{IfRead, IsOfRead, failures_of}
 use Rattle.cq_cli.specs.declared.status.Status.{Status}
 use Rattle.cq_cli.specs.declared.status.Status.TheVariants.{Failed, Usage}
 use Rattle.cq_cli.specs.Status.{IsRefused}
+
+-- A device that is looked at before it is read: the bytes that it gave and that are still to be read, and the numbers of reads and of those that failed.
+pub record AheadRecord (D : Type 0) : Type 0 where
+  pub device : D
+  pub held : List ℕ
+  pub reads : ℕ
+  pub failures : ℕ
+
+-- The bytes that are still to be read: those that it gave, and those that it has left.
+abbrev pub left_of : {D : Type 0} → (remaining : D → Option (List ℕ)) → AheadRecord D → Option (List ℕ)
+left_of remaining ahead = prepend_known ahead.held (remaining ahead.device)
 
 -- What was counted: the reads of a source, those of them that failed, and the calls of a sink that failed.
 pub record DeviceCounts : Type 0 where

@@ -30,6 +30,11 @@ abbrev pub told_line : List ℕ → List ℕ → List ℕ
 told_line origin [] = []
 told_line origin (b ∷ bs) = line (codes "board: " ++ origin ++ b ∷ bs)
 
+-- That a byte order mark stands in front of a script, in a line, where one does.
+abbrev pub mark_note : List ℕ → Bool → List ℕ
+mark_note origin false = []
+mark_note origin true = told_line origin (codes "a byte order mark, with which no script begins")
+
 -- What is reported of what a script leaves: how the program ends, what it writes, and what it tells beside that, of names say.
 abbrev pub Telling : Type 1
 Telling = Left → Status → List ℕ → List ℕ → Type 0
@@ -86,12 +91,12 @@ AreExplained tree extent names left status text notes =
 abbrev pub ToldOn : (failures failures' : ℕ) → (taken taken' : Option (List ℕ)) → List ℕ → Type 0
 ToldOn failures failures' taken taken' bytes = failures' ≡ failures → Appends taken taken' bytes
 
--- That is what a writer took. Beside it was told which lines of the script were refused and how many edits are not published, where that is so.
-abbrev pub IsShown : Telling → (origin : List ℕ) → Left → Status → Option (List ℕ) → Option (List ℕ) → (List ℕ → Type 0) → Type 0
-IsShown Tells origin left status before after Noted =
-    (text : List ℕ) × (notes : List ℕ) × Tells left status text notes × Appends before after text × Noted (told_line origin (warning left) ++ notes)
+-- That is what a writer took. Beside it was told whether a byte order mark stands in front of the script, which lines of it were refused and how many edits are not published, where that is so.
+abbrev pub IsShown : Telling → (origin : List ℕ) → (marked : Bool) → Left → Status → Option (List ℕ) → Option (List ℕ) → (List ℕ → Type 0) → Type 0
+IsShown Tells origin marked left status before after Noted =
+    (text : List ℕ) × (notes : List ℕ) × Tells left status text notes × Appends before after text × Noted (mark_note origin marked ++ (told_line origin (warning left) ++ notes))
 
 -- The same of choices for which words stand.
-abbrev pub IsJudgedShown : List (List ℕ) → (origin : List ℕ) → Left → Status → Option (List ℕ) → Option (List ℕ) → (List ℕ → Type 0) → Type 0
-IsJudgedShown words origin left status before after Noted =
-    (choices : List ChoiceRecord) × StandForChoices words choices × IsShown (IsJudged choices) origin left status before after Noted
+abbrev pub IsJudgedShown : List (List ℕ) → (origin : List ℕ) → (marked : Bool) → Left → Status → Option (List ℕ) → Option (List ℕ) → (List ℕ → Type 0) → Type 0
+IsJudgedShown words origin marked left status before after Noted =
+    (choices : List ChoiceRecord) × StandForChoices words choices × IsShown (IsJudged choices) origin marked left status before after Noted

@@ -5,7 +5,9 @@ ghost use Rattle.cq_cli.specs.declared.status.Status.{Status};
 ghost use Rattle.cq_cli.specs.Status.{IsRefused};
 ghost use Rattle.cq_cli.specs.Devices.{counts, HaveRoom, LeavesRefused, ReportsFailures, ReportsWriting};
 
+use crate::ahead::{Ahead, LookAhead};
 use crate::looking::answer_look;
+use crate::progress::{Watching, watched_on};
 use crate::replaying::answer_replay;
 use crate::rows::{Hint, RowsFault, SheetWords, write_rows};
 use crate::sessions::{FileFault, serve_files};
@@ -16,7 +18,7 @@ use crate::writing::{tell, tell_fault, write_text};
 use clap::Error;
 use clap::error::ErrorKind;
 use cq_budget::Budget;
-use cq_devices::{Counted, Sink, Source};
+use cq_devices::{Sink, Source};
 use cq_report::{Numbering, RunFault, live};
 use std::alloc::{Allocator, Global};
 use std::convert::AsStr;
@@ -200,7 +202,7 @@ fn answer_sessions<
 fn answer_task<
     H: Files + Threads + Wait + Sync,
     A: Allocator + Copy + Send + Sync,
-    R: Source,
+    R: LookAhead,
     W: Sink,
     E: Sink,
 >(
@@ -234,9 +236,9 @@ fn answer_task<
     }
 }
 
-/// Does a task over the file of that path in the place of the source, which is not read.
+/// Does what is wanted over the file of that path in the place of the source, which is not read.
 fn answer_file<
-    H: Files + Threads + Wait + Sync,
+    H: Eprint + Files + Threads + Wait + Sync,
     A: Allocator + Copy + Send + Sync,
     W: Sink,
     E: Sink,
@@ -244,7 +246,7 @@ fn answer_file<
     host: &H,
     alloc: Global,
     heap: A,
-    task: &Task<'_>,
+    wanted: &Wanted<'_>,
     path: &str,
     sink: &mut W,
     errors: &mut E,
@@ -262,16 +264,25 @@ fn answer_file<
         return starved(errors);
     };
     let before = sink.failures();
-    let mut source = Counted::new(file);
-    let status = answer_task(host, alloc, heap, &origin, task, &mut source, sink, errors);
+    let mut source = Ahead::new(Watching::new(file, watched_on(host, wanted.is_watched)));
+    let status = answer_task(
+        host,
+        alloc,
+        heap,
+        &origin,
+        &wanted.task,
+        &mut source,
+        sink,
+        errors,
+    );
     status.over_file(sink.failures() <= before)
 }
 
 /// Does what is wanted over the file that is named, or else over the source.
 fn answer_over<
-    H: Files + Threads + Wait + Sync,
+    H: Eprint + Files + Threads + Wait + Sync,
     A: Allocator + Copy + Send + Sync,
-    R: Source,
+    R: LookAhead,
     W: Sink,
     E: Sink,
 >(
@@ -289,9 +300,7 @@ fn answer_over<
     ensures refused { LeavesRefused source.old source.new sink.old sink.new result }
 {
     match wanted.file {
-        Some(path) if path != "-" => {
-            answer_file(host, alloc, heap, &wanted.task, path, sink, errors)
-        }
+        Some(path) if path != "-" => { answer_file(host, alloc, heap, wanted, path, sink, errors) }
         _ => answer_task(host, alloc, heap, "", &wanted.task, source, sink, errors),
     }
 }
@@ -299,9 +308,9 @@ fn answer_over<
 /// Does what is wanted, with no more than so many bytes of the heap out at a time, in all threads together, where a number of
 /// them is told.
 fn answer_wanted<
-    H: Files + Threads + Wait + Sync,
+    H: Eprint + Files + Threads + Wait + Sync,
     A: Allocator + Copy + Send + Sync,
-    R: Source,
+    R: LookAhead,
     W: Sink,
     E: Sink,
 >(
@@ -332,10 +341,10 @@ fn answer_wanted<
 /// Does what the words say. Texts of faults go to the sink of errors, each one line; help goes to the other.
 /// The words and the texts use `alloc`, since the reader of words knows no other allocator; the run uses `heap`.
 pub(crate) fn answer<
-    H: Files + Threads + Wait + Sync,
+    H: Eprint + Files + Threads + Wait + Sync,
     S: AsStr,
     A: Allocator + Copy + Send + Sync,
-    R: Source,
+    R: LookAhead,
     W: Sink,
     E: Sink,
 >(
@@ -343,6 +352,7 @@ pub(crate) fn answer<
     alloc: Global,
     heap: A,
     words: &[S],
+    at_terminal: bool,
     source: &mut R,
     sink: &mut W,
     errors: &mut E,
@@ -358,6 +368,9 @@ pub(crate) fn answer<
 {
     match read_words(alloc, words) {
         Err(error) => answer_words(alloc, &error, sink, errors),
-        Ok(wanted) => answer_wanted(host, alloc, heap, &wanted, source, sink, errors),
+        Ok(mut wanted) => {
+            wanted.is_watched &= at_terminal;
+            answer_wanted(host, alloc, heap, &wanted, source, sink, errors)
+        }
     }
 }

@@ -1,6 +1,6 @@
 //! Reads a script, and writes what is reported about the board that it leaves.
 
-ghost use Rattle.std.specs.Prelude.{◌≡◌, ◌≢◌, ◌<◌, ◌+◌, ◌^◌, ◌++◌, ℕ, List, map, false, string_bytes, IfOk, IfErr, IfSome, OnErr, MatchResult};
+ghost use Rattle.std.specs.Prelude.{◌≡◌, ◌≢◌, ◌<◌, ◌+◌, ◌^◌, ◌++◌, ℕ, List, [], map, false, string_bytes, IfOk, IfErr, IfSome, OnErr, MatchResult};
 ghost use Rattle.std.specs.List.{list_all};
 ghost use Rattle.cq_atom.specs.Text.{is_name};
 ghost use Rattle.cq_report.specs.Lines.{lines_of};
@@ -14,14 +14,16 @@ ghost use Rattle.cq_cli.specs.Devices.{counts, EndsRun, HaveRoom, LeavesRefused,
 ghost use Rattle.cq_cli.specs.Views.{told_line, ToldOn, IsShown, IsSought, IsJudgedShown};
 ghost use Rattle.cq_cli.specs.Steps.Answers.{fault_of_answer};
 ghost use Rattle.cq_ask.specs.Choices.{StandForNone};
+ghost use Rattle.cq_why.specs.Why.{is_mark};
 
+use crate::ahead::LookAhead;
 use crate::choices::{read_choices, read_names};
 use crate::fault::AnswerFault;
 use crate::status::Status;
 use crate::views::{Choose, Explain, Graph, Groups, Json, Judge, View};
 use crate::wanted::Look;
-use crate::writing::{tell, tell_fault, write_text};
-use cq_devices::{Sink, Source};
+use crate::writing::{marked_notes, tell, tell_fault, write_text};
+use cq_devices::Sink;
 use cq_report::{Played, RunFault, put_warning, read_script};
 use std::alloc::{AllocError, Allocator, Global};
 
@@ -46,6 +48,7 @@ fn notes_on<A: Allocator + Copy>(
 fn write_seen<A: Allocator + Copy, V: View<A>, W: Sink, E: Sink>(
     heap: A,
     origin: &str,
+    is_marked: bool,
     view: &V,
     script: &Played<A>,
     sink: &mut W,
@@ -53,20 +56,21 @@ fn write_seen<A: Allocator + Copy, V: View<A>, W: Sink, E: Sink>(
 ) -> Result<Status, AnswerFault>
     requires sink { W.write_failures sink.old < 2 ^ 62 }
     requires errors { E.write_failures errors.old < 2 ^ 62 }
-    ensures ok { IfOk result (λ status. IsShown (V.tells view.now) origin.now script.now status (W.taken sink.old) (W.taken sink.new) (ToldOn (E.write_failures errors.old) (E.write_failures errors.new) (E.taken errors.old) (E.taken errors.new))) }
+    ensures ok { IfOk result (λ status. IsShown (V.tells view.now) origin.now is_marked script.now status (W.taken sink.old) (W.taken sink.new) (ToldOn (E.write_failures errors.old) (E.write_failures errors.new) (E.taken errors.old) (E.taken errors.new))) }
     ensures status { IfOk result IsTold }
     ensures errors { OnErr result (errors.new ≡ errors.old) }
     ensures failures { MatchResult result (λ _. W.write_failures sink.new ≡ W.write_failures sink.old) (λ fault. W.write_failures sink.new ≡ W.write_failures sink.old + failures_of (fault_of_answer fault)) }
 {
     let seen = view.look(heap, script)?;
     let notes = notes_on(heap, origin, script, &seen.notes)?;
+    let notes = marked_notes(heap, origin, is_marked, notes)?;
     write_text(sink, &seen.text)?;
     tell(errors, &notes);
     Ok(seen.status)
 }
 
 /// Reads the script that the source gives, and writes what is asked of what it leaves.
-fn show<A: Allocator + Copy, V: View<A>, R: Source, W: Sink, E: Sink>(
+fn show<A: Allocator + Copy, V: View<A>, R: LookAhead, W: Sink, E: Sink>(
     heap: A,
     origin: &str,
     view: &V,
@@ -76,13 +80,16 @@ fn show<A: Allocator + Copy, V: View<A>, R: Source, W: Sink, E: Sink>(
 ) -> Result<Status, RunFault>
     requires devices { HaveRoom (counts R.reads_made R.failures_met W.write_failures source.old sink.old) }
     requires errors { E.write_failures errors.old < 2 ^ 62 }
-    ensures told { IfOk result (λ status. IfSome (R.left source.old) (λ input. (readings : List Reading) → AreReadings (lines_of input) readings → IsShown (V.tells view.now) origin.now (left_after readings) status (W.taken sink.old) (W.taken sink.new) (ToldOn (E.write_failures errors.old) (E.write_failures errors.new) (E.taken errors.old) (E.taken errors.new)))) }
+    ensures told { IfOk result (λ status. IfSome (R.left source.old) (λ input. (readings : List Reading) → AreReadings (lines_of input) readings → IsShown (V.tells view.now) origin.now (is_mark [] input) (left_after readings) status (W.taken sink.old) (W.taken sink.new) (ToldOn (E.write_failures errors.old) (E.write_failures errors.new) (E.taken errors.old) (E.taken errors.new)))) }
     ensures status { IfOk result IsTold }
     ensures errors { OnErr result (errors.new ≡ errors.old) }
     ensures failures { EndsRun (counts R.reads_made R.failures_met W.write_failures source.old sink.old) (counts R.reads_made R.failures_met W.write_failures source.new sink.new) result }
 {
+    let Ok(is_marked) = source.has_mark() else {
+        return Err(RunFault::Read { turn: 1 });
+    };
     let script = read_script(heap, source)?;
-    Ok(write_seen(heap, origin, view, &script, sink, errors)?)
+    Ok(write_seen(heap, origin, is_marked, view, &script, sink, errors)?)
 }
 
 /// Tells a fault, where there is one, and how the program ends.
@@ -106,7 +113,7 @@ fn end_with<E: Sink>(
 }
 
 /// Reads the script that the source gives, and writes what is asked of what it leaves, or tells a fault.
-fn answer_view<A: Allocator + Copy, V: View<A>, R: Source, W: Sink, E: Sink>(
+fn answer_view<A: Allocator + Copy, V: View<A>, R: LookAhead, W: Sink, E: Sink>(
     alloc: Global,
     heap: A,
     origin: &str,
@@ -117,7 +124,7 @@ fn answer_view<A: Allocator + Copy, V: View<A>, R: Source, W: Sink, E: Sink>(
 ) -> Status
     requires devices { HaveRoom (counts R.reads_made R.failures_met W.write_failures source.old sink.old) }
     requires errors { E.write_failures errors.old < 2 ^ 62 }
-    ensures told { IsTold result → IfSome (R.left source.old) (λ input. (readings : List Reading) → AreReadings (lines_of input) readings → IsShown (V.tells view.now) origin.now (left_after readings) result (W.taken sink.old) (W.taken sink.new) (ToldOn (E.write_failures errors.old) (E.write_failures errors.new) (E.taken errors.old) (E.taken errors.new))) }
+    ensures told { IsTold result → IfSome (R.left source.old) (λ input. (readings : List Reading) → AreReadings (lines_of input) readings → IsShown (V.tells view.now) origin.now (is_mark [] input) (left_after readings) result (W.taken sink.old) (W.taken sink.new) (ToldOn (E.write_failures errors.old) (E.write_failures errors.new) (E.taken errors.old) (E.taken errors.new))) }
     ensures usage { result ≢ Status.Usage }
     ensures failures { ReportsFailures (counts R.reads_made R.failures_met W.write_failures source.old sink.old) (counts R.reads_made R.failures_met W.write_failures source.new sink.new) result }
     ensures refused { LeavesRefused source.old source.new sink.old sink.new result }
@@ -127,7 +134,7 @@ fn answer_view<A: Allocator + Copy, V: View<A>, R: Source, W: Sink, E: Sink>(
 }
 
 /// Reads choices from words, and says whether they coordinate on the board that the script leaves, or tells what is wrong with the words.
-fn answer_choice<A: Allocator + Copy, R: Source, W: Sink, E: Sink>(
+fn answer_choice<A: Allocator + Copy, R: LookAhead, W: Sink, E: Sink>(
     alloc: Global,
     heap: A,
     origin: &str,
@@ -138,7 +145,7 @@ fn answer_choice<A: Allocator + Copy, R: Source, W: Sink, E: Sink>(
 ) -> Status
     requires devices { HaveRoom (counts R.reads_made R.failures_met W.write_failures source.old sink.old) }
     requires errors { E.write_failures errors.old < 2 ^ 62 }
-    ensures told { IsTold result → IfSome (R.left source.old) (λ input. (readings : List Reading) → AreReadings (lines_of input) readings → IsJudgedShown (map (λ word. word.now) words.now) origin.now (left_after readings) result (W.taken sink.old) (W.taken sink.new) (ToldOn (E.write_failures errors.old) (E.write_failures errors.new) (E.taken errors.old) (E.taken errors.new))) }
+    ensures told { IsTold result → IfSome (R.left source.old) (λ input. (readings : List Reading) → AreReadings (lines_of input) readings → IsJudgedShown (map (λ word. word.now) words.now) origin.now (is_mark [] input) (left_after readings) result (W.taken sink.old) (W.taken sink.new) (ToldOn (E.write_failures errors.old) (E.write_failures errors.new) (E.taken errors.old) (E.taken errors.new))) }
     ensures bad { result ≡ Status.Usage → StandForNone (map (λ word. word.now) words.now) }
     ensures failures { ReportsFailures (counts R.reads_made R.failures_met W.write_failures source.old sink.old) (counts R.reads_made R.failures_met W.write_failures source.new sink.new) result }
     ensures refused { LeavesRefused source.old source.new sink.old sink.new result }
@@ -157,7 +164,7 @@ fn answer_choice<A: Allocator + Copy, R: Source, W: Sink, E: Sink>(
 
 /// Reads names from words, and looks for a coordinating choice on the board that the script leaves which has the queries of these names; or tells what is
 /// wrong with the words.
-fn answer_choose<A: Allocator + Copy, R: Source, W: Sink, E: Sink>(
+fn answer_choose<A: Allocator + Copy, R: LookAhead, W: Sink, E: Sink>(
     alloc: Global,
     heap: A,
     origin: &str,
@@ -169,7 +176,7 @@ fn answer_choose<A: Allocator + Copy, R: Source, W: Sink, E: Sink>(
 ) -> Status
     requires devices { HaveRoom (counts R.reads_made R.failures_met W.write_failures source.old sink.old) }
     requires errors { E.write_failures errors.old < 2 ^ 62 }
-    ensures told { IsTold result → IfSome (R.left source.old) (λ input. (readings : List Reading) → AreReadings (lines_of input) readings → IsShown (IsSought (map (λ word. word.now) words.now)) origin.now (left_after readings) result (W.taken sink.old) (W.taken sink.new) (ToldOn (E.write_failures errors.old) (E.write_failures errors.new) (E.taken errors.old) (E.taken errors.new))) }
+    ensures told { IsTold result → IfSome (R.left source.old) (λ input. (readings : List Reading) → AreReadings (lines_of input) readings → IsShown (IsSought (map (λ word. word.now) words.now)) origin.now (is_mark [] input) (left_after readings) result (W.taken sink.old) (W.taken sink.new) (ToldOn (E.write_failures errors.old) (E.write_failures errors.new) (E.taken errors.old) (E.taken errors.new))) }
     ensures bad { result ≡ Status.Usage → list_all is_name (map (λ word. word.now) words.now) ≡ false }
     ensures failures { ReportsFailures (counts R.reads_made R.failures_met W.write_failures source.old sink.old) (counts R.reads_made R.failures_met W.write_failures source.new sink.new) result }
     ensures refused { LeavesRefused source.old source.new sink.old sink.new result }
@@ -190,7 +197,7 @@ fn answer_choose<A: Allocator + Copy, R: Source, W: Sink, E: Sink>(
 }
 
 /// Reads the script that the source gives, and writes what is wanted of the board that it leaves, or tells a fault.
-pub(crate) fn answer_look<A: Allocator + Copy, R: Source, W: Sink, E: Sink>(
+pub(crate) fn answer_look<A: Allocator + Copy, R: LookAhead, W: Sink, E: Sink>(
     alloc: Global,
     heap: A,
     origin: &str,

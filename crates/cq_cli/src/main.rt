@@ -2,18 +2,20 @@
 //!
 //! `wanted` says what the words ask for, `sizes` reads numbers of bytes from words, and `choices` choices. `replaying` replays a script, `rows` writes the insert lines of CSV,
 //! `views` says what is told of a board, `drawing` draws it, `absent` tells of names under which no query is pending, `noting` of choices that are none by
-//! themselves, and `looking` reads a script and writes that. `prompting` prompts at a terminal, and `answering` turns words, a source
-//! and two sinks into the status that `status` numbers; `main` only opens the three standard streams. What a
-//! script means stands in the crates below.
+//! themselves, and `looking` reads a script and writes that. `ahead` looks at the front of a script before it is read, `progress` tells how much of it was read,
+//! `prompting` prompts at a terminal, and `answering` turns words, a source and two sinks into the status that `status` numbers; `main` only opens the three standard
+//! streams. What a script means stands in the crates below.
 #![tactic(auto)]
 
 mod absent;
+mod ahead;
 mod answering;
 mod choices;
 mod drawing;
 mod fault;
 mod looking;
 mod noting;
+mod progress;
 mod prompting;
 mod replaying;
 mod rows;
@@ -24,7 +26,9 @@ mod views;
 mod wanted;
 mod writing;
 
+use crate::ahead::Ahead;
 use crate::answering::answer;
+use crate::progress::{Watching, watched_on};
 use crate::prompting::Prompting;
 use crate::status::Status;
 use crate::writing::tell;
@@ -58,6 +62,11 @@ fn is_live<A: Allocator>(words: &[String<A>]) -> bool {
     }
 }
 
+/// Whether the words ask to be told how much of a script was read.
+fn is_watched<A: Allocator>(words: &[String<A>]) -> bool {
+    words.iter().any(|word| word.as_str() == "--progress")
+}
+
 fn main(rt: HostRuntime) -> ExitCode {
     let mut errors = Counted::new(rt.stderr());
     let words = match words(&rt) {
@@ -77,13 +86,16 @@ fn main(rt: HostRuntime) -> ExitCode {
     } else {
         None
     };
-    let mut source = Counted::new(Prompting::new(input, prompts));
+    let at_terminal = rt.stderr().is_terminal();
+    let watched = watched_on(&rt, at_terminal && is_watched(&words));
+    let mut source = Ahead::new(Watching::new(Prompting::new(input, prompts), watched));
     let mut sink = Counted::new(rt.stdout());
     let status = answer(
         &rt,
         rt.alloc(),
         rt.alloc(),
         &words,
+        at_terminal,
         &mut source,
         &mut sink,
         &mut errors,

@@ -1,18 +1,20 @@
 //! Replays a script.
 
-ghost use Rattle.std.specs.Prelude.{◌≡◌, ◌≢◌, ◌<◌, ◌^◌, ◌⊎◌, ◌++◌, List, ℕ, codes, string_bytes, true, IfOk, OnOk};
+ghost use Rattle.std.specs.Prelude.{◌≡◌, ◌≢◌, ◌<◌, ◌^◌, ◌⊎◌, ◌++◌, List, [], ℕ, codes, string_bytes, IfOk, IfSome, OnOk};
 ghost use Rattle.std.specs.Option.{is_some};
 ghost use Rattle.cq_render.specs.Report.{line};
 ghost use Rattle.cq_report.specs.Machine.{State};
-ghost use Rattle.cq_report.specs.Output.{left_in};
+ghost use Rattle.cq_report.specs.Output.{Heard, left_in};
 ghost use Rattle.cq_report.specs.Summary.{summary};
-ghost use Rattle.cq_cli.specs.Devices.{counts, HaveRoom, LeavesRefused, ReportsFailures, ReportsWriting};
+ghost use Rattle.cq_cli.specs.Devices.{counts, EndsRun, HaveRoom, LeavesRefused, ReportsFailures, ReportsWriting};
 ghost use Rattle.cq_cli.specs.Status.{status_after, IsRefused};
-ghost use Rattle.cq_cli.specs.Told.{told_lines, summary_if, status_of_text, IsToldOf};
+ghost use Rattle.cq_cli.specs.Told.{end_words, told_lines, summary_if, IsReplayed, status_of_text, IsToldOf};
 ghost use Rattle.cq_cli.specs.Views.{ToldOn};
+ghost use Rattle.cq_why.specs.Why.{is_mark};
 
+use crate::ahead::LookAhead;
 use crate::status::Status;
-use crate::writing::{tell, tell_fault};
+use crate::writing::{marked_notes, tell, tell_fault};
 use cq_devices::{Counted, Sink, Source, read_whole};
 use cq_report::{Numbering, Played, Ran, RunFault, put_summary, run};
 use cq_why::put_whys;
@@ -67,24 +69,52 @@ fn status_after(is_strict: bool, has_refused: bool) -> Status
     }
 }
 
-/// Sums a script up, where that is asked for, and says how the program ends.
+/// The line that sums up a script, where that is asked for.
+fn summary_line_if<A: Allocator + Copy>(
+    heap: A,
+    origin: &str,
+    is_summed: bool,
+    ran: Ran<A>,
+) -> Result<String<A>, AllocError>
+    ensures { IfOk result (λ text. string_bytes text ≡ summary_if is_summed origin.now ran) }
+{
+    if is_summed {
+        summary_line(heap, origin, ran)
+    } else {
+        Ok(String::new(heap))
+    }
+}
+
+/// What is told of a script in the end: that a byte order mark stands in front of it, if one does, and the summary, where it is asked for.
+fn end_text<A: Allocator + Copy>(
+    heap: A,
+    origin: &str,
+    is_marked: bool,
+    is_summed: bool,
+    ran: Ran<A>,
+) -> Result<String<A>, AllocError>
+    ensures { IfOk result (λ text. string_bytes text ≡ end_words origin.now is_marked is_summed ran) }
+{
+    let summary = summary_line_if(heap, origin, is_summed, ran)?;
+    marked_notes(heap, origin, is_marked, summary)
+}
+
+/// Tells what is to be told of a script in the end, and says how the program ends.
 fn end_replay<A: Allocator + Copy, E: Sink>(
     alloc: Global,
     heap: A,
     origin: &str,
+    is_marked: bool,
     replaying: Replaying,
     ran: Ran<A>,
     errors: &mut E,
 ) -> Status
     requires { E.write_failures errors.old < 2 ^ 62 }
-    ensures summed { replaying.is_summed ≡ true → result ≢ Status.NoMemory → ToldOn (E.write_failures errors.old) (E.write_failures errors.new) (E.taken errors.old) (E.taken errors.new) (line (codes "board: " ++ origin.now ++ summary (left_in ran))) }
+    ensures told { result ≢ Status.NoMemory → ToldOn (E.write_failures errors.old) (E.write_failures errors.new) (E.taken errors.old) (E.taken errors.new) (end_words origin.now is_marked replaying.is_summed ran) }
     ensures status { (result ≡ Status.NoMemory) ⊎ (result ≡ status_after replaying.is_strict (is_some ran.tally.first)) }
 {
     let status = status_after(replaying.is_strict, ran.has_refused());
-    if !replaying.is_summed {
-        return status;
-    }
-    match summary_line(heap, origin, ran) {
+    match end_text(heap, origin, is_marked, replaying.is_summed, ran) {
         Ok(text) => {
             tell(errors, &text);
             status
@@ -242,8 +272,54 @@ fn answer_told<A: Allocator + Copy, R: Source, W: Sink, E: Sink>(
     }
 }
 
+/// Runs the script that the source gives, and says whether a byte order mark stands in front of it.
+fn run_marked<A: Allocator + Copy, R: LookAhead, W: Sink>(
+    heap: A,
+    replaying: Replaying,
+    source: &mut R,
+    sink: &mut W,
+) -> Result<(bool, Ran<A>), RunFault>
+    requires devices { HaveRoom (counts R.reads_made R.failures_met W.write_failures source.old sink.old) }
+    ensures mark { IfOk result (λ ran. IfSome (R.left source.old) (λ input. ran.0 ≡ is_mark [] input)) }
+    ensures heard { IfOk result (λ ran. IfSome (R.left source.old) (λ input. Heard replaying.is_strict replaying.numbering input (W.taken sink.old) (W.taken sink.new) ran.1)) }
+    ensures failures { EndsRun (counts R.reads_made R.failures_met W.write_failures source.old sink.old) (counts R.reads_made R.failures_met W.write_failures source.new sink.new) result }
+{
+    let Ok(is_marked) = source.has_mark() else {
+        return Err(RunFault::Read { turn: 1 });
+    };
+    let ran = run(heap, replaying.numbering, replaying.is_strict, source, sink)?;
+    Ok((is_marked, ran))
+}
+
+/// Replays the script that the source gives, and tells what there is to tell in the end, or a fault.
+fn answer_heard<A: Allocator + Copy, R: LookAhead, W: Sink, E: Sink>(
+    alloc: Global,
+    heap: A,
+    origin: &str,
+    replaying: Replaying,
+    source: &mut R,
+    sink: &mut W,
+    errors: &mut E,
+) -> Status
+    requires devices { HaveRoom (counts R.reads_made R.failures_met W.write_failures source.old sink.old) }
+    requires errors { E.write_failures errors.old < 2 ^ 62 }
+    ensures told { result ≢ Status.NoMemory → result ≢ Status.Failed → IfSome (R.left source.old) (λ input. IsReplayed replaying.is_strict replaying.is_summed replaying.numbering origin.now input result (W.taken sink.old) (W.taken sink.new) (ToldOn (E.write_failures errors.old) (E.write_failures errors.new) (E.taken errors.old) (E.taken errors.new))) }
+    ensures failures { ReportsFailures (counts R.reads_made R.failures_met W.write_failures source.old sink.old) (counts R.reads_made R.failures_met W.write_failures source.new sink.new) result }
+    ensures refused { LeavesRefused source.old source.new sink.old sink.new result }
+{
+    match run_marked(heap, replaying, source, sink) {
+        Ok((is_marked, ran)) => {
+            end_replay(alloc, heap, origin, is_marked, replaying, ran, errors)
+        }
+        Err(fault) => {
+            tell_fault(alloc, origin, &fault, errors);
+            Status::of_run(fault)
+        }
+    }
+}
+
 /// Replays the script that the source gives, and tells a fault of it.
-pub(crate) fn answer_replay<A: Allocator + Copy, R: Source, W: Sink, E: Sink>(
+pub(crate) fn answer_replay<A: Allocator + Copy, R: LookAhead, W: Sink, E: Sink>(
     alloc: Global,
     heap: A,
     origin: &str,
@@ -258,13 +334,8 @@ pub(crate) fn answer_replay<A: Allocator + Copy, R: Source, W: Sink, E: Sink>(
     ensures refused { LeavesRefused source.old source.new sink.old sink.new result }
 {
     if replaying.is_told {
-        return answer_told(alloc, heap, origin, replaying, source, sink, errors);
-    }
-    match run(heap, replaying.numbering, replaying.is_strict, source, sink) {
-        Ok(ran) => end_replay(alloc, heap, origin, replaying, ran, errors),
-        Err(fault) => {
-            tell_fault(alloc, origin, &fault, errors);
-            Status::of_run(fault)
-        }
+        answer_told(alloc, heap, origin, replaying, source, sink, errors)
+    } else {
+        answer_heard(alloc, heap, origin, replaying, source, sink, errors)
     }
 }

@@ -243,6 +243,8 @@ pub(crate) struct Wanted<'a> {
     pub(crate) memory: Option<&'a str>,
     /// The path of the file that is read in the place of standard input, which `-` stands for.
     pub(crate) file: Option<&'a str>,
+    /// Whether it is told how much was read.
+    pub(crate) is_watched: bool,
 }
 
 /// What is to be done.
@@ -330,6 +332,14 @@ fn file_option<'a>(alloc: Global) -> Arg<'a> {
     file(alloc).long("file")
 }
 
+/// The option that has it told how much of a script was read.
+fn progress<'a>(alloc: Global) -> Arg<'a> {
+    Arg::new(alloc, "progress")
+        .long("progress")
+        .action(ArgAction::SetTrue)
+        .help("Tell at a terminal on standard error how much was read")
+}
+
 fn replay_command<'a>(alloc: Global) -> Result<Command<'a>, AllocError> {
     Command::new(alloc, "replay")
         .about(ABOUT_REPLAY)
@@ -358,6 +368,7 @@ fn replay_command<'a>(alloc: Global) -> Result<Command<'a>, AllocError> {
                 .action(ArgAction::SetTrue)
                 .help("Tell on standard error why lines are refused"),
         )?
+        .arg(progress(alloc))?
         .arg(file(alloc))?
         .arg(memory(
             alloc,
@@ -472,6 +483,7 @@ fn explain_command<'a>(alloc: Global) -> Result<Command<'a>, AllocError> {
                 .help("Tell the causes alone, which rest on no other query"),
         )?
         .arg(file_option(alloc))?
+        .arg(progress(alloc))?
         .arg(view_memory(alloc))
 }
 
@@ -494,6 +506,7 @@ fn graph_command<'a>(alloc: Global) -> Result<Command<'a>, AllocError> {
                 .action(ArgAction::SetTrue)
                 .help("Draw a box around each group of matched queries"),
         )?
+        .arg(progress(alloc))?
         .arg(view_memory(alloc))
 }
 
@@ -502,6 +515,7 @@ fn json_command<'a>(alloc: Global) -> Result<Command<'a>, AllocError> {
         .about(ABOUT_JSON)
         .after_help(BEHIND_JSON)
         .arg(file(alloc))?
+        .arg(progress(alloc))?
         .arg(view_memory(alloc))
 }
 
@@ -516,6 +530,7 @@ fn choice_command<'a>(alloc: Global) -> Result<Command<'a>, AllocError> {
         )
         .num_args(1..))?
         .arg(file_option(alloc))?
+        .arg(progress(alloc))?
         .arg(view_memory(alloc))
 }
 
@@ -539,6 +554,7 @@ fn choose_command<'a>(alloc: Global) -> Result<Command<'a>, AllocError> {
         )?
         .arg(steps(alloc))?
         .arg(file_option(alloc))?
+        .arg(progress(alloc))?
         .arg(view_memory(alloc))
 }
 
@@ -548,6 +564,7 @@ fn groups_command<'a>(alloc: Global) -> Result<Command<'a>, AllocError> {
         .after_help(BEHIND_GROUPS)
         .arg(steps(alloc))?
         .arg(file(alloc))?
+        .arg(progress(alloc))?
         .arg(view_memory(alloc))
 }
 
@@ -684,11 +701,13 @@ pub(crate) fn read_words<'a, S: AsStr>(alloc: Global, words: &'a [S]) -> Result<
             }),
             memory: None,
             file: None,
+            is_watched: false,
         });
     };
     Ok(Wanted {
         task: task_of(alloc, name, behind)?,
         memory: behind.get_str("memory"),
         file: behind.get_str("source"),
+        is_watched: behind.get_flag("progress"),
     })
 }

@@ -1,11 +1,12 @@
 //! Texts for the two sinks.
 
-ghost use Rattle.std.specs.Prelude.{◌≡◌, ◌<◌, ◌+◌, ◌^◌, OnOk, OnErr, MatchResult};
+ghost use Rattle.std.specs.Prelude.{◌≡◌, ◌<◌, ◌+◌, ◌^◌, ◌++◌, string_bytes, IfOk, OnOk, OnErr, MatchResult};
 ghost use Rattle.std.specs.Io.KnownBytes.{Appends};
 ghost use Rattle.cq_devices.specs.Device.{TakesFront};
+ghost use Rattle.cq_cli.specs.Views.{mark_note};
 
 use cq_devices::{Failed, Sink, write_all};
-use std::alloc::Global;
+use std::alloc::{AllocError, Allocator, Global};
 use std::fmt::Display;
 
 /// Writes a text, and passes on what the sink holds back.
@@ -39,5 +40,21 @@ pub(crate) fn tell_fault<F: Display, E: Sink>(
     match format!(in alloc; "board: {origin}{fault}\n") {
         Ok(text) => tell(errors, &text),
         Err(_) => tell(errors, "board: out of memory\n"),
+    }
+}
+
+/// That a byte order mark stands in front of the script, if one does, in a line, and these lines behind it.
+pub(crate) fn marked_notes<A: Allocator + Copy>(
+    heap: A,
+    origin: &str,
+    is_marked: bool,
+    lines: String<A>,
+) -> Result<String<A>, AllocError>
+    ensures { IfOk result (λ text. string_bytes text ≡ mark_note origin.now is_marked ++ string_bytes lines) }
+{
+    if is_marked {
+        format!(in heap; "board: {origin}a byte order mark, with which no script begins\n{lines}")
+    } else {
+        Ok(lines)
     }
 }
