@@ -1,3 +1,4 @@
 mod AbsentNames
 pub mod Telling
 mod Lines
+pub mod Held

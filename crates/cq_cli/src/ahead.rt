@@ -9,6 +9,9 @@ use cq_devices::{Failed, Source};
 use std::io::Read;
 use std::marker::Model;
 
+/// How many bytes are held at most: as many as a script is read by.
+const MOST: usize = 4_096;
+
 /// A byte order mark.
 const MARK: [u8; 3] = [0xef, 0xbb, 0xbf];
 
@@ -31,12 +34,12 @@ pub(crate) trait LookAhead: Source {
         ensures failures { MatchResult result (λ _. Self.failures_met self.new ≡ Self.failures_met self.old) (λ _. Self.failures_met self.new ≡ Self.failures_met self.old + 1) };
 }
 
-/// A source over a device of std, of which up to three bytes are held that are still to be read. A device that was at its end is asked no more, so that the
+/// A source over a device of std, of which bytes are held that were looked at and are still to be read. A device that was at its end is asked no more, so that the
 /// end of what is typed at a terminal need not be given twice.
 #[derive(Drop)]
 pub(crate) struct Ahead<D: Read> {
     device: D,
-    bytes: [u8; 3],
+    bytes: [u8; MOST],
     held: usize,
     is_ended: bool,
     reads: u64,
@@ -52,7 +55,7 @@ impl<D: Read> Model for Ahead<D> {
 
     ghost view = { λ a. record { device = a.device; held = take a.held a.bytes; reads = a.reads; failures = a.failures } };
 
-    ghost invariant = { λ a. (a.held ≤ 3) × (a.is_ended ≡ true → IsAtEnd (D.remaining a.device)) };
+    ghost invariant = { λ a. (a.held ≤ 4096) × (a.is_ended ≡ true → IsAtEnd (D.remaining a.device)) };
 }
 
 impl<D: Read> Ahead<D> {
@@ -62,7 +65,7 @@ impl<D: Read> Ahead<D> {
     {
         Ahead {
             device,
-            bytes: [0; 3],
+            bytes: [0; MOST],
             held: 0,
             is_ended: false,
             reads: 0,
@@ -73,7 +76,7 @@ impl<D: Read> Ahead<D> {
     /// The bytes that are held.
     fn held(&self) -> &[u8]
         ensures value { result.now ≡ self.now.held }
-        ensures few { length result.now ≤ 3 }
+        ensures few { length result.now ≤ 4096 }
     {
         &self.bytes[..self.held]
     }
@@ -81,7 +84,7 @@ impl<D: Read> Ahead<D> {
     /// Whether more bytes are to be held, to know whether a byte order mark comes next.
     fn is_short(&self) -> bool
         ensures short { result ≡ true → length self.now.held < 3 }
-        ensures told { result ≡ false → (length self.now.held ≡ 3) ⊎ (may_begin_mark self.now.held ≡ false) }
+        ensures told { result ≡ false → (3 ≤ length self.now.held) ⊎ (may_begin_mark self.now.held ≡ false) }
     {
         let held = self.held();
         held.len() < 3 && may_begin_mark(held)
@@ -98,7 +101,7 @@ impl<D: Read> Ahead<D> {
         let Ok(count) = rest.read(buf) else {
             return 0;
         };
-        let mut bytes = [0; 3];
+        let mut bytes = [0; MOST];
         bytes[..rest.len()].copy_from_slice(rest);
         self.held = rest.len();
         self.bytes = bytes;
@@ -179,6 +182,8 @@ impl<D: Read> LookAhead for Ahead<D> {
             self.failures += 1;
             return Err(Failed);
         };
-        Ok(self.held() == MARK.as_slice())
+        let held = self.held();
+        let front = &held[..held.len().min(3)];
+        Ok(front == MARK.as_slice())
     }
 }

@@ -24,6 +24,7 @@ use std::alloc::{Allocator, Global};
 use std::convert::AsStr;
 use std::fs;
 use std::fs::Files;
+use std::rt::Clock;
 use std::sync::Wait;
 use std::thread::Threads;
 
@@ -238,7 +239,7 @@ fn answer_task<
 
 /// Does what is wanted over the file of that path in the place of the source, which is not read.
 fn answer_file<
-    H: Eprint + Files + Threads + Wait + Sync,
+    H: Clock + Eprint + Files + Threads + Wait + Sync,
     A: Allocator + Copy + Send + Sync,
     W: Sink,
     E: Sink,
@@ -280,7 +281,7 @@ fn answer_file<
 
 /// Does what is wanted over the file that is named, or else over the source.
 fn answer_over<
-    H: Eprint + Files + Threads + Wait + Sync,
+    H: Clock + Eprint + Files + Threads + Wait + Sync,
     A: Allocator + Copy + Send + Sync,
     R: LookAhead,
     W: Sink,
@@ -308,7 +309,7 @@ fn answer_over<
 /// Does what is wanted, with no more than so many bytes of the heap out at a time, in all threads together, where a number of
 /// them is told.
 fn answer_wanted<
-    H: Eprint + Files + Threads + Wait + Sync,
+    H: Clock + Eprint + Files + Threads + Wait + Sync,
     A: Allocator + Copy + Send + Sync,
     R: LookAhead,
     W: Sink,
@@ -341,7 +342,7 @@ fn answer_wanted<
 /// Does what the words say. Texts of faults go to the sink of errors, each one line; help goes to the other.
 /// The words and the texts use `alloc`, since the reader of words knows no other allocator; the run uses `heap`.
 pub(crate) fn answer<
-    H: Eprint + Files + Threads + Wait + Sync,
+    H: Clock + Eprint + Files + Threads + Wait + Sync,
     S: AsStr,
     A: Allocator + Copy + Send + Sync,
     R: LookAhead,

@@ -1,10 +1,13 @@
 //! A reader that tells how far it is.
 
-ghost use Rattle.std.specs.Prelude.{◌≡◌, ◌==◌, ◌+◌, ◌-◌, ◌^◌, length, is_some, min, IfSome};
+ghost use Rattle.std.specs.Prelude.{◌≡◌, ◌==◌, ◌+◌, ◌-◌, ◌*◌, ◌/◌, ◌^◌, length, is_some, max, min, IfSome};
+ghost use Rattle.std.specs.Duration.{as_nanos};
 ghost use Rattle.std.specs.List.{count_by};
 
 use std::fmt::{self, Display, Formatter};
 use std::io::{self, Read};
+use std::rt::Clock;
+use std::time::{Duration, Instant};
 
 /// After how many bytes it is told again.
 const STEP: u64 = 65_536;
@@ -67,12 +70,36 @@ impl Display for Progress {
     }
 }
 
-/// A reader that tells on standard error how many lines and bytes it gave, if it is to: over what it told before, each so many bytes, and at its
-/// end. What cannot be written is left out.
+/// How many bytes come in a second, where so many came in that time.
+fn rate_of(bytes: u64, time: Duration) -> u64
+    ensures { result ≡ min (bytes * 1000000000 / max (as_nanos time) 1) (2 ^ 64 - 1) }
+{
+    let rate = u128::from(bytes) * 1_000_000_000 / time.as_nanos().max(1);
+    u64::try_from(rate).unwrap_or(u64::MAX)
+}
+
+/// What was read so far, and how fast.
+#[derive(Clone, Copy)]
+struct Told {
+    progress: Progress,
+    rate: u64,
+}
+
+impl Display for Told {
+    fn fmt<W: fmt::Write>(&self, f: &mut Formatter<W>) -> fmt::Result {
+        let progress = self.progress;
+        let rate = Grouped(self.rate);
+        write!(f, "{progress}, {rate} bytes a second")
+    }
+}
+
+/// A reader that tells on standard error how many lines and bytes it gave, and how fast, if it is to: over what it told before, each so many bytes, and at its
+/// end. What cannot be written is left out, and a time that the clock does not tell counts as none.
 #[derive(Drop)]
 pub(crate) struct Watching<'a, R, H> {
     input: R,
     host: Option<&'a H>,
+    began: Option<Instant>,
     progress: Progress,
     told: u64,
 }
@@ -85,13 +112,14 @@ pub(crate) fn watched_on<H>(host: &H, is_watched: bool) -> Option<&H>
     if is_watched { Some(host) } else { None }
 }
 
-impl<'a, R, H> Watching<'a, R, H> {
+impl<'a, R, H: Clock> Watching<'a, R, H> {
     /// Nothing was read yet.
     pub(crate) fn new(input: R, host: Option<&'a H>) -> Self
         ensures { result.input ≡ input }
     {
         Watching {
             input,
+            began: host.and_then(|host| Instant::now(host).ok()),
             host,
             progress: Progress {
                 lines: 0,
@@ -101,26 +129,45 @@ impl<'a, R, H> Watching<'a, R, H> {
             told: 0,
         }
     }
+
+    /// How long it has been reading.
+    fn time(&self, host: &H) -> Duration {
+        match self.began {
+            Some(began) => began.elapsed(host).unwrap_or(Duration::ZERO),
+            None => Duration::ZERO,
+        }
+    }
 }
 
-impl<'a, R, H: Eprint> Watching<'a, R, H> {
+impl<'a, R, H: Clock + Eprint> Watching<'a, R, H> {
+    /// What was read so far, and how fast.
+    fn so_far(&self, host: &H) -> Told
+        ensures { result.progress ≡ self.now.progress }
+    {
+        Told {
+            progress: self.progress,
+            rate: rate_of(self.progress.bytes, self.time(host)),
+        }
+    }
+
     /// Counts what was read, and tells of it from time to time.
     fn count(&mut self, host: &H, piece: &[u8])
         ensures { self.new.input ≡ self.old.input }
     {
         self.progress.add(piece);
-        let progress = self.progress;
         if piece.is_empty() {
-            let _ = eprint!(host; "\r{progress}\n");
+            let told = self.so_far(host);
+            let _ = eprint!(host; "\r{told}\x1b[K\n");
             self.host = None;
-        } else if progress.bytes.saturating_sub(self.told) >= STEP {
-            let _ = eprint!(host; "\r{progress}");
-            self.told = progress.bytes;
+        } else if self.progress.bytes.saturating_sub(self.told) >= STEP {
+            let told = self.so_far(host);
+            let _ = eprint!(host; "\r{told}\x1b[K");
+            self.told = self.progress.bytes;
         }
     }
 }
 
-impl<'a, R: Read, H: Eprint> Read for Watching<'a, R, H> {
+impl<'a, R: Read, H: Clock + Eprint> Read for Watching<'a, R, H> {
     ghost remaining = { λ w. R.remaining w.input };
 
     fn read(&mut self, buf: &mut [u8]) -> io::Result<usize> {

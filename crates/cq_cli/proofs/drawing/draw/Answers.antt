@@ -1,5 +1,5 @@
 use Rattle.std.proofs.Common.{◌≡◌, ◌∙◌, ℕ, Bool, true, false, List, [], ◌∷◌, length, map, sym, subst}
-use Rattle.std.specs.Prelude.{◌==◌, string_bytes, IfOk}
+use Rattle.std.specs.Prelude.{◌==◌, string_bytes}
 use Rattle.std.proofs.lemmas.Result.{IfOk-weaker}
 use Rattle.cq_board.specs.Pool.{PoolRecord}
 use Rattle.cq_closure.specs.Closure.{is_set}

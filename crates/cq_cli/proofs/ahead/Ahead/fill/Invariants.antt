@@ -12,4 +12,4 @@ invariant-loop-self g l = record {
 }
 
 abbrev pub decreases-loop-self : goal.decreases-loop-self
-decreases-loop-self g l = 3 - length l.self.held
+decreases-loop-self g l = 4096 - length l.self.held
