@@ -2,6 +2,7 @@
 use Rattle.std.specs.Prelude.{◌≡◌, ℕ, ◌-◌, ◌^◌, nat_lt, Bool, true, false, List, [], ◌++◌, take, codes, Option, if◌then◌else◌}
 use Rattle.std.specs.Option.{is_some}
 use Rattle.cq_rel.specs.Tables.{Declaration}
+use Rattle.cq_board.specs.declared.limits.Limits.{Limits}
 use Rattle.cq_render.specs.Report.{line}
 use Rattle.cq_report.specs.declared.fault.RunFault.{RunFault}
 use Rattle.cq_report.specs.declared.fault.RunFault.TheVariants as runs
@@ -41,10 +42,14 @@ pub record IsReplayed (is_strict is_summed : Bool) (numbering : Numbering) (orig
 abbrev pub relations_of : State → List Declaration
 relations_of state = (shown (left_in state).floor).tables.catalog
 
+-- The limits of its board.
+abbrev pub limits_of : State → Limits
+limits_of state = (shown (left_in state).floor).limits
+
 -- What is wrong with the lines that were heard, and the summary.
 pub record IsToldOf (origin : List ℕ) (is_summed : Bool) (script : List ℕ) (state : State) (text : List ℕ) : Type 0 where
   pub whys : List ℕ
-  pub are : AreWhys origin (relations_of state) (begin_state Plain) (take (told_lines state.lines) (lines_of script)) whys
+  pub are : AreWhys origin (limits_of state) (relations_of state) (begin_state Plain) (take (told_lines state.lines) (lines_of script)) whys
   pub is : text ≡ whys ++ summary_if is_summed origin state
 
 -- A script that is read whole is no device: one that is too long is a file that fails.

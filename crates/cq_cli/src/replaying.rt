@@ -165,12 +165,14 @@ fn told_text<A: Allocator + Copy>(
     ensures { IfOk result (λ text. IsToldOf origin.now is_summed script.now ran (string_bytes text)) }
 {
     let played = ran.into_played()?;
+    let board = played.board();
     let mut text = String::new(heap);
     put_whys(
         heap,
         origin,
         told_lines(played.lines()),
-        played.board().tables().catalog(),
+        board.limits(),
+        board.tables().catalog(),
         script,
         &mut text,
     )?;

@@ -1,6 +1,6 @@
 //! Texts that are written of the boards which scripts leave: each once, and with each of its allocations refused in turn.
 
-use cq_board::Board;
+use cq_board::{Board, Limits};
 use cq_devices::{Counted, WholeFault};
 use cq_going::boxed_graph;
 use cq_rel::Catalog;
@@ -226,6 +226,11 @@ impl Tried for Playing {
     }
 }
 
+const LIMITS: Limits = Limits {
+    pool: 9,
+    journal: 9,
+};
+
 /// A word that is no command, a variable in a row, and a relation that is not there, under a `board` line.
 const FAULTY: &[u8] = b"board 2\npubilsh\ninsert T(x)\ndelete U(1)\nwithdraw q";
 
@@ -239,7 +244,7 @@ board: a.board: line 5: no query of this name is pending: withdraw q
 /// Whether these lines tell what is wrong with the script.
 fn is_told<A: Allocator + Copy>(alloc: A, catalog: &Catalog<A>) -> Result<bool, AllocError> {
     let mut page = String::new(alloc);
-    put_whys(alloc, "a.board: ", 5, catalog, FAULTY, &mut page)?;
+    put_whys(alloc, "a.board: ", 5, LIMITS, catalog, FAULTY, &mut page)?;
     Ok(page.as_str() == WHYS)
 }
 

@@ -14,6 +14,7 @@ use Rattle.cq_text.specs.declared.form.Form.{Form}
 use Rattle.cq_text.specs.declared.form.Form.TheVariants.{One, Two}
 use Rattle.cq_near.specs.Alike.{distance}
 use Rattle.cq_render.specs.Explain.{ArePieces}
+use Rattle.cq_board.specs.declared.limits.Limits.{Limits}
 use Rattle.cq_report.specs.Reading.{Reading, Reads, Faulty, IsReading}
 use Rattle.cq_report.specs.Refusals.{refusal}
 use Rattle.cq_report.specs.Machine.{State, form_in, next, staged}
@@ -219,43 +220,60 @@ plain_of_setup why =
     else (if bytes_eq why (codes "CatalogFull") then codes "64 relations are declared, which is the most"
     else why))
 
--- Why a command is refused, likewise.
-abbrev pub plain : List ℕ → List ℕ
-plain why =
-    if bytes_eq why (codes "PoolFull") then codes "as many queries are pending as the limits allow; see limits"
-    else (if bytes_eq why (codes "JournalFull") then codes "the journal has as many entries as the limits allow; see limits"
-    else (if bytes_eq why (codes "NameTaken") then codes "a query of this name is pending"
+-- One query, or several; one entry, or several.
+abbrev pub queries_word : ℕ → List ℕ
+queries_word count = if count == 1 then codes "query is" else codes "queries are"
+
+abbrev pub entries_word : ℕ → List ℕ
+entries_word count = if count == 1 then codes "entry" else codes "entries"
+
+-- So many queries are pending, or entries in the journal, as there may be at most.
+abbrev pub pool_full : ℕ → List ℕ
+pool_full most = decimal most ++ (codes " " ++ (queries_word most ++ codes " pending, which is the limit; see limits"))
+
+abbrev pub journal_full : ℕ → List ℕ
+journal_full most = codes "the journal has " ++ (decimal most ++ (codes " " ++ (entries_word most ++ codes ", which is the limit; see limits")))
+
+-- Why a command is refused, likewise; where a limit is in the way, under these limits.
+abbrev pub plain_command : List ℕ → List ℕ
+plain_command why =
+    if bytes_eq why (codes "NameTaken") then codes "a query of this name is pending"
     else (if bytes_eq why (codes "NoSuchName") then codes "no query of this name is pending"
     else (if bytes_eq why (codes "RowPresent") then codes "the row is there already"
     else (if bytes_eq why (codes "RowAbsent") then codes "there is no such row"
     else (if bytes_eq (take 9 why) (codes "NotAnswer") then codes "heads and postconditions name no relation of the database"
-    else plain_of_setup why))))))
+    else plain_of_setup why))))
+
+abbrev pub plain : Limits → List ℕ → List ℕ
+plain limits why =
+    if bytes_eq why (codes "PoolFull") then pool_full limits.pool
+    else (if bytes_eq why (codes "JournalFull") then journal_full limits.journal else plain_command why)
 
 -- The reply says that a relation is not declared, or has another number of columns.
 abbrev pub is_of_relation : List ℕ → Bool
 is_of_relation why = bytes_eq (take 15 why) (codes "UnknownRelation") || bytes_eq (take 5 why) (codes "Arity")
 
 -- Why a command is refused: for its first misused relation, or in the words of its reply.
-abbrev pub command_words : List Declaration → Option Use → List ℕ → List ℕ
-command_words catalog None why = plain why
-command_words catalog (Some used) why = if is_of_relation why then misuse_words catalog used (arity_in catalog used.0) else plain why
+abbrev pub command_words : Limits → List Declaration → Option Use → List ℕ → List ℕ
+command_words limits catalog None why = plain limits why
+command_words limits catalog (Some used) why = if is_of_relation why then misuse_words catalog used (arity_in catalog used.0) else plain limits why
 
 -- The line that tells of a command, if it is refused.
-abbrev pub command_line : List ℕ → ℕ → List Declaration → Option Use → List ℕ → Option (List ℕ) → List ℕ
-command_line origin number catalog used line None = []
-command_line origin number catalog used line (Some why) =
-    codes "board: " ++ (origin ++ (codes "line " ++ (decimal number ++ (codes ": " ++ (command_words catalog used why ++ (codes ": " ++ (shown (take 40 line) ++ codes "\n")))))))
+abbrev pub command_line : List ℕ → ℕ → Limits → List Declaration → Option Use → List ℕ → Option (List ℕ) → List ℕ
+command_line origin number limits catalog used line None = []
+command_line origin number limits catalog used line (Some why) =
+    codes "board: " ++ (origin ++ (codes "line " ++ (decimal number ++ (codes ": " ++ (command_words limits catalog used why ++ (codes ": " ++ (shown (take 40 line) ++ codes "\n")))))))
 
 -- What is told of a line, by its reading, and why it is refused, where it is.
-abbrev pub IsWhy : List ℕ → ℕ → List Declaration → Form → List ℕ → Option (List ℕ) → Reading → List ℕ → Type 0
-IsWhy origin number catalog form line refused (Reads command) text = text ≡ command_line origin number catalog (misused catalog (uses_of command)) line refused
-IsWhy origin number catalog form line refused (Faulty kind offset) text =
+abbrev pub IsWhy : List ℕ → ℕ → Limits → List Declaration → Form → List ℕ → Option (List ℕ) → Reading → List ℕ → Type 0
+IsWhy origin number limits catalog form line refused (Reads command) text = text ≡ command_line origin number limits catalog (misused catalog (uses_of command)) line refused
+IsWhy origin number limits catalog form line refused (Faulty kind offset) text =
     (words : List ℕ) × IsHint form kind (take offset line) (drop offset line) words × (text ≡ why_line origin number words (take offset line) (drop offset line))
 
--- What is told of lines, over these relations, after others that left this state.
-abbrev pub AreWhys : List ℕ → List Declaration → State → List (List ℕ) → List ℕ → Type 0
-AreWhys origin catalog state [] text = text ≡ []
-AreWhys origin catalog state (line ∷ lines) text =
+-- What is told of lines, under these limits and over these relations, after others that left this state.
+abbrev pub AreWhys : List ℕ → Limits → List Declaration → State → List (List ℕ) → List ℕ → Type 0
+AreWhys origin limits catalog state [] text = text ≡ []
+AreWhys origin limits catalog state (line ∷ lines) text =
     (reading : Reading) × IsReading (form_in state) line reading
-    × (piece : List ℕ) × IsWhy origin (state.lines + 1) catalog (form_in state) line (refusal (staged state.stage state.heading reading).1) reading piece
-    × (rest : List ℕ) × AreWhys origin catalog (next state reading) lines rest × (text ≡ piece ++ rest)
+    × (piece : List ℕ) × IsWhy origin (state.lines + 1) limits catalog (form_in state) line (refusal (staged state.stage state.heading reading).1) reading piece
+    × (rest : List ℕ) × AreWhys origin limits catalog (next state reading) lines rest × (text ≡ piece ++ rest)

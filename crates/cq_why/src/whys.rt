@@ -2,6 +2,7 @@
 
 ghost use Rattle.std.specs.Prelude.{◌≡◌, ◌+◌, ◌<◌, ◌^◌, ◌++◌, [], List, ℕ, Option, take, drop, string_bytes, IfOk, OnOk};
 ghost use Rattle.cq_rel.specs.Tables.{Declaration};
+ghost use Rattle.cq_board.specs.declared.limits.Limits.{Limits};
 ghost use Rattle.cq_report.specs.Lines.{lines_of, HasNoEnd};
 ghost use Rattle.cq_report.specs.declared.numbering.Numbering.TheVariants.{Plain};
 ghost use Rattle.cq_report.specs.Reading.{Reading, Reads, Faulty, IsReading};
@@ -13,6 +14,7 @@ use crate::found::put_excerpt;
 use crate::hint::put_hint;
 use crate::misuse::misused;
 use crate::refused::put_refused;
+use cq_board::Limits;
 use cq_rel::Catalog;
 use cq_report::{Hearing, Refusal, first_line};
 use cq_text::{Form, Kind, TextFault, read_command};
@@ -61,7 +63,7 @@ fn put_faulty<A: Allocator + Copy>(
     offset: usize,
     page: &mut String<A>,
 ) -> Result<(), AllocError>
-    ensures { OnOk result ((catalog : List Declaration) (refused : Option (List ℕ)) → (piece : List ℕ) × IsWhy origin.now number catalog form line.now refused (Faulty kind offset) piece × (string_bytes page.new ≡ string_bytes page.old ++ piece)) }
+    ensures { OnOk result ((limits : Limits) (catalog : List Declaration) (refused : Option (List ℕ)) → (piece : List ℕ) × IsWhy origin.now number limits catalog form line.now refused (Faulty kind offset) piece × (string_bytes page.new ≡ string_bytes page.old ++ piece)) }
 {
     let (front, rest) = parted(line, offset);
     put_why(alloc, origin, number, form, kind, front, rest, page)
@@ -72,18 +74,21 @@ fn put_refusal<A: Allocator + Copy>(
     alloc: A,
     origin: &str,
     number: u64,
+    limits: Limits,
     catalog: &Catalog<A>,
     form: Form,
     line: &[u8],
     refused: Option<Refusal>,
     page: &mut String<A>,
 ) -> Result<(), AllocError>
-    ensures { OnOk result ((reading : Reading) × IsReading form line.now reading × (piece : List ℕ) × IsWhy origin.now number catalog.now form line.now refused reading piece × (string_bytes page.new ≡ string_bytes page.old ++ piece)) }
+    ensures { OnOk result ((reading : Reading) × IsReading form line.now reading × (piece : List ℕ) × IsWhy origin.now number limits catalog.now form line.now refused reading piece × (string_bytes page.new ≡ string_bytes page.old ++ piece)) }
 {
     match read_command(alloc, line, form) {
         Ok(command) => {
             let used = misused(catalog, &command);
-            put_refused(alloc, origin, number, catalog, used, line, refused, page)
+            put_refused(
+                alloc, origin, number, limits, catalog, used, line, refused, page,
+            )
         }
         Err(TextFault::At { kind, offset }) => {
             put_faulty(alloc, origin, number, form, line, kind, offset, page)
@@ -97,17 +102,20 @@ fn put_line<A: Allocator + Copy>(
     alloc: A,
     origin: &str,
     number: u64,
+    limits: Limits,
     catalog: &Catalog<A>,
     hearing: &mut Hearing<A>,
     line: &[u8],
     page: &mut String<A>,
 ) -> Result<(), AllocError>
     requires { hearing.old.lines + 1 ≡ number }
-    ensures { OnOk result ((reading : Reading) × IsReading (form_in hearing.old) line.now reading × (hearing.new ≡ next hearing.old reading) × (piece : List ℕ) × IsWhy origin.now number catalog.now (form_in hearing.old) line.now (refusal (staged hearing.old.stage hearing.old.heading reading).1) reading piece × (string_bytes page.new ≡ string_bytes page.old ++ piece)) }
+    ensures { OnOk result ((reading : Reading) × IsReading (form_in hearing.old) line.now reading × (hearing.new ≡ next hearing.old reading) × (piece : List ℕ) × IsWhy origin.now number limits catalog.now (form_in hearing.old) line.now (refusal (staged hearing.old.stage hearing.old.heading reading).1) reading piece × (string_bytes page.new ≡ string_bytes page.old ++ piece)) }
 {
     let form = hearing.form();
     let refused = hearing.hear(line)?;
-    put_refusal(alloc, origin, number, catalog, form, line, refused, page)
+    put_refusal(
+        alloc, origin, number, limits, catalog, form, line, refused, page,
+    )
 }
 
 /// Puts what is told of the last line, which no LF ends, if there is one.
@@ -115,6 +123,7 @@ fn put_last<A: Allocator + Copy>(
     alloc: A,
     origin: &str,
     number: u64,
+    limits: Limits,
     catalog: &Catalog<A>,
     hearing: &mut Hearing<A>,
     line: &[u8],
@@ -122,16 +131,16 @@ fn put_last<A: Allocator + Copy>(
 ) -> Result<(), AllocError>
     requires end { HasNoEnd line.now }
     requires number { hearing.old.lines + 1 ≡ number }
-    ensures { OnOk result ((text : List ℕ) × AreWhys origin.now catalog.now hearing.old (lines_of line.now) text × (string_bytes page.new ≡ string_bytes page.old ++ text)) }
+    ensures { OnOk result ((text : List ℕ) × AreWhys origin.now limits catalog.now hearing.old (lines_of line.now) text × (string_bytes page.new ≡ string_bytes page.old ++ text)) }
 {
     if line.is_empty() {
         return Ok(());
     }
-    put_line(alloc, origin, number, catalog, hearing, line, page)
+    put_line(alloc, origin, number, limits, catalog, hearing, line, page)
 }
 
 /// Puts a line for each line of a script that is refused, with its number and what is wrong with it, on an empty page: behind `board: ` and the words
-/// that name the script, if any. The relations are those that are declared; they are told of where a row or a body names another one, or gives it another number
+/// that name the script, if any. The limits are told where one is in the way. The relations are those that are declared; they are told of where a row or a body names another one, or gives it another number
 /// of columns.
 ///
 /// No more than the first lines are told of, as many as are given: a strict script ends at its first refused line. The script is heard once more for it, with the
@@ -143,19 +152,38 @@ pub fn put_whys<A: Allocator + Copy>(
     alloc: A,
     origin: &str,
     most: u64,
+    limits: Limits,
     catalog: &Catalog<A>,
     script: &[u8],
     page: &mut String<A>,
 ) -> Result<(), AllocError>
-    ensures { string_bytes page.old ≡ [] → OnOk result (AreWhys origin.now catalog.now (begin_state Plain) (take most (lines_of script.now)) (string_bytes page.new)) }
+    ensures { string_bytes page.old ≡ [] → OnOk result (AreWhys origin.now limits catalog.now (begin_state Plain) (take most (lines_of script.now)) (string_bytes page.new)) }
 {
     let mut hearing = Hearing::begin(alloc);
     let mut rest = script;
     for number in 0..most {
         let Some((line, behind)) = first_line(rest) else {
-            return put_last(alloc, origin, number + 1, catalog, &mut hearing, rest, page);
+            return put_last(
+                alloc,
+                origin,
+                number + 1,
+                limits,
+                catalog,
+                &mut hearing,
+                rest,
+                page,
+            );
         };
-        put_line(alloc, origin, number + 1, catalog, &mut hearing, line, page)?;
+        put_line(
+            alloc,
+            origin,
+            number + 1,
+            limits,
+            catalog,
+            &mut hearing,
+            line,
+            page,
+        )?;
         rest = behind;
     }
     Ok(())

@@ -10,5 +10,5 @@ use Rattle.cq_why.proofs.whys.put_whys.Given as goal
 abbrev pub invariant-loop-number : goal.invariant-loop-number
 invariant-loop-number g l =
     (l.hearing.lines ≡ l.number)
-    × (string_bytes l.initial.page ≡ [] → (text : List ℕ) → AreWhys l.origin l.catalog l.hearing (take (l.most - l.number) (lines_of l.rest)) text
-    → AreWhys l.origin l.catalog (begin_state Plain) (take l.most (lines_of l.script)) (string_bytes l.page ++ text))
+    × (string_bytes l.initial.page ≡ [] → (text : List ℕ) → AreWhys l.origin l.limits l.catalog l.hearing (take (l.most - l.number) (lines_of l.rest)) text
+    → AreWhys l.origin l.limits l.catalog (begin_state Plain) (take l.most (lines_of l.script)) (string_bytes l.page ++ text))
