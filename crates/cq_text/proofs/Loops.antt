@@ -89,6 +89,13 @@ step_done item most front k a b x total n le so_far h = sym so_far ∙ ap (with_
 pub step_room : {A : Type 0} (item : Item A) (most k : ℕ) (a : Ahead) (r : A × Bool × Ahead) → NeedsRoom item → k ≤ most → item (nat_lt k most) a ≡ Ok r → k < most
 step_room item most k a r n le h = elim (cases_lt k most) [ inl lt ↦ lt | inr ge ↦ absurd (n a r (ap (λ (b : Bool). item b a) (sym (le-ltb k most ge)) ∙ h)) ]
 
+-- what a step gives, at the numbers that its test compares
+pub at_numbers : {A : Type 0} (item : Item A) (len max k most : ℕ) (a : Ahead) (r : Result (A × Bool × Ahead) TextFault) → len ≡ k → max ≡ most → item (nat_lt len max) a ≡ r → item (nat_lt k most) a ≡ r
+at_numbers item len max k most a r e f h = sym (ap (λ (n : ℕ). item (nat_lt n max) a) e ∙ ap (λ (n : ℕ). item (nat_lt k n) a) f) ∙ h
+
+pub fails_at_numbers : {A : Type 0} (item : Item A) (d : TextFault) (len max k most : ℕ) (a : Ahead) → len ≡ k → max ≡ most → Fails d (item (nat_lt len max) a) → Fails d (item (nat_lt k most) a)
+fails_at_numbers {A} item d len max k most a e f h = subst (λ (r : Result (A × Bool × Ahead) TextFault). Fails d r) (ap (λ (n : ℕ). item (nat_lt n max) a) e ∙ ap (λ (n : ℕ). item (nat_lt k n) a) f) h
+
 -- no form allows more terms than an atom may have
 pub few_terms_of : (form : Form) (n : ℕ) → n ≤ most_terms form → n ≤ max_arity
 few_terms_of One n le = omega arith

@@ -31,8 +31,11 @@ module _ {X : Type 0} (f : X → List ℕ) where
 more : (o x y s : List ℕ) → s ≡ o ++ x → s ++ y ≡ o ++ (x ++ y)
 more o x y s e = ap (λ z. z ++ y) e ∙ append_assoc o x y
 
+pub three_parts : (o a b c : List ℕ) → ((o ++ a) ++ b) ++ c ≡ o ++ ((a ++ b) ++ c)
+three_parts o a b c = more o (a ++ b) c ((o ++ a) ++ b) (append_assoc o a b)
+
 pub four_parts : (o a b c d : List ℕ) → (((o ++ a) ++ b) ++ c) ++ d ≡ o ++ (((a ++ b) ++ c) ++ d)
-four_parts o a b c d = more o ((a ++ b) ++ c) d (((o ++ a) ++ b) ++ c) (more o (a ++ b) c ((o ++ a) ++ b) (append_assoc o a b))
+four_parts o a b c d = more o ((a ++ b) ++ c) d (((o ++ a) ++ b) ++ c) (three_parts o a b c)
 
 pub six_parts : (o a b c d e f : List ℕ) → (((((o ++ a) ++ b) ++ c) ++ d) ++ e) ++ f ≡ o ++ (((((a ++ b) ++ c) ++ d) ++ e) ++ f)
 six_parts o a b c d e f =
