@@ -46,6 +46,7 @@ end_line = line (codes "end")
 abbrev pub row_count : TablesRecord → ℕ
 row_count tables = fold (λ count declared. count + length (rows_in declared.relation tables)) 0 tables.catalog
 
+-- The queries of a pool, those that are matched, the others, and the rows.
 abbrev pub pool_counts : PoolRecord → List ℕ
 pool_counts pool =
     codes "queries " ++ decimal (length pool.pending) ++ codes " matched " ++ decimal (length (matched_names pool)) ++ codes " waiting " ++ decimal (length pool.pending - length (matched_names pool))
@@ -58,9 +59,11 @@ count_line floor =
 
 -- ---- names
 
+-- How a query of that name stands, in a line: matched, waiting or absent.
 abbrev pub status_line : PoolRecord → List ℕ → List ℕ
 status_line pool name = line (name ++ codes " " ++ standing_word (matched_named name pool))
 
+-- Where no query is pending under the name, a line that says so.
 abbrev pub absent_line : List ℕ → Option Bool → List ℕ
 absent_line name None = line (name ++ codes " is absent")
 absent_line name (Some matched) = []
@@ -88,6 +91,7 @@ change_words (Some true) (Some false) = Some (codes "turned waiting")
 change_words (Some false) (Some true) = Some (codes "turned matched")
 change_words before now = None
 
+-- A change of a query in a line, where there is one.
 abbrev pub change_line : List ℕ → Option (List ℕ) → List ℕ
 change_line name None = []
 change_line name (Some words) = line (name ++ codes " " ++ words)
@@ -128,6 +132,7 @@ IsVerdict pool words (Some true) = (0 < length words) × AreCoordinating pool wo
 IsVerdict pool words (Some false) = (0 < length words) × AreNotCoordinating pool words
 IsVerdict pool words None = (words ≡ []) ⊎ StandForNone words
 
+-- The verdict in words.
 abbrev pub verdict_line : Option Bool → List ℕ
 verdict_line (Some true) = line (codes "coordinating")
 verdict_line (Some false) = line (codes "not coordinating")

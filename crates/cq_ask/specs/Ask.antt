@@ -66,6 +66,7 @@ small_number _ = None
 abbrev pub post_of : List ℕ → Option ℕ
 post_of word = small_number (value_of_field word)
 
+-- What is asked by `near` of a name and the number of a postcondition, where the word was one.
 abbrev pub near_asked : Option ℕ → List ℕ → AskRecord
 near_asked None name = unfit
 near_asked (Some post) name = asked_of_names (Near post) (name ∷ [])

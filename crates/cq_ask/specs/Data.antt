@@ -47,6 +47,7 @@ change_word (Some true) (Some false) = Some (codes "turned")
 change_word (Some false) (Some true) = Some (codes "turned")
 change_word before now = None
 
+-- A change of a query, where there is one.
 abbrev pub changed_json : PoolRecord → List ℕ → Option (List ℕ) → List Json
 changed_json now name None = []
 changed_json now name (Some word) = change_json now name word ∷ []

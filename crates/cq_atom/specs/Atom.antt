@@ -18,10 +18,12 @@ abbrev pub is_term : TermContent → Bool
 is_term (Constant v) = true
 is_term (Variable x) = is_variable_name x
 
+-- The value that a term is, where it is a constant.
 abbrev pub constant_of : TermContent → Option ValueContent
 constant_of (Constant v) = Some v
 constant_of (Variable x) = None
 
+-- The name that a term is, where it is a variable.
 abbrev pub variable_of : TermContent → Option (List ℕ)
 variable_of (Constant v) = None
 variable_of (Variable x) = Some x

@@ -57,13 +57,16 @@ abbrev pub first_unbound : Part → List AtomRecord → ℕ → List AtomRecord 
 first_unbound part body i [] = None
 first_unbound part body i (a ∷ rest) = elim (unbound_term body a) [ None ↦ first_unbound part body (i + 1) rest | Some t ↦ Some (Unbound part i t) ]
 
+-- The first of two faults, where there is one.
 abbrev pub or_else : Option Bad → Option Bad → Option Bad
 or_else None o = o
 or_else (Some b) o = Some b
 
+-- A part of a query has at most 16 atoms.
 abbrev pub too_many : Part → List AtomRecord → Option Bad
 too_many part atoms = if nat_le (length atoms) max_atoms then None else Some (TooMany part)
 
+-- A query has a head.
 abbrev pub no_head : List AtomRecord → Option Bad
 no_head [] = Some NoHead
 no_head (a ∷ rest) = None

@@ -9,6 +9,7 @@ use Rattle.cq_atom.specs.Limits.{max_name, max_text}
 abbrev pub is_word_byte : ℕ → Bool
 is_word_byte b = is_ascii_alphanumeric b || nat_eq b 95
 
+-- The first byte is a letter.
 abbrev pub begins_with_letter : List ℕ → Bool
 begins_with_letter [] = false
 begins_with_letter (b ∷ bs) = is_ascii_alphabetic b
@@ -17,10 +18,12 @@ begins_with_letter (b ∷ bs) = is_ascii_alphabetic b
 abbrev pub is_name : List ℕ → Bool
 is_name bs = begins_with_letter bs && (nat_le (length bs) max_name && list_all is_word_byte bs)
 
+-- The first byte is a lower-case letter.
 abbrev pub begins_with_lower : List ℕ → Bool
 begins_with_lower [] = false
 begins_with_lower (b ∷ bs) = is_ascii_lowercase b
 
+-- The first byte is an upper-case letter.
 abbrev pub begins_with_upper : List ℕ → Bool
 begins_with_upper [] = false
 begins_with_upper (b ∷ bs) = is_ascii_uppercase b

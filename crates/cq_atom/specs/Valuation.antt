@@ -15,6 +15,7 @@ Bindings = List (List ℕ × ValueContent)
 abbrev pub value_at : Bindings → List ℕ → Option ValueContent
 value_at v x = lookup (bytes_eq x) v
 
+-- A variable by the value that is known of it, where one is.
 abbrev pub constant_or : Option ValueContent → List ℕ → TermContent
 constant_or None x = Variable x
 constant_or (Some c) x = Constant c

@@ -51,6 +51,7 @@ pub record BoardRecord : Type 0 where
   pub matched : List ℕ
   pub groundings : List (List (List ValueContent))
 
+-- The board of a pool: all four from its queries and rows alone.
 abbrev pub board_of : PoolRecord → BoardRecord
 board_of pool = record { edges = edges_of pool.pending; crowded = crowded_of pool.pending; matched = matched_of pool; groundings = all_groundings pool }
 
@@ -60,6 +61,7 @@ name_at pending place = option_map (λ p. p.name) (slice_get pending place)
 
 -- ---- edges by names
 
+-- A name, or no byte where there is none.
 abbrev pub name_or_none : Option (List ℕ) → List ℕ
 name_or_none None = []
 name_or_none (Some name) = name

@@ -14,6 +14,7 @@ use Rattle.cq_board.specs.Edits.{why, edited}
 abbrev pub scratch_edits : List (List ℕ × QueryRecord) → List RowRecord → List Edit
 scratch_edits queries rows = map Insert rows ++ map (λ q. Post q.0 q.1) queries
 
+-- The refusal, where there is one, else what is made.
 abbrev pub or_refused : Option Why → Result PoolRecord Why → Result PoolRecord Why
 or_refused None made = made
 or_refused (Some reason) made = Err reason

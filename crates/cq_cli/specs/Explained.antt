@@ -15,6 +15,7 @@ absent_names pool names = filter (λ name. not (is_some (state_of pool name))) n
 abbrev pub absent_line : List ℕ → List ℕ
 absent_line name = codes "board: no pending query " ++ name ++ codes "\n"
 
+-- A line for each such name.
 abbrev pub absent_lines : PoolRecord → List (List ℕ) → List ℕ
 absent_lines pool names = flat_map absent_line (absent_names pool names)
 

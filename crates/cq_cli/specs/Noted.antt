@@ -27,5 +27,6 @@ IsNotedBy (Some query) (Some groundings) choice note =
 IsNotedBy (Some query) None choice note = ⊥
 IsNotedBy None groundings choice note = note ≡ absent_line choice.name
 
+-- What is told of a choice over a pool.
 abbrev pub IsNoted : PoolRecord → ChoiceRecord → List ℕ → Type 0
 IsNoted pool choice note = IsNotedBy (query_named choice.name pool.pending) (groundings_named choice.name pool) choice note

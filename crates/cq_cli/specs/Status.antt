@@ -39,6 +39,7 @@ status_of_run (runs.Read turn) = Failed
 status_of_run runs.Write = Failed
 status_of_run runs.NoMemory = NoMemory
 
+-- The same of a board that answers on and on.
 abbrev pub status_of_live : LiveFault → Status
 status_of_live (lives.Read turn) = Failed
 status_of_live lives.Write = Failed

@@ -105,6 +105,7 @@ IfOfCall (Width line index fields) P = Unit {0}
 IfOfCall (Text line index field flaw) P = Unit {0}
 IfOfCall NoMemory P = Unit {0}
 
+-- What is known of a fault of the device, by its turn.
 abbrev pub IfOfDevice : CsvFault → (ℕ → Type 0) → Type 0
 IfOfDevice BadName P = Unit {0}
 IfOfDevice BadArity P = Unit {0}
@@ -113,6 +114,7 @@ IfOfDevice (Width line index fields) P = Unit {0}
 IfOfDevice (Text line index field flaw) P = Unit {0}
 IfOfDevice NoMemory P = Unit {0}
 
+-- What is known of a fault of a record.
 abbrev pub IfOfRecord : CsvFault → Type 0 → Type 0
 IfOfRecord BadName P = Unit {0}
 IfOfRecord BadArity P = Unit {0}

@@ -1,19 +1,15 @@
 -- The first atom of a body that no row fits, and the row that is nearest to it. (this project's profile)
-use Rattle.std.specs.Prelude.{ℕ, Bool, false, not, nat_lt, List, [], ◌∷◌, length, map, filter, zip, fold, if◌then◌else◌, Option, Some, None}
-use Rattle.std.specs.List.{slice_get, list_all, list_any, position}
-use Rattle.std.specs.Option.{option_map_or, option_and_then}
-use Rattle.std.specs.Str.{bytes_eq}
+use Rattle.std.specs.Prelude.{ℕ, Bool, false, not, nat_lt, List, [], length, map, filter, zip, fold, if◌then◌else◌, Option, Some, None}
+use Rattle.std.specs.List.{slice_get, list_all, list_any, position, find}
+use Rattle.std.specs.Option.{option_map, option_map_or, option_and_then}
 use Rattle.std.specs.Ordering.{is_eq}
 use Rattle.cq_atom.specs.declared.term.TermKind.TheVariants.{Constant, Variable}
 use Rattle.cq_atom.specs.Value.{ValueContent}
-use Rattle.cq_atom.specs.Atom.{TermContent, AtomRecord, RowRecord, constant_of, variable_of}
+use Rattle.cq_atom.specs.Atom.{TermContent, AtomRecord, RowRecord, constant_of}
+use Rattle.cq_atom.specs.Query.{is_variable}
 use Rattle.cq_rel.specs.Tables.{TablesRecord, value_order, rows_in}
 use Rattle.cq_near.specs.declared.unfit.Unfit.{Unfit}
 use Rattle.cq_near.specs.Alike.{apart}
-
--- The term is the variable of that name.
-abbrev pub is_variable : List ℕ → TermContent → Bool
-is_variable name term = option_map_or (bytes_eq name) (variable_of term) false
 
 -- The value at the first place of a variable.
 abbrev pub first_value : List TermContent → List ValueContent → List ℕ → Option ValueContent
@@ -61,8 +57,7 @@ lack tables atom =
 
 -- The first atom of the body that no row fits, if there is one.
 abbrev pub first_unfit : TablesRecord → List AtomRecord → Option (Unfit AtomRecord (List ValueContent))
-first_unfit tables [] = None
-first_unfit tables (atom ∷ atoms) = if is_found tables atom then first_unfit tables atoms else Some (lack tables atom)
+first_unfit tables body = option_map (lack tables) (find (λ atom. not (is_found tables atom)) body)
 
 -- The same, with the atom and the values read.
 abbrev pub unfit_read : {T V : Type 0} → (T → AtomRecord) → (V → List ValueContent) → Unfit T V → Unfit AtomRecord (List ValueContent)

@@ -27,6 +27,7 @@ abbrev pub box : ℕ → List ℕ → Bool → List ℕ
 box place name matched =
     statement (codes "q" ++ decimal place ++ codes " [label=\"" ++ name ++ codes "\\n" ++ state_word matched ++ codes "\", shape=box" ++ border matched ++ codes "]")
 
+-- The box of a query of a pool, with its place.
 abbrev pub query_box : PoolRecord → ℕ × PendingQuery → List ℕ
 query_box pool (place, posted) = box place posted.name (is_matched_at pool place)
 

@@ -24,6 +24,7 @@ abbrev pub items : List Json → Items
 items [] = no_items
 items (j ∷ js) = item j (items js)
 
+-- An array of these, as JSON.
 abbrev pub array_of : List Json → Json
 array_of js = array (items js)
 
@@ -32,6 +33,7 @@ abbrev pub members : List (List ℕ × Json) → Members
 members [] = no_members
 members (m ∷ ms) = member m.0 m.1 (members ms)
 
+-- An object of these members, as JSON.
 abbrev pub object_of : List (List ℕ × Json) → Json
 object_of ms = object (members ms)
 
@@ -58,6 +60,7 @@ term_json (Constant value) = object_of ((constant_word value, value_json value) 
 abbrev pub atom_members : AtomRecord → List (List ℕ × Json)
 atom_members atom = (codes "relation", string atom.relation) ∷ (codes "terms", array_of (map term_json atom.terms)) ∷ []
 
+-- An atom as an object.
 abbrev pub atom_json : AtomRecord → Json
 atom_json atom = object_of (atom_members atom)
 

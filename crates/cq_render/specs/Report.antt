@@ -27,9 +27,11 @@ relation_line tables declared =
 abbrev pub state_word : Bool → List ℕ
 state_word matched = if matched then codes "matched" else codes "waiting"
 
+-- The name of a query, and whether it is matched.
 abbrev pub name_line : List ℕ → Bool → List ℕ
 name_line name matched = line (codes "query " ++ name ++ codes " " ++ state_word matched)
 
+-- The text of a query.
 abbrev pub text_line : QueryRecord → List ℕ
 text_line query = line (codes "  text " ++ printed_query query)
 
@@ -37,6 +39,7 @@ text_line query = line (codes "  text " ++ printed_query query)
 abbrev pub provider_line : List PendingQuery → Edge → List ℕ
 provider_line pending edge = line (codes "    " ++ name_or_none (name_at pending edge.provider) ++ codes " head " ++ decimal edge.head)
 
+-- Behind the number of providers, whether they are a crowd.
 abbrev pub crowd_word : ℕ → List ℕ
 crowd_word count = if is_crowd count then codes " crowded" else []
 

@@ -55,6 +55,7 @@ pub record State : Type 0 where
 abbrev pub begin_setup : SetupRecord
 begin_setup = record { catalog = []; limits = record { pool = pool_limit; journal = journal_limit } }
 
+-- A script begins with its setup.
 abbrev pub begin_stage : Staged
 begin_stage = Setup begin_setup
 

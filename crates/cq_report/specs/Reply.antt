@@ -28,6 +28,7 @@ pub data Told : Type 0 where
 
 -- ---- in words
 
+-- The kind of a fault of text, by its name.
 abbrev pub kind_word : Kind → List ℕ
 kind_word kinds.Token = codes "Token"
 kind_word kinds.Text = codes "Text"
@@ -44,6 +45,7 @@ refused_line words = line (codes "refused " ++ words)
 abbrev pub fault_words : Kind → ℕ → List ℕ
 fault_words kind offset = kind_word kind ++ codes " at " ++ decimal offset
 
+-- A fault of text as a refusal.
 abbrev pub fault_line : Kind → ℕ → List ℕ
 fault_line kind offset = refused_line (fault_words kind offset)
 
@@ -69,6 +71,7 @@ prepared_line Accepted = ok_line
 prepared_line Late = late_line
 prepared_line (Undeclared fault) = refused_line (catalog_word fault)
 
+-- A part of a query, by its name.
 abbrev pub part_word : Part → List ℕ
 part_word Posts = codes "posts"
 part_word Heads = codes "heads"
@@ -85,6 +88,7 @@ why_words NoSuchName = codes "NoSuchName"
 why_words RowPresent = codes "RowPresent"
 why_words RowAbsent = codes "RowAbsent"
 
+-- An edit is accepted, as the journal's entry of that number.
 abbrev pub entered_line : ℕ → List ℕ
 entered_line n = line (codes "ok " ++ decimal n)
 
@@ -94,12 +98,15 @@ reply_line (Entered number) = entered_line number
 reply_line JournalFull = refused_line (codes "JournalFull")
 reply_line (Not reason) = refused_line (why_words reason)
 
+-- So many entries are published.
 abbrev pub published_line : ℕ → List ℕ
 published_line p = line (codes "published " ++ decimal p)
 
+-- The first line of what a look shows: how many entries are published.
 abbrev pub show_line : ℕ → List ℕ
 show_line p = line (codes "show " ++ decimal p)
 
+-- The last line of what a look shows.
 abbrev pub end_line : List ℕ
 end_line = line (codes "end")
 

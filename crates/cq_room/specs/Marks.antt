@@ -24,9 +24,11 @@ cut_at es [] = []
 cut_at es (Entered e ∷ marks) = cut_at (es ++ e ∷ []) marks
 cut_at es (Cut ∷ marks) = es ∷ cut_at [] marks
 
+-- The publications of a room, by its marks from the first one.
 abbrev pub publications : {E : Type 0} → List (Mark E) → History (Entry E)
 publications marks = cut_at [] marks
 
+-- The entries that no publication has yet.
 abbrev pub fresh_in : {E : Type 0} → List (Mark E) → List (Entry E)
 fresh_in marks = behind [] marks
 

@@ -27,9 +27,11 @@ abbrev pub entries_from : ℕ → List (Entry Edit) → List ℕ
 entries_from number [] = []
 entries_from number (entry ∷ entries) = entry_lines number entry ++ entries_from (number + 1) entries
 
+-- The line that declares a relation.
 abbrev pub declaration_line : Declaration → List ℕ
 declaration_line declared = line (codes "relation " ++ declared.relation ++ codes " " ++ decimal declared.arity)
 
+-- The line that sets the limits.
 abbrev pub limits_line : Limits → List ℕ
 limits_line limits = line (codes "limits " ++ decimal limits.pool ++ codes " " ++ decimal limits.journal)
 

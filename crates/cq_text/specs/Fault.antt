@@ -52,6 +52,7 @@ pub record Place : Type 0 where
   pub atoms : ℕ
   pub most : Option ℕ
 
+-- At the front of a text nothing was read, and no number is a count.
 abbrev pub opening : Place
 opening = record { commas = 0; atoms = 0; most = None }
 
@@ -66,6 +67,7 @@ module _ (form : Form) where
   abbrev pub most_behind : List ℕ → Option ℕ → Option ℕ
   most_behind w most = if bytes_eq w (codes "relation") then Some (most_terms form) else (if bytes_eq w (codes "limits") then Some max_count else (if bytes_eq w (codes "board") then Some max_form else most))
 
+  -- Where the reader is after one token more.
   abbrev pub behind_token : Place → TokenContent → Place
   behind_token p (Mark Comma) = record { commas = p.commas + 1; atoms = p.atoms; most = None }
   behind_token p (Mark OpenParen) = record { commas = 0; atoms = p.atoms; most = None }
@@ -74,6 +76,7 @@ module _ (form : Form) where
   behind_token p (Word w) = record { commas = p.commas; atoms = p.atoms; most = most_behind w p.most }
   behind_token p _ = p
 
+  -- Where the reader is after these tokens.
   unfoldable pub place_behind : List TokenContent → Place
   place_behind ts = fold behind_token opening ts
 
@@ -83,6 +86,7 @@ module _ (form : Form) where
   is_over p (Literal v) = nat_le (most_terms form) p.commas || is_out_of_range p.most v
   is_over p _ = false
 
+  -- The token is over a limit after those before it.
   abbrev pub IsOver : List TokenContent → TokenContent → Type 0
   IsOver before t = IsTrue (is_over (place_behind before) t)
 
@@ -114,6 +118,7 @@ abbrev pub first_unbound_at : List AtomRecord → List LexemeContent → Option 
 first_unbound_at body [] = None
 first_unbound_at body (l ∷ ls) = if is_unbound body l.token then Some l.at else first_unbound_at body ls
 
+-- An opening brace.
 abbrev pub is_brace : TokenContent → Bool
 is_brace (Mark OpenBrace) = true
 is_brace _ = false
@@ -138,6 +143,7 @@ module _ (form : Form) where
   abbrev pub UnboundInCommand : List LexemeContent → ℕ → Type 0
   UnboundInCommand ls offset = (name : List ℕ) × (query : QueryRecord) × FitsGrammar form ls (Edit (Post name query)) × IsUnboundAt ls query offset
 
+  -- A text of a query fits the grammar and its limits, and has an unbound variable.
   abbrev pub UnboundInQuery : List LexemeContent → ℕ → Type 0
   UnboundInQuery ls offset = (query : QueryRecord) × FitsQueryGrammar form ls query × IsUnboundAt ls query offset
 

@@ -47,6 +47,7 @@ IsTermText ts (Variable x) = (ts ≡ Word x ∷ []) × IsTrue (begins_with_lower
 abbrev pub Applied : {A : Type 0} → (List TokenContent → A → Type 0) → List TokenContent → List ℕ → List A → Type 0
 Applied P ts relation items = (inner : List TokenContent) × (ts ≡ Word relation ∷ Mark OpenParen ∷ (inner ++ (Mark CloseParen ∷ []))) × IsTrue (begins_with_upper relation) × Separated P inner items
 
+-- An atom: terms in brackets.
 abbrev pub IsAtomText : List TokenContent → AtomRecord → Type 0
 IsAtomText ts atom = Applied IsTermText ts atom.relation atom.terms
 
@@ -90,13 +91,16 @@ abbrev pub IsShort : TokenContent → Type 0
 IsShort (Word w) = length w ≤ max_name
 IsShort _ = Unit {0}
 
+-- An atom has no more terms than the form allows.
 abbrev pub FewTerms : (form : Form) → AtomRecord → Type 0
 FewTerms form atom = length atom.terms ≤ most_terms form
 
+-- No part of a query has more atoms than the form allows, and no atom too many terms.
 abbrev pub FitsQuery : (form : Form) → QueryRecord → Type 0
 FitsQuery form query = (length query.posts ≤ most_atoms form) × (length query.heads ≤ most_atoms form) × (length query.body ≤ most_atoms form)
     × AllByRecursion (FewTerms form) query.posts × AllByRecursion (FewTerms form) query.heads × AllByRecursion (FewTerms form) query.body
 
+-- The numbers of a command are in their range, and its query or row within the limits of the form.
 abbrev pub FitsCommand : (form : Form) → CommandContent → Type 0
 FitsCommand form (Setup (Relation name arity)) = (1 ≤ arity) × (arity ≤ most_terms form)
 FitsCommand form (Setup (Limits pool journal)) = (1 ≤ pool) × (pool ≤ max_count) × (1 ≤ journal) × (journal ≤ max_count)
@@ -111,9 +115,11 @@ FitsCommand form _ = Unit {0}
 abbrev pub AreBound : List AtomRecord → List AtomRecord → Type 0
 AreBound body atoms = AllByRecursion (λ a. AllByRecursion (λ t. IsTrue (is_bound body t)) a.terms) atoms
 
+-- Each variable of the postconditions and the heads is in the body.
 abbrev pub IsRestricted : QueryRecord → Type 0
 IsRestricted query = AreBound query.body query.posts × AreBound query.body query.heads
 
+-- A posting has such a query.
 abbrev pub IsRestrictedCommand : CommandContent → Type 0
 IsRestrictedCommand (Edit (Post name query)) = IsRestricted query
 IsRestrictedCommand _ = Unit {0}

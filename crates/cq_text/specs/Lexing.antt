@@ -49,6 +49,7 @@ content [] = None
 content (b ∷ []) = if b == 34 then Some ([], 1) else None
 content (b ∷ c ∷ bs) = if b == 34 then Some ([], 1) else (if b == 92 then (if (c == 34) || (c == 92) then behind c 2 (content bs) else None) else behind b 1 (content (c ∷ bs)))
 
+-- A quoted text, by what stands between its quotes, where they are closed.
 abbrev pub quoted_token : Option (List ℕ × ℕ) → TokenContent × ℕ
 quoted_token None = (Bad kinds.Text, 1)
 quoted_token (Some c) = if is_text c.0 then (Literal (Text c.0), c.1 + 1) else (Bad kinds.Text, 1)
@@ -88,5 +89,6 @@ lexemes (suc skip) at (b ∷ bs) = lexemes skip (at + 1) bs
 lexemes zero at (b ∷ bs) =
     if is_space b then lexemes 0 (at + 1) bs else record { at = at; token = (front b bs).0 } ∷ lexemes ((front b bs).1 - 1) (at + 1) bs
 
+-- The lexemes of a whole text.
 abbrev pub lexemes_of : List ℕ → List LexemeContent
 lexemes_of text = lexemes 0 0 text

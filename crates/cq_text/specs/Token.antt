@@ -16,6 +16,7 @@ TokenContent = Token (List ℕ) ValueContent
 abbrev pub LexemeContent : Type 0
 LexemeContent = Lexeme (List ℕ) ValueContent
 
+-- The tokens alone.
 abbrev pub tokens_of : List LexemeContent → List TokenContent
 tokens_of ls = map (λ l. l.token) ls
 

@@ -224,6 +224,7 @@ plain_of_setup why =
 abbrev pub queries_word : ℕ → List ℕ
 queries_word count = if count == 1 then codes "query is" else codes "queries are"
 
+-- One entry, or several.
 abbrev pub entries_word : ℕ → List ℕ
 entries_word count = if count == 1 then codes "entry" else codes "entries"
 
@@ -231,6 +232,7 @@ entries_word count = if count == 1 then codes "entry" else codes "entries"
 abbrev pub pool_full : ℕ → List ℕ
 pool_full most = decimal most ++ (codes " " ++ (queries_word most ++ codes " pending, which is the limit; see limits"))
 
+-- So many entries are in the journal as there may be at most.
 abbrev pub journal_full : ℕ → List ℕ
 journal_full most = codes "the journal has " ++ (decimal most ++ (codes " " ++ (entries_word most ++ codes ", which is the limit; see limits")))
 
@@ -244,6 +246,7 @@ plain_command why =
     else (if bytes_eq (take 9 why) (codes "NotAnswer") then codes "heads and postconditions name no relation of the database"
     else plain_of_setup why))))
 
+-- Why a command is refused, in plainer words, where there are any; where a limit is in the way, under these limits.
 abbrev pub plain : Limits → List ℕ → List ℕ
 plain limits why =
     if bytes_eq why (codes "PoolFull") then pool_full limits.pool
