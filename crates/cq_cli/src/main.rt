@@ -62,9 +62,12 @@ fn is_live<A: Allocator>(words: &[String<A>]) -> bool {
     }
 }
 
-/// Whether the words ask to be told how much of a script was read.
+/// Whether the words ask to be told how much of a script was read. Behind `--` stand names and files, whatever they look like.
 fn is_watched<A: Allocator>(words: &[String<A>]) -> bool {
-    words.iter().any(|word| word.as_str() == "--progress")
+    words
+        .iter()
+        .take_while(|word| word.as_str() != "--")
+        .any(|word| word.as_str() == "--progress")
 }
 
 fn main(rt: HostRuntime) -> ExitCode {
