@@ -1,4 +1,5 @@
 pub mod CallerLemmas
+pub mod Picked
 pub mod Pieces
 pub mod Left
 pub mod Looked

@@ -152,6 +152,30 @@ fn unlink<A: Allocator + Copy>(links: &mut Links<A>, grounded: &GroundedQueries<
     }
 }
 
+/// Names and a graph of equal content.
+fn copy_seats<A: Allocator + Copy>(
+    roster: &Roster<A>,
+    matcher: &Matcher<A>,
+) -> Result<(Roster<A>, Matcher<A>), AllocError>
+    ensures { IfOk result (λ copy. (copy.0 ≡ roster.now) × (copy.1 ≡ matcher.now)) }
+{
+    let roster = roster.copy()?;
+    let matcher = matcher.copy()?;
+    Ok((roster, matcher))
+}
+
+/// Queries and atoms of equal content.
+fn copy_queries<A: Allocator + Copy>(
+    grounded: &GroundedQueries<A>,
+    links: &Links<A>,
+) -> Result<(GroundedQueries<A>, Links<A>), AllocError>
+    ensures { IfOk result (λ copy. (copy.0 ≡ grounded.now) × (copy.1 ≡ links.now)) }
+{
+    let grounded = grounded.copy()?;
+    let links = links.copy()?;
+    Ok((grounded, links))
+}
+
 impl<A: Allocator + Copy> Stores<A> {
     /// Stores without queries.
     pub(crate) fn begin(alloc: A) -> Stores<A>
@@ -169,10 +193,8 @@ impl<A: Allocator + Copy> Stores<A> {
     pub(crate) fn copy(&self) -> Result<Stores<A>, AllocError>
         ensures { IfOk result (λ copy. copy ≡ self.now) }
     {
-        let roster = self.roster.copy()?;
-        let grounded = self.grounded.copy()?;
-        let links = self.links.copy()?;
-        let matcher = self.matcher.copy()?;
+        let (roster, matcher) = copy_seats(&self.roster, &self.matcher)?;
+        let (grounded, links) = copy_queries(&self.grounded, &self.links)?;
         Ok(Stores {
             roster,
             grounded,

@@ -1,4 +1,5 @@
-use Rattle.std.proofs.Common.{◌≡◌, ℕ, ◌+◌, ◌≤◌, if◌then◌else◌, Bool, get_or, take, ap, sym, ◌∙◌, arith}
+use Rattle.std.proofs.Common.{◌≡◌, ℕ, ◌+◌, ◌<◌, ◌≤◌, if◌then◌else◌, Bool, get_or, take, ap, sym, subst, ◌∙◌, arith}
+use Rattle.std.proofs.lemmas.List.{take_all}
 use Rattle.cq_atom.specs.Atom.{TermContent}
 use Rattle.cq_board.specs.Near.{differ, differences}
 use Rattle.cq_board.proofs.Missing.{differences_more, counts_one, counts_none}
@@ -29,3 +30,16 @@ loop-place-preserved g c =
           ∙ sym (differences_more head wanted i s t c.loop-place-test.true c.requires);
       few = let few_before = c.loop-place.invariant.few in omega arith;
     }
+
+pub bounds-wanted-place : goal.bounds-wanted-place
+bounds-wanted-place g c = subst (λ (n : ℕ). c.loop-place.place < n) c.requires c.loop-place-test.true
+
+pub offset_bounds-wanted-place : goal.offset_bounds-wanted-place
+offset_bounds-wanted-place g c = subst (λ (n : ℕ). c.loop-place.place ≤ n) c.requires c.loop-place.auto.place-end
+
+pub returns : goal.returns
+returns g c =
+    let i = c.loop-place.place in
+    let head = take_all i c.args.head.now c.loop-place-test.false in
+    let wanted = take_all i c.args.wanted.now (subst (λ (n : ℕ). n ≤ i) c.requires c.loop-place-test.false) in
+    c.loop-place.invariant.so_far ∙ (λ k. differences (head k) (wanted k))

@@ -67,3 +67,39 @@ returns-clause-err_links g c =
           ∙ remove-inserted c.args.links.now c.args.place (free-links _ s.0 s.2 c.args.place s.3) (ends_of c.args.query.now))
       | else-is_err w ↦ succeeded c.seat-seated.result (c.if-is_err.links ≡ c.args.links.now) (sym c.is_err.ensures.value ∙ w.if-is_err.false)
     ]
+
+pub returns-in_err-edges-clause-seated : goal.returns-in_err-edges-clause-seated
+returns-in_err-edges-clause-seated g c = failed c.from_residual.result _ c.from_residual.ensures.0
+
+pub returns-in_err-edges-clause-linked : goal.returns-in_err-edges-clause-linked
+returns-in_err-edges-clause-linked g c = failed c.from_residual.result _ c.from_residual.ensures.0
+
+pub returns-in_err-edges-clause-node : goal.returns-in_err-edges-clause-node
+returns-in_err-edges-clause-node g c = failed c.from_residual.result _ c.from_residual.ensures.0
+
+pub returns-in_err-edges-clause-others : goal.returns-in_err-edges-clause-others
+returns-in_err-edges-clause-others g c = failed c.from_residual.result _ c.from_residual.ensures.0
+
+pub returns-in_err-edges-clause-edges : goal.returns-in_err-edges-clause-edges
+returns-in_err-edges-clause-edges g c = failed c.from_residual.result _ c.from_residual.ensures.0
+
+pub returns-in_err-edges-clause-matched : goal.returns-in_err-edges-clause-matched
+returns-in_err-edges-clause-matched g c = failed c.from_residual.result _ c.from_residual.ensures.0
+
+pub returns-in_err-edges-clause-ticks : goal.returns-in_err-edges-clause-ticks
+returns-in_err-edges-clause-ticks g c = failed c.from_residual.result _ c.from_residual.ensures.0
+
+pub returns-clause-seated : goal.returns-clause-seated
+returns-clause-seated g c = c.seat-seated.ensures.seated
+
+pub returns-clause-others : goal.returns-clause-others
+returns-clause-others g c = c.seat-seated.ensures.others
+
+pub returns-clause-matched : goal.returns-clause-matched
+returns-clause-matched g c = c.seat-seated.ensures.matched
+
+pub returns-clause-err_roster : goal.returns-clause-err_roster
+returns-clause-err_roster g c = c.seat-seated.ensures.err_roster
+
+pub returns-clause-err_matcher : goal.returns-clause-err_matcher
+returns-clause-err_matcher g c = c.seat-seated.ensures.err_matcher

@@ -4,6 +4,8 @@ use Rattle.cq_board.proofs.stores.Stores.copy.Goals as goal
 
 pub returns : goal.returns
 returns g c =
-    same-content (record { seats = c.in_ok-roster.roster; grounded = c.in_ok-grounded.grounded; links = c.in_ok-links.links; matcher = c.in_ok-matcher.matcher }) (content_of c.self.inside)
-    c.in_ok-roster.ensures c.in_ok-grounded.ensures c.in_ok-links.ensures c.in_ok-matcher.ensures
+    let seats = c.in_ok-roster.ensures in
+    let queries = c.in_ok-grounded.ensures in
+    same-content (record { seats = c.in_ok-roster.roster; grounded = c.in_ok-grounded.grounded; links = c.in_ok-grounded.links; matcher = c.in_ok-roster.matcher }) (content_of c.self.inside)
+    seats.0 queries.0 queries.1 seats.1
     ∙ c.self.view_is

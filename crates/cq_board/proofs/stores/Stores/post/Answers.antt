@@ -4,8 +4,8 @@ use Rattle.cq_grounded.specs.Grounded.{GroundedMap, found}
 use Rattle.cq_links.specs.Links.{LinkMap, ends_of, candidate_pairs}
 use Rattle.std.specs.Set.{is_member}
 use Rattle.cq_match.specs.Matched.{is_matched}
-use Rattle.cq_match.specs.Matcher.{MatcherRecord, without, with_number}
-use Rattle.cq_roster.specs.Roster.{SeatRecord, seat_of}
+use Rattle.cq_match.specs.Matcher.{without, with_number}
+use Rattle.cq_roster.specs.Roster.{seat_of}
 use Rattle.cq_board.specs.Pool.{PendingQuery}
 use Rattle.cq_board.specs.Board.{is_able}
 use Rattle.cq_board.specs.Edits.{is_taken}
@@ -13,7 +13,7 @@ use Rattle.cq_board.specs.Steps.Flags.{has_grounding}
 use Rattle.cq_board.specs.Steps.Stores.{StoresRecord, pending_of, AreStores, AddsLinks}
 use Rattle.cq_board.specs.Work.{candidates, raised}
 use Rattle.cq_board.proofs.WorkStores.{pairs-kept}
-use Rattle.cq_board.proofs.Stored.{named-taken, get-inserted, remove-inserted, ok-map, ok-six, err-three, content_of, posted, posted-stores, posted-pending, same-content, same-stores, grounding-inserted}
+use Rattle.cq_board.proofs.Stored.{named-taken, get-inserted, remove-inserted, ok-map, ok-six, err-three, on-ok, on-err, failed, succeeded, content_of, posted, posted-stores, posted-pending, same-content, same-stores, grounding-inserted}
 use Rattle.cq_board.proofs.stores.Stores.post.Goals as goal
 
 pub link-linked-requires-clause-absent : goal.link-linked-requires-clause-absent
@@ -108,3 +108,39 @@ returns-else-is_err-clause-tests g c =
     c.link-linked.ensures.ticks
     (λ is. is
     ∙ ap (raised before) (pairs-kept old c.args.tables.now.rows kept place c.in_ok-place.ensures.free c.args.name.now query ∙ ap (λ (s : StoresRecord). candidates (pending_of s) query) c.self.view_is))
+
+pub returns-in_err-place-clause-stores : goal.returns-in_err-place-clause-stores
+returns-in_err-place-clause-stores g c = failed c.from_residual.result _ c.from_residual.ensures.0
+
+pub returns-in_err-place-clause-posted : goal.returns-in_err-place-clause-posted
+returns-in_err-place-clause-posted g c = failed c.from_residual.result _ c.from_residual.ensures.0
+
+pub returns-in_err-place-clause-err : goal.returns-in_err-place-clause-err
+returns-in_err-place-clause-err g c =
+    let old = content_of c.self.inside in
+    let new : StoresRecord = record { seats = old.seats; grounded = c.add.new.self; links = old.links; matcher = old.matcher } in
+    on-err c.from_residual.result (new ≡ c.args.self.now) (same-content new old refl c.in_err-place.ensures.err refl refl ∙ c.self.view_is)
+
+pub returns-in_err-place-clause-tests : goal.returns-in_err-place-clause-tests
+returns-in_err-place-clause-tests g c = failed c.from_residual.result _ c.from_residual.ensures.0
+
+pub returns-in_err-place-clause-visits : goal.returns-in_err-place-clause-visits
+returns-in_err-place-clause-visits g c = failed c.from_residual.result _ c.from_residual.ensures.0
+
+pub returns-then-is_err-clause-stores : goal.returns-then-is_err-clause-stores
+returns-then-is_err-clause-stores g c = failed c.link-linked.result _ (sym c.is_err.ensures.value ∙ c.if-is_err.true)
+
+pub returns-then-is_err-clause-posted : goal.returns-then-is_err-clause-posted
+returns-then-is_err-clause-posted g c = failed c.link-linked.result _ (sym c.is_err.ensures.value ∙ c.if-is_err.true)
+
+pub returns-then-is_err-clause-tests : goal.returns-then-is_err-clause-tests
+returns-then-is_err-clause-tests g c = failed c.link-linked.result _ (sym c.is_err.ensures.value ∙ c.if-is_err.true)
+
+pub returns-then-is_err-clause-visits : goal.returns-then-is_err-clause-visits
+returns-then-is_err-clause-visits g c = failed c.link-linked.result _ (sym c.is_err.ensures.value ∙ c.if-is_err.true)
+
+pub returns-else-is_err-clause-err : goal.returns-else-is_err-clause-err
+returns-else-is_err-clause-err g c = succeeded c.link-linked.result _ (sym c.is_err.ensures.value ∙ c.if-is_err.false)
+
+pub returns-else-is_err-clause-visits : goal.returns-else-is_err-clause-visits
+returns-else-is_err-clause-visits g c = on-ok c.link-linked.result _ c.in_ok-place.ensures.ticks
