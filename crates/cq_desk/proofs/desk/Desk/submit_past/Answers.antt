@@ -1,9 +1,11 @@
-use Rattle.std.proofs.Common.{◌≡◌, ◌+◌, [], ◌∷◌, ◌++◌, length, drop, ap, sym, ◌∙◌, subst, append_assoc, arith, length-append}
+use Rattle.std.proofs.Common.{◌≡◌, ◌+◌, [], ◌∷◌, ◌++◌, length, drop, refl, ap, sym, ◌∙◌, subst, append_assoc, arith, length-append}
 use Rattle.std.proofs.lemmas.List.{append-nil}
+use Rattle.std.proofs.lemmas.Result.{IfOk-from_err}
 use Rattle.std.specs.Vec.Iter.{into_iter_items}
 use mathlib.Core.List.{IsPrefix}
 use Rattle.cq_desk.specs.History.{edits_of, grown, BeginsWith, StandsLast}
 use Rattle.cq_desk.specs.Replies.{journal_edits, accepted, entries_by, replies_at, reply_at}
+use Rattle.cq_desk.proofs.Admitting.{on_error, desk_same}
 use Rattle.cq_desk.proofs.Histories.{begins_same}
 use Rattle.cq_desk.proofs.Replying.{accepted-more, edits_entered, nothing_left, published_last, replied_on, taken_in, tried_first}
 use Rattle.cq_desk.proofs.desk.Desk.submit_past.Goals as goal
@@ -91,3 +93,35 @@ returns-in-Ok-publish-clause-submission g c = let at = c.loop-edit in let inv = 
       all = done.shown;
       begins = subst (BeginsWith (g.P.Publisher.history now.publisher)) was kept.begins;
     }
+
+pub returns-in_err-reserve-clause-submission : goal.returns-in_err-reserve-clause-submission
+returns-in_err-reserve-clause-submission g c = IfOk-from_err c.from_residual.result _ c.from_residual.ensures.0
+
+pub returns-in_err-reserve-clause-passed : goal.returns-in_err-reserve-clause-passed
+returns-in_err-reserve-clause-passed g c = IfOk-from_err c.from_residual.result _ c.from_residual.ensures.0
+
+pub returns-in_err-reserve-clause-err : goal.returns-in_err-reserve-clause-err
+returns-in_err-reserve-clause-err g c = on_error c.from_residual.result refl
+
+pub returns-in_err-reserve-clause-unpassed : goal.returns-in_err-reserve-clause-unpassed
+returns-in_err-reserve-clause-unpassed g c = on_error c.from_residual.result refl
+
+pub loop-edit-init : goal.loop-edit-init
+loop-edit-init g c = let gives = c.into_iter-edit-iterator.ensures.into_iter_gives in
+    let none : c.reserve.new.self.items ≡ [] = c.reserve.ensures.items ∙ c.new-replies.ensures.items in
+    let room = c.in_ok-reserve.ensures.ok in let count = c.len.ensures in let len = c.args.asked.ok.0 in let n = ap length gives.0 in
+    (refl, gives.1 ∙ (len ∙ sym n), ap length none, omega (arith, room, count, len, n), none, desk_same c.args.self.now c.args.self.now refl)
+
+pub push_reserved-requires : goal.push_reserved-requires
+push_reserved-requires g c = let at = c.loop-edit in let room = at.invariant.3 in
+    let one : length (into_iter_items at.edit-iterator) ≡ length (into_iter_items c.next.new.self) + 1 = ap length c.in-Some.ensures.steps.0 ∙ omega arith in omega (arith, room, one)
+
+pub returns-in-Ok-publish-clause-passed : goal.returns-in-Ok-publish-clause-passed
+returns-in-Ok-publish-clause-passed g c = let at = c.loop-edit in let a = c.args.self.now in let gate = c.let_pass.new.self in
+    subst (λ n. g.G.Checkpoint.passed c.args.gate.now n (length (edits_of (g.P.Publisher.shown a.publisher))) gate) (sym (ap length c.publish.ensures.journal))
+    (subst (λ v. g.G.Checkpoint.passed c.args.gate.now (length at.self.journal) (length (edits_of (g.P.Publisher.shown v.publisher))) gate) at.invariant.5 c.let_pass.ensures)
+
+pub returns-in-Err-clause-passed : goal.returns-in-Err-clause-passed
+returns-in-Err-clause-passed g c = let at = c.loop-edit in let a = c.args.self.now in let gate = c.let_pass.new.self in
+    subst (λ n. g.G.Checkpoint.passed c.args.gate.now n (length (edits_of (g.P.Publisher.shown a.publisher))) gate) (sym (ap length c.publish.ensures.journal))
+    (subst (λ v. g.G.Checkpoint.passed c.args.gate.now (length at.self.journal) (length (edits_of (g.P.Publisher.shown v.publisher))) gate) at.invariant.5 c.let_pass.ensures)

@@ -1,6 +1,11 @@
-use Rattle.std.proofs.Common.{◌≡◌, ◌+◌, [], ◌∷◌, ◌++◌, length, ap, sym, ◌∙◌, append_assoc, arith, length-append}
-use mathlib.Core.Logic.{inr}
+use Rattle.std.proofs.Common.{◌≡◌, ◌+◌, [], ◌∷◌, ◌++◌, length, take, refl, ap, sym, ◌∙◌, subst, append_assoc, arith, length-append}
+use Rattle.std.proofs.lemmas.List.{append-nil}
+use mathlib.Core.Logic.{inl, inr}
 use Rattle.std.specs.Vec.Iter.{into_iter_items}
+use Rattle.cq_desk.specs.Machine.{answers_to}
+use Rattle.cq_desk.specs.Standing.{played}
+use Rattle.cq_desk.proofs.Admitting.{no_error, an_error}
+use Rattle.cq_desk.proofs.Replying.{nothing_left, tried_first}
 use Rattle.cq_desk.proofs.Playing.{answered_on, stepped_on, stops_at}
 use Rattle.cq_desk.proofs.floor.Floor.play.Goals as goal
 
@@ -27,3 +32,63 @@ pub returns-in_default-clause-stop : goal.returns-in_default-clause-stop
 returns-in_default-clause-stop g c = let at = c.loop-event in let inv = at.invariant in let e = c.in-Some.event in let kept = c.in_default.ensures in
     let all = ap (λ z. at.yielded ++ z) (sym c.in-Some.ensures.steps.0) ∙ (inv.0 ∙ c.into_iter-event-iterator.ensures.into_iter_gives.0) in
     inr (stops_at g.L.Live.after g.L.Live.why at.self c.take_step.new.self at.yielded (into_iter_items c.next.new.self) c.args.events.items e at.answers.items kept.0 kept.1 all inv.2)
+
+pub returns-then-is_err-clause-front : goal.returns-then-is_err-clause-front
+returns-then-is_err-clause-front g c = let a = c.args.self.now in
+    let none : c.reserve.new.self.items ≡ [] = c.reserve.ensures.items ∙ c.new-answers.ensures.items in
+    subst (λ z. z ≡ answers_to g.L.Live.after g.L.Live.why a.opening a.limit a.machine (take (length z) c.args.events.items)) (sym none) refl
+
+pub returns-then-is_err-clause-after_front : goal.returns-then-is_err-clause-after_front
+returns-then-is_err-clause-after_front g c = let a = c.args.self.now in
+    let none : c.reserve.new.self.items ≡ [] = c.reserve.ensures.items ∙ c.new-answers.ensures.items in
+    subst (λ z. a ≡ played g.L.Live.after g.L.Live.why a (take (length z) c.args.events.items)) (sym none) refl
+
+pub returns-then-is_err-clause-stop : goal.returns-then-is_err-clause-stop
+returns-then-is_err-clause-stop g c = inl (c.reserve.ensures.items ∙ c.new-answers.ensures.items)
+
+pub returns-in_default-clause-front : goal.returns-in_default-clause-front
+returns-in_default-clause-front g c = let at = c.loop-event in let inv = at.invariant in let a = c.args.self.now in
+    let rest = into_iter_items at.event-iterator in
+    let whole : at.yielded ++ rest ≡ c.args.events.items = inv.0 ∙ c.into_iter-event-iterator.ensures.into_iter_gives.0 in
+    inv.4 ∙ ap (answers_to g.L.Live.after g.L.Live.why a.opening a.limit a.machine) (tried_first at.yielded rest c.args.events.items at.answers.items whole inv.2)
+
+pub returns-in_default-clause-after_front : goal.returns-in_default-clause-after_front
+returns-in_default-clause-after_front g c = let at = c.loop-event in let inv = at.invariant in let a = c.args.self.now in
+    let rest = into_iter_items at.event-iterator in
+    let whole : at.yielded ++ rest ≡ c.args.events.items = inv.0 ∙ c.into_iter-event-iterator.ensures.into_iter_gives.0 in
+    c.in_default.ensures.0 ∙ (inv.5 ∙ ap (played g.L.Live.after g.L.Live.why a) (tried_first at.yielded rest c.args.events.items at.answers.items whole inv.2))
+
+pub returns-in_default-clause-rest : goal.returns-in_default-clause-rest
+returns-in_default-clause-rest g c = let at = c.loop-event in let inv = at.invariant in
+    let rest = into_iter_items at.event-iterator in
+    let whole : at.yielded ++ rest ≡ c.args.events.items = inv.0 ∙ c.into_iter-event-iterator.ensures.into_iter_gives.0 in
+    let one : length rest ≡ length (into_iter_items c.next.new.self) + 1 = ap length c.in-Some.ensures.steps.0 ∙ omega arith in
+    let both = ap length whole in let n = length-append at.yielded rest in let same = inv.2 in omega (arith, one, both, n, same)
+
+pub push_reserved-requires : goal.push_reserved-requires
+push_reserved-requires g c = let at = c.loop-event in let room = at.invariant.3 in
+    let one : length (into_iter_items at.event-iterator) ≡ length (into_iter_items c.next.new.self) + 1 = ap length c.in-Some.ensures.steps.0 ∙ omega arith in omega (arith, room, one)
+
+pub returns-clause-answers : goal.returns-clause-answers
+returns-clause-answers g c = let at = c.loop-event in let inv = at.invariant in let a = c.args.self.now in
+    let none : into_iter_items at.event-iterator ≡ [] = nothing_left (into_iter_items at.event-iterator) (sym inv.1 ∙ c.in-None.ensures.steps.0) in
+    let every : at.yielded ≡ c.args.events.items = sym (append-nil at.yielded) ∙ (ap (λ z. at.yielded ++ z) (sym none) ∙ (inv.0 ∙ c.into_iter-event-iterator.ensures.into_iter_gives.0)) in
+    inv.4 ∙ ap (answers_to g.L.Live.after g.L.Live.why a.opening a.limit a.machine) every
+
+pub returns-clause-after : goal.returns-clause-after
+returns-clause-after g c = let at = c.loop-event in let inv = at.invariant in let a = c.args.self.now in
+    let none : into_iter_items at.event-iterator ≡ [] = nothing_left (into_iter_items at.event-iterator) (sym inv.1 ∙ c.in-None.ensures.steps.0) in
+    let every : at.yielded ≡ c.args.events.items = sym (append-nil at.yielded) ∙ (ap (λ z. at.yielded ++ z) (sym none) ∙ (inv.0 ∙ c.into_iter-event-iterator.ensures.into_iter_gives.0)) in
+    inv.5 ∙ ap (played g.L.Live.after g.L.Live.why a) every
+
+pub returns-then-is_err-clause-rest : goal.returns-then-is_err-clause-rest
+returns-then-is_err-clause-rest g c = let none = ap length (c.reserve.ensures.items ∙ c.new-answers.ensures.items) in let fresh = c.new-answers.ensures.len in
+    let full = an_error c.reserve.result c.if-is_err.ensures.value c.reserve.ensures.full in
+    let count = c.len.ensures in let len = c.args.events.ok.0 in omega (arith, none, fresh, full, count, len)
+
+pub loop-event-init : goal.loop-event-init
+loop-event-init g c = let gives = c.into_iter-event-iterator.ensures.into_iter_gives in
+    let none : c.reserve.new.self.items ≡ [] = c.reserve.ensures.items ∙ c.new-answers.ensures.items in
+    let room = no_error c.reserve.result c.if-is_err.ensures.value c.reserve.ensures.ok in
+    let count = c.len.ensures in let len = c.args.events.ok.0 in let n = ap length gives.0 in
+    (refl, gives.1 ∙ (len ∙ sym n), ap length none, omega (arith, room, count, len, n), none, refl)
