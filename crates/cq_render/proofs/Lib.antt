@@ -9,3 +9,5 @@ pub mod Explained
 mod Flagged
 pub mod Numbers
 mod Liked
+mod Mapped
+mod Lines
