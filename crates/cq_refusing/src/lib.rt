@@ -4,6 +4,8 @@
 //! allocation, then one that refuses the second, and so on, until the code gets by with fewer allocations and succeeds.
 //! Each time the test looks at what the code answered, and at the state that it left.
 //!
+//! [`refusals`] does so with any call.
+//!
 //! Nothing but tests uses it, and it is for one thread. It sets no limit to memory: it counts calls and not bytes,
 //! and after its one refusal it passes every call on.
 //!
@@ -14,8 +16,11 @@
 ghost use Rattle.std.specs.Prelude.{◌≡◌, ◌<◌, ◌-◌, ◌^◌, ◌↔◌, IsTrue};
 ghost use Rattle.cq_refusing.specs.Refusing.{allocations_before};
 
+mod tried;
+
 use std::alloc::{AllocError, Allocator};
 use std::cell::Cell;
+pub use tried::{ENOUGH, Outcome, Tried, refusals};
 
 /// Passes each call on to another allocator, but for the one allocation that it refuses.
 #[derive(Drop)]
@@ -86,66 +91,5 @@ unsafe impl<B: Allocator> Allocator for Refusing<B> {
 
     unsafe fn deallocate(&self, ptr: *mut u8, size: usize, align: usize) {
         self.inner.deallocate(ptr, size, align);
-    }
-}
-
-#[cfg(test)]
-mod tests {
-    use super::*;
-    use std::test::Fail;
-
-    // It grows five times: to 4, 8, 16, 32 and 64 places.
-    fn forty<A: Allocator>(alloc: A) -> Result<usize, AllocError> {
-        let mut numbers = Vec::new(alloc);
-        for i in 0..40u64 {
-            numbers.push(i)?;
-        }
-        Ok(numbers.len())
-    }
-
-    #[test]
-    fn each_allocation_is_refused_in_turn(rt: HostRuntime) -> Result<(), Fail> {
-        for left in 0..5u64 {
-            let heap = Refusing::new(rt.alloc(), left);
-            assert!(rt; !heap.has_refused(), "{left}");
-            assert!(rt; forty(&heap).is_err(), "{left}");
-            assert!(rt; heap.has_refused(), "{left}");
-            assert_eq!(rt; heap.grown(), left + 1);
-            assert_eq!(rt; forty(&heap)?, 40, "{left}");
-            assert_eq!(rt; heap.grown(), left + 6);
-        }
-        let heap = Refusing::new(rt.alloc(), 5);
-        assert_eq!(rt; forty(&heap)?, 40);
-        assert!(rt; !heap.has_refused());
-        assert_eq!(rt; heap.grown(), 5);
-        Ok(())
-    }
-
-    #[test]
-    fn a_failed_allocation_changes_nothing(rt: HostRuntime) -> Result<(), Fail> {
-        let heap = Refusing::new(rt.alloc(), 1);
-        let mut numbers = Vec::new(&heap);
-        for i in 0..4u64 {
-            numbers.push(i)?;
-        }
-        assert!(rt; numbers.push(4).is_err());
-        assert_eq!(rt; numbers.as_slice(), [0, 1, 2, 3].as_slice());
-        numbers.push(4)?;
-        assert_eq!(rt; numbers.as_slice(), [0, 1, 2, 3, 4].as_slice());
-        Ok(())
-    }
-
-    // The allocator below counts what reaches it.
-    #[test]
-    fn a_failed_allocation_is_not_passed_on(rt: HostRuntime) -> Result<(), Fail> {
-        let below = Refusing::new(rt.alloc(), u64::MAX);
-        let heap = Refusing::new(&below, 2);
-        assert!(rt; forty(&heap).is_err());
-        assert_eq!(rt; heap.grown(), 3);
-        assert_eq!(rt; below.grown(), 2);
-        assert_eq!(rt; forty(&heap)?, 40);
-        assert_eq!(rt; below.grown(), 7);
-        assert!(rt; !below.has_refused());
-        Ok(())
     }
 }

@@ -8,8 +8,8 @@ use crate::shown::{other_look, page_of};
 use crate::views::{BY_SLIP, CROWD, CROWD_SHOWN, JERRY_WAITS, PAIR, SLIPS};
 use cq_atom::Edit;
 use cq_board::{Board, ScratchFault};
+use cq_refusing::{Outcome, Refusing, Tried, refusals};
 use cq_rel::Catalog;
-use cq_tests_allocations::{Outcome, Refusing, Tried, refusals};
 use std::alloc::{AllocError, Allocator, Global};
 
 /// What stands before a call, and the call: `begin` or `scratch`, by which a board is begun or is made from scratch; `copy`; `show`,

@@ -5,8 +5,8 @@ use cq_atom::Name;
 use cq_board::Board;
 use cq_going::{groups, tell_choice};
 use cq_groups::group_labels;
+use cq_refusing::{Outcome, Tried, refusals};
 use cq_select::{Member, Search, Selected, Supply, select};
-use cq_tests_allocations::{Outcome, Tried, refusals};
 use std::alloc::{AllocError, Allocator};
 
 /// What is told: of a coordinating choice for these names, one a line, that is sought within the budget, or of the groups.

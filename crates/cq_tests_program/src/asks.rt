@@ -6,8 +6,8 @@ ghost use Rattle.cq_ask.specs.Answer.{BeganEmpty};
 use cq_ask::{ending, read_ask, tell, tell_data};
 use cq_board::{Board, Limits};
 use cq_desk::{Event, Floor};
+use cq_refusing::{Outcome, Tried, refusals};
 use cq_rel::Catalog;
-use cq_tests_allocations::{Outcome, Tried, refusals};
 use cq_text::{CommandKind, Form, read_command};
 use std::alloc::{AllocError, Allocator};
 

@@ -3,12 +3,12 @@
 use cq_board::{Board, Limits};
 use cq_devices::{Counted, WholeFault};
 use cq_going::boxed_graph;
+use cq_refusing::{Outcome, Tried, refusals};
 use cq_rel::Catalog;
 use cq_render::{
     Drawn, Extent, explain, explain_named, explain_once, graph, json, kept_with, report,
 };
 use cq_report::{Played, read_script};
-use cq_tests_allocations::{Outcome, Tried, refusals};
 use cq_why::put_whys;
 use std::alloc::{AllocError, Allocator};
 

@@ -2,8 +2,8 @@
 
 use crate::devices::Expecting;
 use cq_devices::{Counted, WholeFault};
+use cq_refusing::{Outcome, Tried, refusals};
 use cq_report::{Numbering, Played, RunFault, put_summary, put_warning, read_script, run};
-use cq_tests_allocations::{Outcome, Tried, refusals};
 use std::alloc::{AllocError, Allocator};
 
 /// Two refused lines, the second and the sixth, and an edit that is not published.

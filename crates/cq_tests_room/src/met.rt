@@ -2,8 +2,7 @@
 
 use crate::calls::{Trial, attempt};
 use cq_desk::{End, Reply, Submitted};
-use cq_refusing::Refusing;
-use cq_tests_allocations::ENOUGH;
+use cq_refusing::{ENOUGH, Refusing};
 use std::alloc::{Allocator, Global};
 use std::sync::Wait;
 

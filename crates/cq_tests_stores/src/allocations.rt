@@ -4,8 +4,8 @@ use crate::stores::tried_at;
 use crate::{grounded, index, links, matching, roster};
 use cq_index::AtomIndex;
 use cq_links::Links;
+use cq_refusing::{ENOUGH, Outcome, Refusing};
 use cq_roster::Roster;
-use cq_tests_allocations::{ENOUGH, Outcome, Refusing};
 use std::alloc::{Allocator, Global};
 
 const INDEX: usize = 0;
@@ -34,7 +34,7 @@ fn tried<A: Allocator + Copy>(alloc: A, store: usize, place: usize) -> Outcome {
 }
 
 /// How many allocations of the trial were refused, until none was; else how many came before the refusal at which something
-/// else came of it. As `cq_tests_allocations::refusals`, for a place that a table has.
+/// else came of it. As `cq_refusing::refusals`, for a place that a table has.
 fn refusals(alloc: Global, store: usize, place: usize) -> Result<u64, u64> {
     let mut refused = 0u64;
     for left in 0..ENOUGH {

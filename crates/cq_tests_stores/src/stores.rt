@@ -2,7 +2,7 @@
 //! owned would be too much.
 
 use crate::texts::command;
-use cq_tests_allocations::Outcome;
+use cq_refusing::Outcome;
 use cq_text::Command;
 use std::alloc::{AllocError, Allocator};
 use std::mem::{drop, replace};

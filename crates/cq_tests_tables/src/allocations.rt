@@ -4,8 +4,8 @@ use crate::groundings::{JERRY, all, holds};
 use crate::samples::{travel, travel_begun, travel_catalog};
 use cq_atom::{Meter, Row, Value};
 use cq_ground::Groundings;
+use cq_refusing::{Outcome, Tried, refusals};
 use cq_rel::{Catalog, CatalogFault, RowFault, Tables};
-use cq_tests_allocations::{Outcome, Tried, refusals};
 use cq_text::{Form, read_ground_atom};
 use std::alloc::{AllocError, Allocator};
 

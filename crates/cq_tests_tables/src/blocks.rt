@@ -1,7 +1,7 @@
 //! Lists in blocks: numbers that are put in and taken out, and each allocation of an insertion refused in turn.
 
 use cq_blocks::Blocks;
-use cq_tests_allocations::{Outcome, Tried, refusals};
+use cq_refusing::{Outcome, Tried, refusals};
 use std::alloc::{AllocError, Allocator, Global};
 
 /// So many numbers stand in several blocks.

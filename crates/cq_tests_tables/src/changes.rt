@@ -4,8 +4,8 @@
 use crate::samples::{delete, insert, pairs};
 use cq_atom::{Meter, Query, Row};
 use cq_ground::Groundings;
+use cq_refusing::{Outcome, Tried, refusals};
 use cq_rel::Tables;
-use cq_tests_allocations::{Outcome, Tried, refusals};
 use cq_text::{Form, print_values, read_ground_atom, read_query};
 use std::alloc::{AllocError, Allocator, Global};
 use std::test::Fail;

@@ -2,7 +2,7 @@
 
 use cq_atom::{Query, Row};
 use cq_devices::{Counted, WholeFault, read_whole};
-use cq_tests_allocations::{Outcome, Tried, refusals};
+use cq_refusing::{Outcome, Tried, refusals};
 use cq_text::{
     Form, TextFault, print_atom, print_query, print_row, print_values, push_escaped, read_command,
     read_ground_atom, read_query,

@@ -1,7 +1,7 @@
 //! A field of CSV, read as a value. What other fields are stands in the tests of rows from CSV.
 
 use cq_atom::Value;
-use cq_tests_allocations::{Outcome, Tried, refusals};
+use cq_refusing::{Outcome, Tried, refusals};
 use cq_text::{TextFault, read_field};
 use std::alloc::Allocator;
 

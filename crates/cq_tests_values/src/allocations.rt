@@ -5,7 +5,7 @@
 use crate::queries::has;
 use crate::samples::{ONE, Sample, query, row};
 use cq_atom::{Atom, Bad, Edit, EditKind, Name, Query, Row, Term, Valuation, Value};
-use cq_tests_allocations::{Outcome, Tried, refusals};
+use cq_refusing::{Outcome, Tried, refusals};
 use std::alloc::{AllocError, Allocator};
 
 const CITY: &str = "Rome, the city on seven hills";

@@ -1,5 +1,5 @@
 //! Tests of what stands on no other crate of the program: values, atoms, rows, queries and edits (`cq_atom`), with each allocation
-//! refused in turn, and the allocator that keeps to a budget (`cq_budget`). Nothing but tests is here, and no crate stands
+//! refused in turn, the allocator that keeps to a budget (`cq_budget`), and the one that refuses (`cq_refusing`). Nothing but tests is here, and no crate stands
 //! on this one.
 #![tactic(auto)]
 
@@ -11,6 +11,8 @@ mod atoms;
 mod budget;
 #[cfg(test)]
 mod queries;
+#[cfg(test)]
+mod refusing;
 #[cfg(test)]
 mod samples;
 #[cfg(test)]

@@ -10,7 +10,7 @@ pub const FILES: usize = 16;
 pub const LINES: usize = 160;
 
 /// What a line asks for, as far as its replies go.
-#[derive(Clone, Copy, Debug, PartialEq, Eq)]
+#[derive(Clone, Copy, PartialEq, Eq)]
 pub enum Wish {
     /// The posting of a name of the file's own, which is not pending.
     OwnPost,

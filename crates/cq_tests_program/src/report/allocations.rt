@@ -3,8 +3,8 @@
 use crate::devices::{Expecting, OneLine};
 use crate::runs;
 use crate::runs::{Told, WELL};
+use cq_refusing::{ENOUGH, Outcome, Refusing, Tried, refusals};
 use cq_report::{Numbering, RunFault};
-use cq_tests_allocations::{ENOUGH, Outcome, Refusing, Tried, refusals};
 use std::alloc::{Allocator, Global};
 use std::io::Read;
 

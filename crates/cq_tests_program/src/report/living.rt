@@ -2,8 +2,8 @@
 
 use crate::devices::OneLine;
 use cq_devices::Counted;
+use cq_refusing::{ENOUGH, Refusing};
 use cq_report::{Numbering, live};
-use cq_tests_allocations::{ENOUGH, Refusing};
 use std::alloc::{Allocator, Global};
 use std::io::{self, ErrorKind, Write};
 

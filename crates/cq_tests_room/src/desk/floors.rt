@@ -6,7 +6,7 @@ use crate::states::{Shared, Sight};
 use crate::tally::{Full, Tally};
 use cq_board::{Board, Why, published_board, working_board};
 use cq_desk::{Answer, Event, Floor, FloorFault, Live, Reply, StepFault, looks_never_fall};
-use cq_tests_allocations::{Outcome, Tried, refusals};
+use cq_refusing::{Outcome, Tried, refusals};
 use std::alloc::{Allocator, Global};
 
 /// What is done on a floor, by the session of that number.

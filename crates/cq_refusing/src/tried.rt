@@ -2,15 +2,13 @@
 //!
 //! A call that is tried so is a type with the trait [`Tried`]: it sets up what the call needs, makes the call, and
 //! says what came of it. [`refusals`] has it do so on an allocator that refuses the first allocation, on one that
-//! refuses the second, and so on. Nothing but tests uses it.
-#![tactic(auto)]
+//! refuses the second, and so on.
 
-/// The allocator, for a test that counts what a call asks for.
-pub use cq_refusing::Refusing;
+use crate::Refusing;
 use std::alloc::{Allocator, Global};
 
 /// What came of a call on an allocator that refuses one allocation.
-#[derive(Clone, Copy, Debug, PartialEq, Eq)]
+#[derive(Clone, Copy, PartialEq, Eq)]
 pub enum Outcome {
     /// What the call needs was refused an allocation, so there was no call.
     Unready,
