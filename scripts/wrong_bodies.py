@@ -278,7 +278,7 @@ def is_built(crate):
 
 
 # How many wrong bodies one check tries at most.
-MOST_TOGETHER = 6
+MOST_TOGETHER = 10
 
 
 class Batch:
@@ -347,7 +347,8 @@ def batches(trials):
 
 class Lanes:
     """Batches of trials side by side. A lane goes on with its crate, over what it has checked of it before, and then takes one that no other lane has, or else
-    shares one. All are tried over crates that are proved as they are."""
+    shares one of which there are two or more left: who has checked nothing of a crate takes longer than the lane that has it. All are tried over crates that are proved as
+    they are."""
 
     def __init__(self, trials, tell, until):
         self.left, self.tell, self.until = batches(trials), tell, until
@@ -359,7 +360,11 @@ class Lanes:
             if not self.left or self.until and time.monotonic() > self.until:
                 return None
             mine, others = self.crate_of.get(number), {it for lane, it in self.crate_of.items() if lane != number}
-            batch = ([it for it in self.left if it.crate is mine] or [it for it in self.left if it.crate not in others] or self.left)[0]
+            of = lambda crate: [it for it in self.left if it.crate is crate]
+            unshared = [it for it in self.left if it.crate not in others]
+            batch = next(iter(of(mine) or unshared or [it for it in self.left if len(of(it.crate)) > 1]), None)
+            if batch is None:
+                return None
             self.left.remove(batch)
             self.crate_of[number] = batch.crate
             return batch
