@@ -272,9 +272,15 @@ def lanes():
     return max(1, min(int(number) if number.isdigit() else len(os.sched_getaffinity(0)), memory))
 
 
+def built_at(crate):
+    """When the crate was proved here, so that its library or its program was built, or nothing."""
+    made = [f"{crate.folder}/out/{it}" for it in (f"rlib/{crate.name}.rlib/format", crate.name)]
+    return next((os.path.getmtime(it) for it in made if os.path.isfile(it)), None)
+
+
 def is_built(crate):
-    """Whether the crate was proved here, so that its library or its program was built."""
-    return any(os.path.exists(f"{crate.folder}/out/{it}") for it in (f"rlib/{crate.name}.rlib", crate.name))
+    """Whether the crate was proved here."""
+    return built_at(crate) is not None
 
 
 # How many wrong bodies one check tries at most.
@@ -453,8 +459,24 @@ def copy_proved(crates, names, tree):
     return crates_of(tree)
 
 
-def try_every(top, names):
-    """Tries all wrong bodies of these crates, and records the sums of those whose wrong bodies were all refused."""
+def same_proved(crates, names, tree):
+    """The crates of a tree in which these crates and those that they stand on were proved, of the same sources; what differs, or was not proved, ends the run."""
+    if not os.path.isfile(f"{tree}/crates.txt"):
+        raise SystemExit(f"wrong bodies: {tree} has no crates.txt")
+    proved = crates_of(tree)
+    for name in [it for it in crates if it in names or any(it in below(crates, other) for other in names)]:
+        mine, other = crates[name], proved.get(name)
+        texts = lambda crate: {os.path.relpath(it, crate.folder): text_of(it) for it in crate.files(*PARTS)}
+        if other is None or mine.parts != other.parts or texts(mine) != texts(other):
+            raise SystemExit(f"wrong bodies: {name} is another one in {tree}")
+        if not is_built(other) or built_at(other) < max(os.path.getmtime(it) for it in other.files(*PARTS)):
+            raise SystemExit(f"wrong bodies: {name}, as it is, was not proved in {tree}")
+    return proved
+
+
+def try_every(top, names, over=None):
+    """Tries all wrong bodies of these crates, and records the sums of those whose wrong bodies were all refused. Where a tree is given, over what was proved there,
+    and else over what is proved for it."""
     crates = crates_of(top)
     unknown = [it for it in names if it not in crates]
     if unknown:
@@ -463,7 +485,7 @@ def try_every(top, names):
     sums = {it: sum_of(crates, it) for it in names}
     trials = [Trial(crates, name, edit) for name in names for edit in crates[name].edits()]
     with tempfile.TemporaryDirectory(prefix="wrong-bodies-") as tree:
-        proved = copy_proved(crates, names, tree)
+        proved = same_proved(crates, names, os.path.realpath(over)) if over else copy_proved(crates, names, tree)
         for it in trials:
             it.crates, it.crate = proved, proved[it.crate.name]
         try_all(trials, say)
@@ -474,11 +496,13 @@ def try_every(top, names):
 
 def main(words):
     top = os.path.dirname(os.path.dirname(os.path.realpath(__file__)))
+    if words[:2] == ["every", "--over"] and words[2:]:
+        return try_every(top, words[3:], words[2])
     if words[:1] == ["every"]:
         return try_every(top, words[1:])
     if words[:1] == ["due"] and len(words) == 4:
         return try_due(top, words[1], words[2], float(words[3]))
-    raise SystemExit("usage: wrong_bodies.py every [CRATE..] | due TREE COMMIT MINUTES")
+    raise SystemExit("usage: wrong_bodies.py every [--over TREE] [CRATE..] | due TREE COMMIT MINUTES")
 
 
 if __name__ == "__main__":
