@@ -1,9 +1,11 @@
-use Rattle.std.proofs.Common.{◌≡◌, ◌<◌, true, eqb, length, get_or, filter, sym, subst, arith}
+use Rattle.std.proofs.Common.{◌≡◌, ◌<◌, true, eqb, length, get_or, filter, sym, subst, arith, ◌&&◌, not, nat_eq, false, ap, ◌∙◌}
 use Rattle.std.specs.List.{All}
 use Rattle.std.proofs.lemmas.List.Elements.{All-filter}
 use Rattle.cq_match.specs.declared.settle.Offer.{Offer}
 use Rattle.cq_match.specs.Steps.Settle.{stands}
 use Rattle.cq_match.proofs.Felled.{up-still, offers-counted, fell-more, counted-more, each-more, only-more}
+use Rattle.std.specs.Set.{is_member}
+use Rattle.std.proofs.lemmas.List.{take_all}
 use Rattle.cq_match.proofs.falls.drop_round.Goals as goal
 
 pub drop_offers-requires-clause-low : goal.drop_offers-requires-clause-low
@@ -39,3 +41,25 @@ loop-place-preserved g c =
       only = only-more owners offers place counts counts' c.loop-place.waiting.items c.drop_offers.new.waiting.items lowered c.loop-place.invariant.only c.in_ok-drop_offers.ensures.only;
       fewer = let less = c.in_ok-drop_offers.ensures.fewer in omega arith;
     }
+
+pub offers_from-requires : goal.offers_from-requires
+offers_from-requires g c = c.requires.grouped
+
+pub drop_offers-requires-clause-same_len : goal.drop_offers-requires-clause-same_len
+drop_offers-requires-clause-same_len g c = c.loop-place.auto.counts ∙ c.requires.same_len
+
+pub returns-clause-fell : goal.returns-clause-fell
+returns-clause-fell g c place =
+    c.loop-place.invariant.fell place ∙ ap (λ round. stands c.args.standing.now place && not (is_member nat_eq round place)) (take_all c.loop-place.place-index c.args.round.now c.loop-place-test.false)
+
+pub returns-clause-counted : goal.returns-clause-counted
+returns-clause-counted g c = c.loop-place.invariant.counted
+
+pub returns-clause-each : goal.returns-clause-each
+returns-clause-each g c = c.loop-place.invariant.each
+
+pub returns-clause-only : goal.returns-clause-only
+returns-clause-only g c = c.loop-place.invariant.only
+
+pub returns-clause-fewer : goal.returns-clause-fewer
+returns-clause-fewer g c = c.loop-place.invariant.fewer

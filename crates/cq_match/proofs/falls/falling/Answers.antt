@@ -1,10 +1,12 @@
-use Rattle.std.proofs.Common.{ℕ, ◌↔◌, length, nat_eq}
-use Rattle.std.specs.List.{Contains, IsDistinct}
+use Rattle.std.proofs.Common.{ℕ, List, Bool, ◌↔◌, length, nat_eq, ◌<◌, sym, subst, ◌∙◌}
+use Rattle.std.specs.List.{Contains, IsDistinct, All}
 use Rattle.cq_match.specs.Falling.{fallen, IsFalling, IsUnmatched, AreAllRounds}
-use Rattle.cq_match.specs.Steps.Places.{AreOffersOf}
+use Rattle.cq_match.specs.Steps.Places.{AreOffersOf, IsRanked, AreSlots}
 use Rattle.cq_match.proofs.Rounds.{rounds-falling, rounds-distinct, rounds-unmatched, all-moved, if-ok-so}
 use Rattle.cq_match.proofs.Spreading.{unmatched-law}
 use Rattle.cq_match.proofs.Union.{ends-ranked}
+use Rattle.std.specs.List.Sorted.{IsNonDecreasingBy}
+use Rattle.cq_match.specs.declared.settle.Offer.{Offer}
 use Rattle.cq_match.proofs.falls.falling.Goals as goal
 
 pub offers_of-requires-clause-ends : goal.offers_of-requires-clause-ends
@@ -51,3 +53,27 @@ returns-in_err-slots-clause-law g c = unmatched-law c.args.nodes.now c.args.edge
 
 pub returns-in_err-offers-clause-law : goal.returns-in_err-offers-clause-law
 returns-in_err-offers-clause-law g c = unmatched-law c.args.nodes.now c.args.edges.now c.requires.ends
+
+pub offers_of-requires-clause-rising : goal.offers_of-requires-clause-rising
+offers_of-requires-clause-rising g c = subst IsRanked (sym c.deref-2.ensures.value) c.in_ok-ranked.ensures.rising
+
+pub offers_of-requires-clause-slots : goal.offers_of-requires-clause-slots
+offers_of-requires-clause-slots g c =
+    subst (λ nodes. AreSlots nodes c.in_ok-slots.slots.starts.items c.in_ok-slots.slots.owners.items) (c.deref.ensures.value ∙ sym c.deref-2.ensures.value) c.in_ok-slots.ensures
+
+pub rounds_of-requires-clause-rising : goal.rounds_of-requires-clause-rising
+rounds_of-requires-clause-rising g c = subst IsRanked (sym c.deref-3.ensures.value) c.in_ok-ranked.ensures.rising
+
+pub rounds_of-requires-clause-slots : goal.rounds_of-requires-clause-slots
+rounds_of-requires-clause-slots g c =
+    subst (λ nodes. AreSlots nodes c.in_ok-slots.slots.starts.items c.in_ok-slots.slots.owners.items) (c.deref.ensures.value ∙ sym c.deref-3.ensures.value) c.in_ok-slots.ensures
+
+pub rounds_of-requires-clause-low : goal.rounds_of-requires-clause-low
+rounds_of-requires-clause-low g c =
+    let owners = c.in_ok-slots.slots.owners.items in
+    subst (λ (offers : List Offer). All (λ (offer : Offer). (offer.provider < length c.deref-3.result.now) × (offer.slot < length owners)) offers) (sym c.deref-4.ensures.value)
+    (subst (λ (nodes : List (ℕ × ℕ × Bool)). All (λ (offer : Offer). (offer.provider < length nodes) × (offer.slot < length owners)) c.in_ok-offers.offers.items) (c.deref-2.ensures.value ∙ sym c.deref-3.ensures.value)
+    c.in_ok-offers.ensures.offers.low)
+
+pub rounds_of-requires-clause-grouped : goal.rounds_of-requires-clause-grouped
+rounds_of-requires-clause-grouped g c = subst (IsNonDecreasingBy (λ (offer : Offer). offer.provider)) (sym c.deref-4.ensures.value) c.in_ok-offers.ensures.grouped

@@ -1,4 +1,4 @@
-use Rattle.std.proofs.Common.{◌≡◌, ◌<◌, ◌++◌, true, List, length, get_or, replicate, ap, sym, ◌∙◌, arith}
+use Rattle.std.proofs.Common.{◌≡◌, ℕ, ◌<◌, ◌++◌, true, List, length, get_or, replicate, ap, sym, ◌∙◌, arith, subst}
 use Rattle.std.specs.List.{All, AllZip}
 use Rattle.std.proofs.lemmas.Bool.{eqb-true}
 use Rattle.cq_match.specs.declared.falls.Fall.{Fall}
@@ -7,6 +7,8 @@ use Rattle.cq_match.proofs.Dropping.{IsUnfed, EachWaits}
 use Rattle.cq_match.proofs.Felled.{Fell, Counted}
 use Rattle.cq_match.proofs.Settling.{written-back}
 use Rattle.cq_match.proofs.Waves.{Keeps, due-low, due-within, due-empty, round-due, so-far-next, waving-start, waving-next, so-far-start, all-rounds}
+use Rattle.std.proofs.lemmas.List.Elements.{Contains-get_or}
+use Rattle.std.specs.List.Sorted.{IsStrictlyIncreasing}
 use Rattle.cq_match.proofs.falls.rounds_of.Goals as goal
 
 pub loop-alloc-init : goal.loop-alloc-init
@@ -107,3 +109,41 @@ returns g c edges ends l =
     let none : length waiting.items ≡ 0 = omega (arith, waiting.ok.0) in
     all-rounds ranked slots.starts.items slots.owners.items c.args.offers.now c.requires.rising c.requires.slots edges ends l
     c.loop-alloc.standing.items c.loop-alloc.counts.items waiting.items c.loop-alloc.invariant.waving c.loop-alloc.falls.items (c.loop-alloc.invariant.so_far edges ends l) none
+
+pub counts_of-requires : goal.counts_of-requires
+counts_of-requires g c =
+    let owners = c.args.slots.now.owners in
+    let same : length owners.items ≡ c.len.result = sym (c.len.ensures ∙ owners.ok.0) in
+    λ k d low. subst (λ n. (get_or c.args.offers.now k d).slot < n) same (c.requires.low k d low).1
+
+pub unfed-requires : goal.unfed-requires
+unfed-requires g c =
+    let counts = c.in_ok-counts.counts in
+    let owners = c.args.slots.now.owners in
+    let same : length counts.items ≡ length owners.items = sym counts.ok.0 ∙ c.in_ok-counts.ensures.len ∙ c.len.ensures ∙ owners.ok.0 in
+    ap length c.deref-2.ensures.value ∙ same ∙ sym (ap length c.deref.ensures.value)
+
+pub falls_of-requires-clause-starts_len : goal.falls_of-requires-clause-starts_len
+falls_of-requires-clause-starts_len g c = ap length c.deref-in-loop-alloc-2.ensures.value ∙ c.requires.slots.starts_len
+
+pub drop_round-requires-clause-same_len : goal.drop_round-requires-clause-same_len
+drop_round-requires-clause-same_len g c = ap length c.deref_mut.ensures.value ∙ c.loop-alloc.invariant.waving.counts_len ∙ sym (ap length c.deref-in-loop-alloc-6.ensures.value)
+
+pub drop_round-requires-clause-low : goal.drop_round-requires-clause-low
+drop_round-requires-clause-low g c k d low = subst (λ (owners : List ℕ). (get_or c.args.offers.now k d).slot < length owners) (sym c.deref-in-loop-alloc-6.ensures.value) (c.requires.low k d low).1
+
+pub drop_round-requires-clause-grouped : goal.drop_round-requires-clause-grouped
+drop_round-requires-clause-grouped g c = c.requires.grouped
+
+pub drop_round-requires-clause-counted : goal.drop_round-requires-clause-counted
+drop_round-requires-clause-counted g c = rw (c.deref_mut.ensures.value, c.deref_mut-in-loop-alloc.ensures.value, c.deref-in-loop-alloc-6.ensures.value) c.loop-alloc.invariant.waving.counted
+
+pub drop_round-requires-clause-rising : goal.drop_round-requires-clause-rising
+drop_round-requires-clause-rising g c = subst IsStrictlyIncreasing (sym c.deref-in-loop-alloc-7.ensures.value) c.keep_round.ensures.rising
+
+pub drop_round-requires-clause-up : goal.drop_round-requires-clause-up
+drop_round-requires-clause-up g c =
+    let standing = c.loop-alloc.standing.items in
+    let round = c.keep_round.new.waiting.items in
+    let keeps : Keeps standing c.loop-alloc.waiting.items round = rw c.deref-in-loop-alloc.ensures.value at c.keep_round.ensures.kept in
+    rw (c.deref_mut-in-loop-alloc.ensures.value, c.deref-in-loop-alloc-7.ensures.value) (λ k d low. ((keeps (get_or round k d)).0 (Contains-get_or round k d low)).1)

@@ -1,12 +1,13 @@
-use Rattle.std.proofs.Common.{◌≡◌, ℕ, true, false, ◌+◌, ◌-◌, ◌<◌, ◌∷◌, [], List, length, get_or, set, drop, sym, ap, ◌∙◌, subst, arith}
+use Rattle.std.proofs.Common.{◌≡◌, ℕ, true, false, ◌+◌, ◌-◌, ◌<◌, ◌∷◌, [], List, length, get_or, set, drop, sym, ap, ◌∙◌, subst, arith, count_by}
 use Rattle.std.specs.List.{All}
-use Rattle.std.proofs.lemmas.List.{get_or_default, length-set}
+use Rattle.std.proofs.lemmas.List.{get_or_default, length-set, drop_all}
 use Rattle.cq_match.specs.declared.graph.Out.{Out}
 use Rattle.cq_match.specs.Steps.Kept.{is_live, edge_of, edges_left, count_at}
 use Rattle.cq_match.proofs.Edges.{left-live, left-gone}
 use Rattle.cq_match.proofs.Rows.{row, row-len}
 use Rattle.cq_match.proofs.Going.{Lowered, Counted, row-placed, one-left, lowered-step}
 use Rattle.cq_match.proofs.graph.lower_totals.Goals as goal
+use Rattle.cq_match.specs.Graph.{leads_to}
 use Rattle.cq_match.proofs.graph.lower_totals.Goals.{then-is_live, else-is_live}
 
 pub index_mut-requires : goal.index_mut-requires
@@ -103,3 +104,20 @@ loop-out-preserved g c =
             lowered = rw w.totals-is (subst (Lowered before totals all) pending c.loop-out.invariant.lowered);
           }
     ]
+
+pub returns-clause-len : goal.returns-clause-len
+returns-clause-len g c = c.loop-out.invariant.len
+
+pub returns-clause-rows : goal.returns-clause-rows
+returns-clause-rows g c = c.loop-out.invariant.rows
+
+pub returns-clause-lowered : goal.returns-clause-lowered
+returns-clause-lowered g c n k =
+    let places = c.args.places.now in
+    let node = c.args.node in
+    let outs = c.outs-outs.result.now in
+    let same : outs ≡ get_or c.args.leaving.now node [] = c.outs-outs.ensures ∙ c.index-leaving-node.is ∙ get_or_default c.args.leaving.now node c.index-leaving-node.result [] c.requires.within in
+    let none = ap (λ (os : List Out). count_by (leads_to n k) (edges_left places node os)) (drop_all c.loop-out.out-index outs c.loop-out-test.false) in
+    let all = ap (λ (os : List Out). count_by (leads_to n k) (edges_left places node os)) same in
+    let lowered = c.loop-out.invariant.lowered n k in
+    omega (arith, none, all, lowered)

@@ -1,10 +1,12 @@
-use Rattle.std.proofs.Common.{◌≡◌, ℕ, ◌<◌, ◌↔◌, IsTrue, nat_eq, Bool, true, length, ◌∙◌}
+use Rattle.std.proofs.Common.{◌≡◌, ℕ, ◌<◌, ◌↔◌, IsTrue, nat_eq, Bool, true, length, ◌∙◌, sym, ap, subst}
 use Rattle.std.specs.List.{All, Contains}
 use Rattle.std.specs.Set.{is_member}
 use Rattle.cq_match.specs.Matched.{numbers, is_matched}
-use Rattle.cq_match.specs.Steps.Places.{number_at, AreSlots, AreOffersOf}
+use Rattle.cq_match.specs.Steps.Places.{number_at, AreSlots, AreOffersOf, IsRanked}
 use Rattle.cq_match.specs.Steps.Settle.{stands, FeedsItself}
 use Rattle.cq_match.proofs.Union.{found-matched, ends-ranked, if-ok-both, owners-low}
+use Rattle.std.specs.List.Sorted.{IsNonDecreasingBy}
+use Rattle.cq_match.specs.declared.settle.Offer.{Offer}
 use Rattle.cq_match.proofs.matched.greatest.Goals as goal
 
 pub offers_of-requires-clause-ends : goal.offers_of-requires-clause-ends
@@ -43,3 +45,28 @@ returns-clause-matched g c =
     (ends-ranked nodes ranked.items edges c.in_ok-ranked.ensures.permutation c.requires.ends) are offered itself greatest same known)
     (rw (c.deref-5.ensures.value, c.deref-6.ensures.value) at c.standing_numbers.ensures.found)
     (rw c.deref-5.ensures.value at c.standing_numbers.ensures.known)
+
+pub offers_of-requires-clause-rising : goal.offers_of-requires-clause-rising
+offers_of-requires-clause-rising g c = subst IsRanked (sym c.deref-2.ensures.value) c.in_ok-ranked.ensures.rising
+
+pub offers_of-requires-clause-slots : goal.offers_of-requires-clause-slots
+offers_of-requires-clause-slots g c =
+    subst (λ nodes. AreSlots nodes c.in_ok-slots.slots.starts.items c.in_ok-slots.slots.owners.items) (c.deref.ensures.value ∙ sym c.deref-2.ensures.value) c.in_ok-slots.ensures
+
+pub settled-requires-clause-offers_low : goal.settled-requires-clause-offers_low
+settled-requires-clause-offers_low g c =
+    let owners = c.in_ok-slots.slots.owners.items in
+    let len : length c.deref-2.result.now ≡ c.len.result = ap length c.deref-2.ensures.value ∙ sym (c.len.ensures ∙ c.in_ok-ranked.ranked.ok.0) in
+    rw (c.deref-3.ensures.value, c.deref-4.ensures.value)
+    (subst (λ (n : ℕ). All (λ (offer : Offer). (offer.provider < n) × (offer.slot < length owners)) c.in_ok-offers.offers.items) len c.in_ok-offers.ensures.offers.low)
+
+pub settled-requires-clause-grouped : goal.settled-requires-clause-grouped
+settled-requires-clause-grouped g c = subst (IsNonDecreasingBy (λ (offer : Offer). offer.provider)) (sym c.deref-4.ensures.value) c.in_ok-offers.ensures.grouped
+
+pub standing_numbers-requires-clause-same_len : goal.standing_numbers-requires-clause-same_len
+standing_numbers-requires-clause-same_len g c =
+    let len : length c.in_ok-standing.standing.items ≡ length c.in_ok-ranked.ranked.items = sym c.in_ok-standing.standing.ok.0 ∙ c.in_ok-standing.ensures.len ∙ c.len.ensures ∙ c.in_ok-ranked.ranked.ok.0 in
+    ap length c.deref-6.ensures.value ∙ len ∙ sym (ap length c.deref-5.ensures.value)
+
+pub returns-clause-rising : goal.returns-clause-rising
+returns-clause-rising g c = c.standing_numbers.ensures.rising

@@ -1,6 +1,9 @@
-use Rattle.std.proofs.Common.{arith}
-use Rattle.std.proofs.lemmas.List.{get_or_read}
+use Rattle.std.proofs.Common.{arith, ◌≡◌, ℕ, ◌<◌, Bool, sym, ap, subst, ◌∙◌}
+use Rattle.std.proofs.lemmas.List.{get_or_read, get_or-map}
 use Rattle.cq_match.proofs.Offered.{posts-of, within-slots}
+use Rattle.std.specs.List.{Any, Contains}
+use Rattle.cq_match.specs.Matched.{numbers}
+use Rattle.cq_match.proofs.Ranks.{Nodes, length-numbers}
 use Rattle.cq_match.proofs.matched.offer_of.Goals as goal
 
 pub overflow_add-result : goal.overflow_add-result
@@ -38,3 +41,23 @@ returns g c =
           let from = c.from.ensures in
           omega arith;
     }
+
+-- a node of the list has its number there
+number-known : (ranked : Nodes) (waiter post : ℕ) → Any (λ (node : ℕ × ℕ × Bool). (node.0 ≡ waiter) × (post < node.1)) ranked → Contains (numbers ranked) waiter
+number-known ranked waiter post (k, node, low, at, (is, has)) =
+    (k, subst (λ (n : ℕ). k < n) (sym (length-numbers ranked)) low, get_or-map (λ node. node.0) ranked k node waiter low ∙ ap (λ (n : ℕ × ℕ × Bool). n.0) at ∙ is)
+
+pub place_of-waiter-requires-clause-rising : goal.place_of-waiter-requires-clause-rising
+place_of-waiter-requires-clause-rising g c = c.requires.rising
+
+pub place_of-waiter-requires-clause-known : goal.place_of-waiter-requires-clause-known
+place_of-waiter-requires-clause-known g c = number-known c.args.ranked.now c.args.edge.waiter c.args.edge.post c.requires.waiter
+
+pub place_of-requires-clause-rising : goal.place_of-requires-clause-rising
+place_of-requires-clause-rising g c = c.requires.rising
+
+pub place_of-requires-clause-known : goal.place_of-requires-clause-known
+place_of-requires-clause-known g c = c.requires.provider
+
+pub index-requires : goal.index-requires
+index-requires g c = omega (arith, c.place_of-waiter.ensures.low, c.requires.slots.starts_len, c.args.slots.now.starts.ok.0)

@@ -38,3 +38,18 @@ returns g c node start =
     walked-out c.args.edges.now c.args.falls.now c.requires.parts.good node c.loop-place.left wanted (reverse c.loop-place.part.items)
     (none-wanted wanted (λ some. let never : false ≡ true = rw c.in_default.is at (c.pop_last.ensures.variant.1 some) in cc)) c.loop-place.invariant.low
     (c.loop-place.invariant.walking node start)
+
+pub loop-place-init : goal.loop-place-init
+loop-place-init g c = record {
+  low = c.requires.low;
+  below = c.requires.below;
+  walking = λ node start. start;
+}
+
+pub bounds-falls-left : goal.bounds-falls-left
+bounds-falls-left g c =
+    let under = last-below c.loop-place.wanted.keys c.pop_last.new.self.keys c.in-Some.place c.loop-place.left c.in-Some.ensures.removal c.loop-place.invariant.below in
+    omega (arith, under, c.loop-place.invariant.low)
+
+pub loop-place-smaller : goal.loop-place-smaller
+loop-place-smaller g c = last-below c.loop-place.wanted.keys c.pop_last.new.self.keys c.in-Some.place c.loop-place.left c.in-Some.ensures.removal c.loop-place.invariant.below

@@ -1,9 +1,11 @@
-use Rattle.std.proofs.Common.{◌≡◌, ◌+◌, ◌-◌, ◌<◌, inl, ◌++◌, ◌∷◌, [], get_or, length, vec_len, arith, refl, sym, ap, ◌∙◌}
-use Rattle.std.proofs.lemmas.List.{get_or-set_same}
+use Rattle.std.proofs.Common.{◌≡◌, ◌+◌, ◌-◌, ◌<◌, inl, ◌++◌, ◌∷◌, [], get_or, length, vec_len, arith, refl, sym, ap, ◌∙◌, count_by}
+use Rattle.std.proofs.lemmas.List.{get_or-set_same, drop_all}
 use Rattle.std.proofs.lemmas.List.Elements.{Contains-append_left, Contains-get_or}
 use Rattle.cq_match.specs.declared.settle.Offer.{Offer}
 use Rattle.cq_match.proofs.Dropping.{counts-some, lowered-more, each-emptied, each-left, only-left, only-emptied, sum-lowered}
 use Rattle.cq_match.proofs.settle.drop_offers.Goals as goal
+use Rattle.std.proofs.lemmas.Result.{IfOk-from_err}
+use Rattle.cq_match.specs.Steps.Settle.{is_into}
 use Rattle.cq_match.proofs.settle.drop_offers.Goals.{then-counts-offer-eq0+in_ok-push, else-counts-offer-eq0}
 
 pub loop-offer-init : goal.loop-offer-init
@@ -55,3 +57,56 @@ loop-offer-preserved g c =
             fewer = let same : vec_len c.if-counts-offer-eq0.waiting ≡ vec_len c.loop-offer.waiting = ap vec_len w.waiting-is in omega arith;
           }
     ]
+
+pub returns-clause-lowered : goal.returns-clause-lowered
+returns-clause-lowered g c slot =
+    let none = ap (count_by (is_into slot)) (drop_all c.loop-offer.offer-index c.args.offers.now c.loop-offer-test.false) in
+    let same = c.loop-offer.invariant.lowered slot in
+    omega (arith, none, same)
+
+pub returns-clause-each : goal.returns-clause-each
+returns-clause-each g c = c.loop-offer.invariant.each
+
+pub returns-clause-kept : goal.returns-clause-kept
+returns-clause-kept g c = c.loop-offer.invariant.kept
+
+pub returns-clause-only : goal.returns-clause-only
+returns-clause-only g c = c.loop-offer.invariant.only
+
+pub returns-clause-fewer : goal.returns-clause-fewer
+returns-clause-fewer g c = c.loop-offer.invariant.fewer
+
+pub returns-in_err-push-clause-lowered : goal.returns-in_err-push-clause-lowered
+returns-in_err-push-clause-lowered g c = IfOk-from_err c.from_residual.result _ c.from_residual.ensures.0
+
+pub returns-in_err-push-clause-each : goal.returns-in_err-push-clause-each
+returns-in_err-push-clause-each g c = IfOk-from_err c.from_residual.result _ c.from_residual.ensures.0
+
+pub returns-in_err-push-clause-kept : goal.returns-in_err-push-clause-kept
+returns-in_err-push-clause-kept g c = IfOk-from_err c.from_residual.result _ c.from_residual.ensures.0
+
+pub returns-in_err-push-clause-only : goal.returns-in_err-push-clause-only
+returns-in_err-push-clause-only g c = IfOk-from_err c.from_residual.result _ c.from_residual.ensures.0
+
+pub returns-in_err-push-clause-fewer : goal.returns-in_err-push-clause-fewer
+returns-in_err-push-clause-fewer g c = IfOk-from_err c.from_residual.result _ c.from_residual.ensures.0
+
+pub bounds-counts-offer : goal.bounds-counts-offer
+bounds-counts-offer g c =
+    let low = c.requires.low c.loop-offer.offer-index (record { provider = 0; slot = 0 }) c.loop-offer-test.true in
+    omega (arith, low, c.loop-offer.auto.counts, c.requires.same_len)
+
+pub bounds-owners-offer : goal.bounds-owners-offer
+bounds-owners-offer g c = c.requires.low c.loop-offer.offer-index (record { provider = 0; slot = 0 }) c.loop-offer-test.true
+
+pub overflow_sub-counts : goal.overflow_sub-counts
+overflow_sub-counts g c =
+    let offers = c.args.offers.now in
+    let i = c.loop-offer.offer-index in
+    let none : Offer = record { provider = 0; slot = 0 } in
+    counts-some c.args.owners.now c.args.counts.now c.loop-offer.counts offers i (get_or offers i none).slot none c.loop-offer-test.true refl (c.requires.low i none c.loop-offer-test.true) c.requires.counted c.loop-offer.invariant.lowered
+
+pub bounds-counts-offer-in-loop-offer : goal.bounds-counts-offer-in-loop-offer
+bounds-counts-offer-in-loop-offer g c =
+    let low = c.requires.low c.loop-offer.offer-index (record { provider = 0; slot = 0 }) c.loop-offer-test.true in
+    omega (arith, low, c.loop-offer.auto.counts, c.requires.same_len)

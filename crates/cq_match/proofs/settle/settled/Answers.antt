@@ -88,3 +88,18 @@ loop-place-preserved g c =
 
 pub returns-clause-itself : goal.returns-clause-itself
 returns-clause-itself g c = settled-itself c.args.places c.args.owners.now c.args.offers.now c.loop-place.standing.items c.loop-place.counts.items c.loop-place.waiting.items c.loop-place.invariant (omega (arith, c.in_default.ensures.cases.0, c.loop-place.waiting.ok.0))
+
+pub unfed-requires : goal.unfed-requires
+unfed-requires g c = ap length c.deref.ensures.value ∙ sym c.in_ok-counts.counts.ok.0 ∙ c.in_ok-counts.ensures.len
+
+pub drop_offers-requires-clause-same_len : goal.drop_offers-requires-clause-same_len
+drop_offers-requires-clause-same_len g c = ap length c.deref_mut.ensures.value ∙ c.loop-place.invariant.counts_len
+
+pub offers_from-requires : goal.offers_from-requires
+offers_from-requires g c = c.requires.grouped
+
+pub returns-clause-greatest : goal.returns-clause-greatest
+returns-clause-greatest g c = c.loop-place.invariant.stays
+
+pub returns-clause-len : goal.returns-clause-len
+returns-clause-len g c = c.loop-place.standing.ok.0 ∙ c.loop-place.invariant.standing_len

@@ -1,13 +1,13 @@
-use Rattle.std.proofs.Common.{◌≡◌, true, false, if◌then◌else◌, ◌+◌, ◌<◌, ◌∷◌, ◌++◌, [], List, length, get_or, set, take, drop, sym, ap, ◌∙◌, subst, arith}
-use Rattle.std.proofs.lemmas.List.{get_or_default, take_all}
+use Rattle.std.proofs.Common.{◌≡◌, true, false, if◌then◌else◌, ◌+◌, ◌<◌, ◌∷◌, ◌++◌, [], List, length, get_or, set, take, drop, sym, ap, ◌∙◌, subst, arith, ℕ}
+use Rattle.std.proofs.lemmas.List.{get_or_default, take_all, drop_all}
 use Rattle.cq_atom.specs.declared.edge.Edge.{Edge}
 use Rattle.cq_match.specs.declared.graph.Place.{Place}
 use Rattle.cq_match.specs.declared.graph.Out.{Out}
-use Rattle.cq_match.specs.Steps.Kept.{free, place_at, is_live, edge_of, edges_left, edges_from, Counting, Reaches}
+use Rattle.cq_match.specs.Steps.Kept.{free, place_at, is_live, edge_of, edges_left, edges_from, Counting, Reaches, count_at}
 use Rattle.cq_match.proofs.Rows.{post-placed}
 use Rattle.cq_match.proofs.Edges.{left-live, left-gone}
 use Rattle.cq_match.proofs.Fits.{edge-fits}
-use Rattle.cq_match.proofs.Raising.{raise-counting, marks-left, grown-more, taken, take-grown, take-reaches_more, first-live, first-gone}
+use Rattle.cq_match.proofs.Raising.{raise-counting, marks-left, grown-more, taken, take-grown, take-reaches_more, first-live, first-gone, raise-fits}
 use Rattle.cq_match.proofs.marks.Marks.raise_all.Goals as goal
 use Rattle.cq_match.proofs.marks.Marks.raise_all.Goals.{then-is_live, else-is_live}
 
@@ -95,3 +95,105 @@ returns-clause-reaches g c =
     let same : outs ≡ get_or leaving node [] = c.outs-outs.ensures ∙ c.index.ensures ∙ get_or_default leaving node c.index.result.now [] c.requires.within in
     let all : take c.loop-out.out-index outs ≡ outs = take_all c.loop-out.out-index outs c.loop-out-test.false in
     subst (λ (os : List Out). Reaches places c.loop-out.self.matched.items (edges_left places node os)) (all ∙ same) c.loop-out.invariant.reaches
+
+pub index-requires : goal.index-requires
+index-requires g c = omega (arith, c.requires.within, c.args.graph.now.leaving.ok.0)
+
+pub index-requires-then-is_live : goal.index-requires-then-is_live
+index-requires-then-is_live g c =
+    let places = c.args.graph.now.places.items in
+    let leaving = c.args.graph.now.leaving.items in
+    let node = c.args.node in
+    let outs = c.outs-outs.result.now in
+    let i = c.loop-out.out-index in
+    let none : Out = record { head = 0; waiter = 0; post = 0; stamp = 0 } in
+    let out : Out = get_or outs i none in
+    let same : outs ≡ get_or leaving node [] = c.outs-outs.ensures ∙ c.index.ensures ∙ get_or_default leaving node c.index.result.now [] c.requires.within in
+    let live : is_live places out ≡ true = ap (λ (ps : List Place). is_live ps out) (sym c.deref.ensures.value) ∙ sym c.is_live.ensures ∙ c.if-is_live.true in
+    let fits = edge-fits places leaving node i outs none c.requires.fit same c.loop-out-test.true live in
+    let placed = post-placed places out.waiter out.post fits in
+    omega (arith, placed, c.args.graph.now.places.ok.0)
+
+pub raise-requires-clause-waiter_within : goal.raise-requires-clause-waiter_within
+raise-requires-clause-waiter_within g c =
+    let places = c.args.graph.now.places.items in
+    let leaving = c.args.graph.now.leaving.items in
+    let node = c.args.node in
+    let outs = c.outs-outs.result.now in
+    let i = c.loop-out.out-index in
+    let none : Out = record { head = 0; waiter = 0; post = 0; stamp = 0 } in
+    let out : Out = get_or outs i none in
+    let same : outs ≡ get_or leaving node [] = c.outs-outs.ensures ∙ c.index.ensures ∙ get_or_default leaving node c.index.result.now [] c.requires.within in
+    let live : is_live places out ≡ true = ap (λ (ps : List Place). is_live ps out) (sym c.deref.ensures.value) ∙ sym c.is_live.ensures ∙ c.if-is_live.true in
+    let fits = edge-fits places leaving node i outs none c.requires.fit same c.loop-out-test.true live in
+    let placed = post-placed places out.waiter out.post fits in
+    omega (arith, placed, c.loop-out.invariant.counting.counts_len)
+
+pub raise-requires-clause-waiter_marked : goal.raise-requires-clause-waiter_marked
+raise-requires-clause-waiter_marked g c =
+    let places = c.args.graph.now.places.items in
+    let leaving = c.args.graph.now.leaving.items in
+    let node = c.args.node in
+    let outs = c.outs-outs.result.now in
+    let i = c.loop-out.out-index in
+    let none : Out = record { head = 0; waiter = 0; post = 0; stamp = 0 } in
+    let out : Out = get_or outs i none in
+    let same : outs ≡ get_or leaving node [] = c.outs-outs.ensures ∙ c.index.ensures ∙ get_or_default leaving node c.index.result.now [] c.requires.within in
+    let live : is_live places out ≡ true = ap (λ (ps : List Place). is_live ps out) (sym c.deref.ensures.value) ∙ sym c.is_live.ensures ∙ c.if-is_live.true in
+    let fits = edge-fits places leaving node i outs none c.requires.fit same c.loop-out-test.true live in
+    let placed = post-placed places out.waiter out.post fits in
+    omega (arith, placed, c.loop-out.invariant.grown.len, c.requires.lists)
+
+pub raise-requires-clause-post_within : goal.raise-requires-clause-post_within
+raise-requires-clause-post_within g c =
+    let places = c.args.graph.now.places.items in
+    let leaving = c.args.graph.now.leaving.items in
+    let node = c.args.node in
+    let outs = c.outs-outs.result.now in
+    let i = c.loop-out.out-index in
+    let none : Out = record { head = 0; waiter = 0; post = 0; stamp = 0 } in
+    let out : Out = get_or outs i none in
+    let same : outs ≡ get_or leaving node [] = c.outs-outs.ensures ∙ c.index.ensures ∙ get_or_default leaving node c.index.result.now [] c.requires.within in
+    let live : is_live places out ≡ true = ap (λ (ps : List Place). is_live ps out) (sym c.deref.ensures.value) ∙ sym c.is_live.ensures ∙ c.if-is_live.true in
+    let fits = edge-fits places leaving node i outs none c.requires.fit same c.loop-out-test.true live in
+    let len = c.loop-out.invariant.counting.row_len out.waiter in
+    omega (arith, fits, len, c.from.ensures)
+
+pub raise-requires-clause-fits : goal.raise-requires-clause-fits
+raise-requires-clause-fits g c =
+    let places = c.args.graph.now.places.items in
+    let leaving = c.args.graph.now.leaving.items in
+    let node = c.args.node in
+    let outs = c.outs-outs.result.now in
+    let i = c.loop-out.out-index in
+    let none : Out = record { head = 0; waiter = 0; post = 0; stamp = 0 } in
+    let out : Out = get_or outs i none in
+    let same : outs ≡ get_or leaving node [] = c.outs-outs.ensures ∙ c.index.ensures ∙ get_or_default leaving node c.index.result.now [] c.requires.within in
+    let live : is_live places out ≡ true = ap (λ (ps : List Place). is_live ps out) (sym c.deref.ensures.value) ∙ sym c.is_live.ensures ∙ c.if-is_live.true in
+    let fits = edge-fits places leaving node i outs none c.requires.fit same c.loop-out-test.true live in
+    let edges : List Edge = edges_from places 0 leaving in
+    let s = c.loop-out.self in
+    let behind = edges_left places node (drop (i + 1) outs) in
+    let p : Counting places edges s.raised.items s.counts.items (edge_of node out ∷ behind) =
+    subst (Counting places edges s.raised.items s.counts.items) (left-live places node outs i none c.loop-out-test.true live) c.loop-out.invariant.counting in
+    let few = raise-fits places edges s.raised.items s.counts.items (edge_of node out) behind p fits 18446744073709551615 c.requires.few in
+    subst (λ (post : ℕ). count_at s.counts.items out.waiter post < 18446744073709551615) (sym c.from.ensures) few
+
+pub returns-clause-counting : goal.returns-clause-counting
+returns-clause-counting g c =
+    let places = c.args.graph.now.places.items in
+    let s = c.loop-out.self in
+    subst (λ (outs : List Out). Counting places (edges_from places 0 c.args.graph.now.leaving.items) s.raised.items s.counts.items (edges_left places c.args.node outs))
+    (drop_all c.loop-out.out-index c.outs-outs.result.now c.loop-out-test.false) c.loop-out.invariant.counting
+
+pub returns-clause-grown : goal.returns-clause-grown
+returns-clause-grown g c = c.loop-out.invariant.grown
+
+pub returns-clause-raised : goal.returns-clause-raised
+returns-clause-raised g c = c.loop-out.invariant.raised
+
+pub returns-clause-waiting : goal.returns-clause-waiting
+returns-clause-waiting g c = c.loop-out.invariant.waiting
+
+pub returns-clause-capacity : goal.returns-clause-capacity
+returns-clause-capacity g c = c.loop-out.invariant.capacity
