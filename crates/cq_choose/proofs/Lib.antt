@@ -2,6 +2,7 @@ pub mod Lists
 pub mod Stocks
 pub mod Terms
 pub mod Kept
+mod Onward
 pub mod Reaching
 pub mod Offered
 pub mod Concerned

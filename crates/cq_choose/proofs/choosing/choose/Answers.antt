@@ -47,3 +47,6 @@ returns-clause-none g c =
 pub returns-clause-undecided : goal.returns-clause-undecided
 returns-clause-undecided g c e =
     c.in_ok-selected.ensures.undecided (answers-undecided (map offer_of c.deref-5.result.now) c.in_ok-selected.field-0.selected c.in_ok-answer.answer c.in_ok-answer.ensures e)
+
+pub returns-clause-within : goal.returns-clause-within
+returns-clause-within g c = c.in_ok-selected.ensures.within
