@@ -6,7 +6,7 @@ use Rattle.std.specs.List.Sorted.{IsPartitionedBy, IsPartitionPoint}
 use Rattle.std.specs.declared.cmp.Ordering.{Ordering}
 use Rattle.std.specs.declared.cmp.Ordering.TheVariants.{Less, Equal, Greater}
 use Rattle.std.specs.Ordering.{is_lt, is_gt, is_eq}
-use Rattle.std.proofs.lemmas.List.{drop_more, drop_at, take-append-drop, length-take-le, length-drop, get_or-take, get_or-drop}
+use Rattle.std.proofs.lemmas.List.{append-nil, take_all, drop_all, drop_more, drop_at, take-append-drop, length-take-le, length-drop, get_or-take, get_or-drop}
 use Rattle.std.proofs.lemmas.List.Elements.{filter-append}
 use Rattle.std.proofs.lemmas.Option.{get_or_from_slice_get}
 use Rattle.cq_blocks.proofs.Halving.{by_bool}
@@ -102,3 +102,12 @@ module _ {X : Type 0} (ord : X → Ordering) (p : X → Bool) where
         (known.so_far
         ∙ ap (λ l. take at now ++ l) (ap (filter kept) here ∙ (subst (λ l. AreSettled l) here known.settled).0 unequal ∙ sym here)
         ∙ take-append-drop at now)
+
+  -- all were gone through
+  pub kept-all : (old now : List X) (at : ℕ) → AreKept old now at → length now ≤ at → now ≡ filter kept old
+  kept-all old now at known past =
+      sym
+      (known.so_far
+      ∙ ap (λ l. l ++ filter kept (drop at now)) (take_all at now past)
+      ∙ ap (λ l. now ++ filter kept l) (drop_all at now past)
+      ∙ append-nil now)

@@ -8,3 +8,6 @@ pub mod Retained
 pub mod Ends
 pub mod Flat
 pub mod Fates
+mod Within
+mod Yielded
+mod Edited

@@ -1,11 +1,12 @@
-use Rattle.std.proofs.Common.{◌≡◌, Bool, [], length, get_or, inl, inr, arith, sym, ap, ◌∙◌}
+use Rattle.std.proofs.Common.{◌≡◌, ◌+◌, Bool, [], length, get_or, inl, inr, arith, le_of_lt, sym, ap, ◌∙◌}
 use Rattle.std.specs.Prelude.{not, Vec}
 use Rattle.std.specs.Ordering.{is_gt}
 use Rattle.std.proofs.lemmas.List.{length-map}
-use Rattle.cq_blocks.specs.Blocks.{lists_of}
+use Rattle.cq_blocks.specs.Blocks.{lists_of, begin_of}
 use Rattle.cq_blocks.proofs.Vecs.{list-at}
 use Rattle.cq_blocks.proofs.Ranges.{rises}
 use Rattle.cq_blocks.proofs.Ends.{end-read, end-within, end-last, end-next}
+use Rattle.cq_blocks.proofs.Within.{further, below, up-below, below-lists, into-read, out-of-read}
 use Rattle.cq_blocks.proofs.equal.end_from.Goals as goal
 
 pub returns-then-next-blocks-clause-order : goal.returns-then-next-blocks-clause-order
@@ -40,3 +41,28 @@ returns-clause-between g c ord computes parted before =
       | inr other ↦
           end-within p bs from.block from.index c.requires.block c.requires.index parted before end (omega (arith, ap (λ l. length l) is, c.end_in-index.ensures.high, other)) inner
     ]
+
+pub bounds-blocks-from : goal.bounds-blocks-from
+bounds-blocks-from g c = below c.args.blocks.now c.args.from.block c.requires.block
+
+pub offset_bounds-blocks-from : goal.offset_bounds-blocks-from
+offset_bounds-blocks-from g c = up-below c.args.blocks.now c.args.from.block c.requires.block
+
+pub end_in-index-requires-clause-within : goal.end_in-index-requires-clause-within
+end_in-index-requires-clause-within g c =
+    into-read c.args.blocks.now c.args.from.block c.index-blocks-from.result c.as_slice-inside.result.now c.args.from.index c.requires.block c.index-blocks-from.is c.as_slice-inside.ensures.value c.requires.index
+
+pub point_from-requires-clause-within : goal.point_from-requires-clause-within
+point_from-requires-clause-within g c = below-lists c.args.blocks.now (c.args.from.block + 1) c.if-next-blocks.true
+
+pub returns-then-next-blocks-clause-place : goal.returns-then-next-blocks-clause-place
+returns-then-next-blocks-clause-place g c = (le_of_lt c.point_from.ensures.block, c.point_from.ensures.index)
+
+pub returns-clause-place : goal.returns-clause-place
+returns-clause-place g c = (
+  le_of_lt c.requires.block,
+  out-of-read c.args.blocks.now c.args.from.block c.index-blocks-from.result c.as_slice-inside.result.now c.end_in-index.result c.requires.block c.index-blocks-from.is c.as_slice-inside.ensures.value c.end_in-index.ensures.high,
+)
+
+pub returns-clause-order : goal.returns-clause-order
+returns-clause-order g c = further (begin_of (lists_of c.args.blocks.now) c.args.from.block) c.args.from.index c.end_in-index.result c.end_in-index.ensures.low

@@ -1,11 +1,13 @@
-use Rattle.std.proofs.Common.{true, false, not, ◌+◌, ◌-◌, ◌/◌, ◌<◌, length, arith, refl, ap, ◌∙◌}
+use Rattle.std.proofs.Common.{◌≡◌, true, false, not, ◌+◌, ◌-◌, ◌/◌, ◌<◌, length, arith, refl, ap, subst, ◌∙◌}
+use Rattle.std.proofs.Math.Nat.{lt_of_lt_of_le}
 use Rattle.std.specs.Ordering.{is_gt}
-use Rattle.std.specs.declared.cmp.Ordering.TheVariants.{Equal}
+use Rattle.std.specs.declared.cmp.Ordering.TheVariants.{Less, Equal, Greater}
 use borrow.Author.Rules.{of_calls}
-use Rattle.cq_blocks.specs.Blocks.{lists_of}
+use Rattle.cq_blocks.specs.Blocks.{elements, lists_of}
 use Rattle.cq_blocks.proofs.Lists.{filled-at}
 use Rattle.cq_blocks.proofs.Vecs.{length-at}
-use Rattle.cq_blocks.proofs.Halving.{computes-next, raised, lowered, begins, found-bound, found-equal, found-within, found-place}
+use Rattle.cq_blocks.proofs.Halving.{Halved, unhalved, computes-next, raised, lowered, begins, found-bound, found-equal, found-within, found-place}
+use Rattle.cq_blocks.proofs.Within.{many, below, up-below, middle-below, found-before, found-at, none-there, point-none}
 use Rattle.cq_blocks.proofs.blocks.Blocks.binary_search_by.Goals as goal
 
 pub index-requires : goal.index-requires
@@ -77,3 +79,47 @@ returns-in-Err-clause-position g c ord computes rises =
     found-place ord c.blocks-blocks.result.now c.args.self.now c.index-blocks-low.result c.deref.result.now c.halving.low c.halving.high c.in-Err.index c.blocks-blocks.ensures.blocks c.blocks-blocks.ensures.filled c.halving.invariant.order
     c.halving-test.false c.halving.invariant.within c.index-blocks-low.is c.deref.ensures.value
     c.in-Err.ensures.bound known.1 rises (c.in-Err.ensures.position ord known.0)
+
+pub returns-then-high-eq0-clause-position : goal.returns-then-high-eq0-clause-position
+returns-then-high-eq0-clause-position g c ord computes rises =
+    let xs = elements c.args.self.now in
+    point-none (λ x. ord x ≡ Less) (λ x. ord x ≡ Greater) xs (none-there c.blocks-blocks.result.now c.args.self.now c.blocks-blocks.ensures.blocks c.if-high-eq0.true)
+
+pub halving-init : goal.halving-init
+halving-init g c =
+    let vs = c.blocks-blocks.result.now in record {
+      order = omega arith;
+      within = omega (arith, many vs);
+      callable = c.requires;
+      found = λ ord computes. (computes, subst (λ n. Halved (λ y. not (is_gt (ord y))) (lists_of vs) 0 n) (many vs) (unhalved (λ y. not (is_gt (ord y))) (lists_of vs)));
+    }
+
+pub bounds-blocks-middle : goal.bounds-blocks-middle
+bounds-blocks-middle g c =
+    let vs = c.blocks-blocks.result.now in
+    below vs (c.halving.low + (c.halving.high - c.halving.low) / 2) (middle-below c.halving.low c.halving.high (length (lists_of vs)) c.halving.invariant.order c.halving.invariant.within)
+
+pub offset_bounds-blocks-middle : goal.offset_bounds-blocks-middle
+offset_bounds-blocks-middle g c =
+    let vs = c.blocks-blocks.result.now in
+    up-below vs (c.halving.low + (c.halving.high - c.halving.low) / 2) (middle-below c.halving.low c.halving.high (length (lists_of vs)) c.halving.invariant.order c.halving.invariant.within)
+
+pub bounds-blocks-low : goal.bounds-blocks-low
+bounds-blocks-low g c =
+    let vs = c.blocks-blocks.result.now in
+    below vs c.halving.low (lt_of_lt_of_le c.halving.invariant.order c.halving.invariant.within)
+
+pub offset_bounds-blocks-low : goal.offset_bounds-blocks-low
+offset_bounds-blocks-low g c =
+    let vs = c.blocks-blocks.result.now in
+    up-below vs c.halving.low (lt_of_lt_of_le c.halving.invariant.order c.halving.invariant.within)
+
+pub returns-in-Ok-clause-place : goal.returns-in-Ok-clause-place
+returns-in-Ok-clause-place g c =
+    found-before c.blocks-blocks.result.now c.args.self.now c.index-blocks-low.result c.deref.result.now c.halving.low c.halving.high c.in-Ok.index c.blocks-blocks.ensures.blocks c.halving.invariant.order c.halving.invariant.within
+    c.index-blocks-low.is c.deref.ensures.value c.in-Ok.ensures.bound
+
+pub returns-in-Err-clause-place : goal.returns-in-Err-clause-place
+returns-in-Err-clause-place g c =
+    found-at c.blocks-blocks.result.now c.args.self.now c.index-blocks-low.result c.deref.result.now c.halving.low c.halving.high c.in-Err.index c.blocks-blocks.ensures.blocks c.halving.invariant.order c.halving.invariant.within
+    c.index-blocks-low.is c.deref.ensures.value c.in-Err.ensures.bound

@@ -1,5 +1,8 @@
 use Rattle.std.proofs.Common.{◌+◌, ◌-◌, refl, arith}
+use Rattle.std.proofs.Math.Nat.{lt_of_lt_of_le}
+use Rattle.std.proofs.Math.Numerals.{add-one-le}
 use Rattle.cq_blocks.proofs.Ranges.{filled-part, ranges-over, ranges-same, ranges-none}
+use Rattle.cq_blocks.proofs.Within.{within-view, place-view, within-taken}
 use Rattle.cq_blocks.proofs.blocks.Blocks.range.Goals as goal
 
 pub invariant_of-result : goal.invariant_of-result
@@ -17,3 +20,23 @@ returns-then-from-to-2 g c =
 
 pub returns : goal.returns
 returns g c = ranges-none c.blocks-blocks.result.now c.args.self.now c.args.from.block c.args.to.block c.args.from.index c.args.to.index (omega arith) c.requires.from.0 c.requires.to.1
+
+pub up_to-back-requires : goal.up_to-back-requires
+up_to-back-requires g c = place-view c.blocks-blocks.result.now c.args.self.now c.blocks-blocks.ensures.blocks c.args.to.block c.args.to.index c.requires.to.0 c.requires.to.1
+
+pub from_on-requires : goal.from_on-requires
+from_on-requires g c = place-view c.blocks-blocks.result.now c.args.self.now c.blocks-blocks.ensures.blocks c.args.from.block c.args.from.index c.requires.from.0 c.requires.from.1
+
+pub offset_bounds-blocks-from : goal.offset_bounds-blocks-from
+offset_bounds-blocks-from g c =
+    add-one-le (lt_of_lt_of_le c.if-from-to.true (within-view c.blocks-blocks.result.now c.args.self.now c.blocks-blocks.ensures.blocks c.args.to.block c.requires.to.0))
+
+pub offset_bounds-back-from : goal.offset_bounds-back-from
+offset_bounds-back-from g c =
+    within-taken c.blocks-blocks.result.now c.args.self.now c.blocks-blocks.ensures.blocks c.args.from.block c.args.to.block c.args.from.index c.args.to.index c.up_to-back.result.now c.up_to-back.ensures c.if-from-to-2.true
+    c.requires.to.1 c.requires.order
+
+pub slice_bounds-result-count-then-from-to-2 : goal.slice_bounds-result-count-then-from-to-2
+slice_bounds-result-count-then-from-to-2 g c =
+    within-taken c.blocks-blocks.result.now c.args.self.now c.blocks-blocks.ensures.blocks c.args.from.block c.args.to.block c.args.from.index c.args.to.index c.up_to-back.result.now c.up_to-back.ensures c.if-from-to-2.true
+    c.requires.to.1 c.requires.order
