@@ -11,3 +11,8 @@ pub mod Plain
 pub mod Firsts
 pub mod Among
 pub mod Finite
+mod Arity
+mod Upto
+mod Onward
+mod Never
+mod SameVariable

@@ -1,6 +1,9 @@
 use Rattle.std.proofs.Common.{rules, ◌≡◌, sym, ◌∙◌, true, false}
 use Rattle.cq_atom.proofs.Meets.{IsClosed, meets_agree_left, meets_agree_across}
 use Rattle.cq_atom.proofs.Closes.{closes, third_tells}
+use Rattle.cq_atom.proofs.Glue.{false_case}
+use Rattle.cq_atom.proofs.Never.{never, meet-even}
+use Rattle.cq_atom.specs.Steps.Meets.{CanMeet}
 use Rattle.cq_atom.proofs.unification.can_meet.Goals as goal
 use Rattle.cq_atom.proofs.unification.can_meet.Goals.{then-agree, else-agree}
 
@@ -27,3 +30,11 @@ returns-else-agree-2 g c =
         | else-agree w ↦ let e : false ≡ true = sym w.if-agree.false ∙ c.agree.ensures.tells.1 (meets_agree_left ls xs ys closed m) in cc
       ],
     )
+
+pub returns-then-a-b : goal.returns-then-a-b
+returns-then-a-b g c =
+    false_case (CanMeet c.args.a.now c.args.b.now) (λ m. c.if-a-b.true (meet-even c.args.a.now c.args.b.now m))
+
+pub returns-then-not-may_meet_all : goal.returns-then-not-may_meet_all
+returns-then-not-may_meet_all g c =
+    never (CanMeet c.args.a.now c.args.b.now) (λ m. sym c.if-not-may_meet_all.true ∙ c.may_meet_all.ensures m)

@@ -1,4 +1,7 @@
-use Rattle.std.proofs.Common.{sym, ap, ◌∙◌, ◌≡◌, true, Some, get_or}
+use Rattle.std.proofs.Common.{sym, ap, ◌∙◌, ◌≡◌, ◌<◌, [], true, Some, arith, get_or, length, subst}
+use Rattle.std.specs.Prelude.{pos}
+use Rattle.cq_atom.specs.declared.value.Content.TheVariants.{Number}
+use Rattle.cq_atom.specs.Valuation.{Bindings}
 use Rattle.cq_atom.specs.Text.{is_variable_name}
 use Rattle.cq_atom.proofs.Names.{name-of_variable}
 use Rattle.cq_atom.proofs.Bindings.{FirstAt-position, value_at-none, value_at-first, value_at-bound, value_at-pushed}
@@ -29,3 +32,9 @@ returns-clause-ok g c =
     let made = rw (name-of_variable c.args.name.now variable) at c.in_ok-name.ensures in
     value_at-pushed c.args.name.now c.in_ok-name.name c.args.value c.self.inside.bindings.items c.push.new.self.items c.args.self.now c.self.view_is c.in_ok-push.ensures.items made
     (value_at-none c.args.name.now c.args.self.now (sym c.in_default.ensures))
+
+pub index_mut-requires : goal.index_mut-requires
+index_mut-requires g c =
+    let first = FirstAt-position c.args.name.now c.args.self.now c.in-Some.place ([], Number (pos 0)) (sym c.in-Some.ensures) in
+    let inside : c.in-Some.place < length c.self.inside.bindings.items = subst (λ (v : Bindings). c.in-Some.place < length v) (sym c.self.view_is) first.inside in
+    omega (arith, inside, c.self.inside.bindings.ok.0)
