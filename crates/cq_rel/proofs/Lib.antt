@@ -15,3 +15,6 @@ pub mod Ordered
 pub mod Turned
 pub mod Permuted
 pub mod Columns
+mod Copied
+mod Refused
+mod Declared
