@@ -1,5 +1,5 @@
 -- A copy that is made place by place.
-use Rattle.std.proofs.Common.{◌≡◌, ℕ, false, nat_eq, List, [], ◌∷◌, ◌++◌, None, refl, sym, ap, subst, ◌∙◌}
+use Rattle.std.proofs.Common.{◌≡◌, ℕ, false, nat_eq, List, [], ◌∷◌, ◌++◌, None, append-nil, refl, sym, ap, subst, ◌∙◌}
 use Rattle.std.specs.List.{AllByRecursion, IsDistinct}
 use Rattle.std.specs.Map.{keys_of}
 use Rattle.std.specs.Ordering.{nat_cmp}
@@ -32,3 +32,8 @@ module _ where
   copied_more m n done e rest all made split distinct added =
       let gone : find nat_cmp e.0 done ≡ None = find-kept done e.0 ∙ (new_place done e rest (subst (λ l. IsDistinct nat_eq (keys_of l)) split distinct)) in
       added ∙ ap (λ o. insert o e.0 e.1) made ∙ sym (from_entries_push nat_cmp_total nat_cmp-IsAntisymmetric done e.0 e.1 gone)
+
+  -- nothing is left
+  pub copied_all : (m n : FinMap nat_cmp AtomRecord) (done rest all kept : List (ℕ × AtomRecord)) → m ≡ from_entries done → all ≡ done ++ rest → rest ≡ [] → all ≡ kept → from_entries kept ≡ n → m ≡ n
+  copied_all m n done rest all kept made split none whole view =
+      made ∙ ap from_entries (sym (append-nil done) ∙ ap (λ l. done ++ l) (sym none) ∙ sym split ∙ whole) ∙ view

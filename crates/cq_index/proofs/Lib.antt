@@ -2,6 +2,9 @@ pub mod Changes
 pub mod Views
 pub mod Indexed
 pub mod Listed
+mod Firsts
+mod Filled
+mod Counted
 pub mod Candidates
 pub mod Joined
 pub mod Gathered

@@ -1,4 +1,5 @@
 pub mod Found
 pub mod Removed
 pub mod Added
+mod Walked
 pub mod CallerLemmas

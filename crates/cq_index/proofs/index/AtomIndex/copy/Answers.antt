@@ -3,8 +3,9 @@ use Rattle.std.specs.List.{IsDistinct}
 use Rattle.std.specs.Map.{keys_of}
 use Rattle.std.specs.Map.Iter.{deref_pair}
 use Rattle.std.proofs.lemmas.Map.Iter.{rest_more}
+use Rattle.std.proofs.lemmas.Result.{IfOk-from_err}
 use Rattle.cq_atom.specs.Atom.{AtomRecord}
-use Rattle.cq_index.proofs.Copied.{copied_absent, copied_more}
+use Rattle.cq_index.proofs.Copied.{copied_absent, copied_all, copied_more}
 use Rattle.cq_index.proofs.index.AtomIndex.copy.Goals as goal
 
 pub loop-place-init : goal.loop-place-init
@@ -33,3 +34,12 @@ loop-place-preserved g c =
       split = split ∙ sym (append_assoc now.done (item ∷ []) c.next.new.self);
       made = copied_more c.loop-place.copy c.add.new.self now.done item c.next.new.self whole now.made split distinct c.in_ok-add.ensures.ok;
     }
+
+pub returns-in_err-add : goal.returns-in_err-add
+returns-in_err-add g c = IfOk-from_err c.from_residual.result _ c.from_residual.ensures.0
+
+pub returns : goal.returns
+returns g c =
+    let now = c.loop-place.invariant in
+    copied_all c.loop-place.copy c.args.self.now now.done c.loop-place.place-iterator c.into_iter-place-iterator.result c.self.inside.kept.entries
+    now.made now.split c.in-None.ensures.steps.0 c.into_iter-place-iterator.ensures.into_iter_gives.0 c.self.view_is
