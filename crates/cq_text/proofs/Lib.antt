@@ -26,3 +26,6 @@ mod PrintedTokens
 mod PrintedBack
 mod PrintedLengths
 mod PrintedBound
+mod Made
+mod Passed
+mod Queried
