@@ -1,6 +1,8 @@
 use Rattle.std.proofs.Common.{map, arith}
+use Rattle.std.proofs.lemmas.Bool.{true≢false, false≢true}
+use Rattle.std.proofs.lemmas.List.{drop_all}
 use Rattle.cq_reached.specs.Steps.Taking.{names_of}
-use Rattle.cq_reached.proofs.Taking.{leads-more}
+use Rattle.cq_reached.proofs.Taking.{leads-begin, leads-more, leads-end}
 use Rattle.cq_reached.proofs.quick.take_all.Goals as goal
 
 pub loop-name-preserved : goal.loop-name-preserved
@@ -12,3 +14,24 @@ loop-name-preserved g c =
       leads = leads-more (λ name. name.now) pool (map (λ name. name.now) names) (names_of c.loop-name.reach.taken.items) (names_of c.take_next.new.reach.taken.items) names c.loop-name.name-index c.name-item.result (omega arith) c.name-item.is
           (c.in_ok-take_next.ensures.next c.if-not-branch.false) c.loop-name.invariant.leads;
     }
+
+pub loop-name-init : goal.loop-name-init
+loop-name-init g c = record {
+  within = c.requires.within;
+  leads = leads-begin c.args.board.now (map (λ name. name.now) c.args.names.now) (names_of c.args.reach.now.taken.items) c.requires.none;
+}
+
+pub returns-then-not-branch-clause-undecided : goal.returns-then-not-branch-clause-undecided
+returns-then-not-branch-clause-undecided g c told = c.in_ok-take_next.ensures.undecided c.if-not-branch.true
+
+pub returns-then-not-branch-clause-taken : goal.returns-then-not-branch-clause-taken
+returns-then-not-branch-clause-taken g c told = absurd (false≢true told)
+
+pub returns-clause-undecided : goal.returns-clause-undecided
+returns-clause-undecided g c told = absurd (true≢false told)
+
+pub returns-clause-taken : goal.returns-clause-taken
+returns-clause-taken g c told =
+    let names = c.args.names.now in
+    let i = c.loop-name.name-index in
+    leads-end (λ name. name.now) c.args.board.now (map (λ name. name.now) names) (names_of c.loop-name.reach.taken.items) names i (drop_all i names c.loop-name-test.false) c.loop-name.invariant.leads
