@@ -262,3 +262,19 @@ grounded_tells choice pool lists e listed =
       λ k. let same : k.query ≡ g.query = same_Some k.query g.query (sym k.pending ∙ g.named) in
           (are.exactly choice.values).1 (subst (λ (q : QueryRecord). IsGrounding q.body pool.tables.rows choice.values) same k.grounding),
     )
+
+-- a name without groundings is no pending query's
+module _ (name : List ℕ) (pool : PoolRecord) (query : QueryRecord) where
+  none-from : (o : Option PendingQuery) (n : ℕ) → slice_get pool.pending n ≡ o → None ≡ slice_get (all_groundings pool) n → option_map (λ (p : PendingQuery). p.query) o ≡ Some query → ⊥
+  none-from None n there e h = cc
+  none-from (Some p) n there e h =
+      let never : None ≡ Some (groundings_of p.query.body pool.tables.rows) =
+      e ∙ slice_get-map (λ (q : PendingQuery). groundings_of q.query.body pool.tables.rows) pool.pending n ∙ ap (option_map (λ (q : PendingQuery). groundings_of q.query.body pool.tables.rows)) there in
+      cc
+
+  none-at : (place : Option ℕ) → None ≡ option_and_then (slice_get (all_groundings pool)) place → option_and_then (λ k. option_map (λ (p : PendingQuery). p.query) (slice_get pool.pending k)) place ≡ Some query → ⊥
+  none-at None e h = cc
+  none-at (Some n) e h = none-from (slice_get pool.pending n) n refl e h
+
+  pub ungrounded : None ≡ groundings_named name pool → query_named name pool.pending ≡ Some query → ⊥
+  ungrounded e h = none-at (place_of name pool.pending) e h

@@ -1,4 +1,5 @@
 pub mod CallerLemmas
+mod Values
 pub mod Picked
 pub mod Pieces
 pub mod Left

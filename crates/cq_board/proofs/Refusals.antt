@@ -1,14 +1,18 @@
 -- Why atoms do not fit the catalog, one atom after another.
-use Rattle.std.proofs.Common.{◌≡◌, ℕ, ◌+◌, ◌<◌, ◌≤◌, Bool, true, false, List, length, drop, get_or, refl, sym, ap, ◌∙◌, Option, Some, None}
+use Rattle.std.proofs.Common.{◌≡◌, ℕ, ◌+◌, ◌<◌, ◌≤◌, Bool, true, false, if◌then◌else◌, List, length, drop, get_or, refl, sym, ap, ◌∙◌, Option, Some, None}
+use Rattle.std.proofs.lemmas.Bool.{le-leb, lt-leb}
 use Rattle.std.proofs.lemmas.List.{drop_all}
+use Rattle.std.specs.Bool.{then_some}
 use Rattle.std.specs.Option.{is_some}
 use Rattle.cq_atom.specs.declared.fault.Part.{Part}
 use Rattle.cq_atom.specs.Atom.{AtomRecord, TermContent}
+use Rattle.cq_atom.specs.Query.{QueryRecord}
+use Rattle.cq_atom.specs.declared.edit.EditKind.TheVariants.{Post}
 use Rattle.cq_rel.specs.Tables.{Declaration, arity_in}
 use Rattle.cq_board.specs.declared.edit.Why.{Why}
-use Rattle.cq_board.specs.declared.edit.Why.TheVariants.{NotAnswer}
-use Rattle.cq_board.specs.Pool.{is_declared}
-use Rattle.cq_board.specs.Edits.{first_of, answer_why, arity_why, body_why}
+use Rattle.cq_board.specs.declared.edit.Why.TheVariants.{NotAnswer, NameTaken, PoolFull}
+use Rattle.cq_board.specs.Pool.{PoolRecord, is_declared}
+use Rattle.cq_board.specs.Edits.{first_of, answer_why, arity_why, body_why, is_taken, query_why, why}
 use Rattle.cq_board.proofs.Places.{drop-at}
 
 -- what the catalog's answer tells of a relation
@@ -40,3 +44,17 @@ module _ (catalog : List Declaration) (atoms : List AtomRecord) (i : ℕ) (so_fa
 
   pub body_end : length atoms ≤ i → None ≡ body_why catalog 0 atoms
   body_end h = sym (so_far ∙ ap (body_why catalog i) (drop_all i atoms h))
+
+pub told-if : (b : Bool) (reason : Why) → then_some b reason ≡ (if b then Some reason else None)
+told-if true reason = refl
+told-if false reason = refl
+
+-- the tests of a query that comes, in their order
+module _ (pool : PoolRecord) (name : List ℕ) (query : QueryRecord) where
+  pub pool-full : pool.limits.pool ≤ length pool.pending → Some PoolFull ≡ why pool (Post name query)
+  pool-full h = sym (ap (λ (full : Bool). if full then Some PoolFull else (if is_taken name pool.pending then Some NameTaken else query_why pool.tables.catalog query)) (le-leb pool.limits.pool (length pool.pending) h))
+
+  pub with-room : length pool.pending < pool.limits.pool → (taken : Bool) → taken ≡ is_taken name pool.pending → (if taken then Some NameTaken else query_why pool.tables.catalog query) ≡ why pool (Post name query)
+  with-room h taken is =
+      sym (ap (λ (full : Bool). if full then Some PoolFull else (if is_taken name pool.pending then Some NameTaken else query_why pool.tables.catalog query)) (lt-leb pool.limits.pool (length pool.pending) h)
+      ∙ ap (λ (b : Bool). if b then Some NameTaken else query_why pool.tables.catalog query) (sym is))
