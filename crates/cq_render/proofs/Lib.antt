@@ -11,3 +11,6 @@ pub mod Numbers
 mod Liked
 mod Mapped
 mod Lines
+mod Present
+mod Chosen
+mod Whether

@@ -6,7 +6,11 @@ use Rattle.cq_render.specs.Json.{relation_json}
 use Rattle.cq_render.proofs.Pieces.{nothing_left}
 use Rattle.cq_render.proofs.Arrays.{listed, listed_at, put_array}
 use Rattle.cq_render.proofs.Pages.{put_on}
+use Rattle.cq_render.proofs.Present.{not_missed}
 use Rattle.cq_render.proofs.data.put_relations.Goals as goal
+
+pub unreachable-requires : goal.unreachable-requires
+unreachable-requires g c = not_missed c.catalog-catalog.result.now c.len-place-end.result c.loop-place.place c.len-place-end.ensures.value c.loop-place-test.true c.in-None.ensures
 
 pub loop-place-preserved : goal.loop-place-preserved
 loop-place-preserved g c =

@@ -1,11 +1,15 @@
-use Rattle.std.proofs.Common.{◌≡◌, ◌+◌, List, drop, subst, Some}
+use Rattle.std.proofs.Common.{◌≡◌, ◌+◌, List, length, drop, subst, ap, Some, arith}
 use Rattle.std.specs.Prelude.{string_bytes}
 use Rattle.std.specs.List.{flat_map, slice_get}
 use Rattle.cq_rel.specs.Tables.{Declaration, declaration}
 use Rattle.cq_render.specs.Report.{relation_line}
-use Rattle.cq_render.proofs.Pieces.{pieces_at}
-use Rattle.cq_render.proofs.Pages.{put_on}
+use Rattle.cq_render.proofs.Pieces.{pieces_at, nothing_left}
+use Rattle.cq_render.proofs.Pages.{put_on, put_end}
+use Rattle.cq_render.proofs.Present.{not_missed}
 use Rattle.cq_render.proofs.reporting.put_relations.Goals as goal
+
+pub unreachable-requires : goal.unreachable-requires
+unreachable-requires g c = not_missed c.catalog-catalog.result.now c.len-place-end.result c.loop-place.place c.len-place-end.ensures.value c.loop-place-test.true c.in-None.ensures
 
 pub loop-place-preserved : goal.loop-place-preserved
 loop-place-preserved g c =
@@ -16,3 +20,10 @@ loop-place-preserved g c =
     let there = subst (λ (ds : List Declaration). slice_get ds i ≡ Some declared) c.catalog-catalog.ensures.value c.in-Some.ensures in
     put_on (string_bytes c.loop-place.page) (string_bytes c.put_relation.new.page) (f declared) _ (flat_map f (drop (i + 1) catalog)) _
     (pieces_at f catalog i declared there) c.loop-place.invariant c.in_ok-put_relation.ensures
+
+pub returns : goal.returns
+returns g c =
+    let catalog = c.args.tables.now.catalog in
+    let f = relation_line c.args.tables.now in
+    let has : length c.catalog-catalog.result.now ≡ length catalog = ap length c.catalog-catalog.ensures.value in
+    put_end (string_bytes c.loop-place.page) (flat_map f (drop c.loop-place.place catalog)) _ (ap (flat_map f) (nothing_left catalog c.loop-place.place (omega (arith, has)))) c.loop-place.invariant
