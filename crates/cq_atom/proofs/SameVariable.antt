@@ -10,6 +10,7 @@ inner : (x y : List ℕ) → Some x ≡ Some y → x ≡ y
 inner x y e = cc
 
 pub same-variable : (s t : TermContent) (r : Bool) (x y : List ℕ) → Some x ≡ variable_of s → Some y ≡ variable_of t → r ≡ bytes_eq x y → (r ≡ true → SameVariable s t) × (SameVariable s t → r ≡ true)
-same-variable s t r x y p q e =
-    (λ told. let same : x ≡ y = (bytes_eq-Decides x y).0 (sym e ∙ told) in record { name = x; first = variable_is s x p; second = variable_is t y q ∙ ap Variable (sym same) },
-    λ m. e ∙ (bytes_eq-Decides x y).1 (inner x m.name (p ∙ ap variable_of m.first) ∙ sym (inner y m.name (q ∙ ap variable_of m.second))))
+same-variable s t r x y p q e = (
+  λ told. let same : x ≡ y = (bytes_eq-Decides x y).0 (sym e ∙ told) in record { name = x; first = variable_is s x p; second = variable_is t y q ∙ ap Variable (sym same) },
+  λ m. e ∙ (bytes_eq-Decides x y).1 (inner x m.name (p ∙ ap variable_of m.first) ∙ sym (inner y m.name (q ∙ ap variable_of m.second))),
+)

@@ -29,7 +29,7 @@ nth-read {X} start xs n (Some x) run shows same =
 
 -- all seats
 pub all-read : {X T E : Type 0} (read : T → List (Bor X)) (count : T → ℕ) (r : Result T E) (start xs : List X)
-    → IfOk r (λ v. Unit {0} → WholeRun (TakesFirst (deref {X = X})) start (λ p. (read v ≡ p.items) × (count v ≡ length p.items))) 
+    → IfOk r (λ v. Unit {0} → WholeRun (TakesFirst (deref {X = X})) start (λ p. (read v ≡ p.items) × (count v ≡ length p.items)))
     → ShowsInOrder (deref {X = X}) → start ≡ xs → IfOk r (λ v. map (λ s. s.now) (read v) ≡ xs)
 all-read {X} read count (Ok v) start xs run shows same =
     let whole = run tt in

@@ -31,7 +31,7 @@ passes_by close a = sym (simp bind_assoc)
 module _ (close : Close) (a now start : Ahead) (same : now ≡ a) (again : start ≡ now) where
   passes_again : passes_at close a ≡ (next_is_at close start >>= λ x. Ok (x.0, if x.0 then x.2 else now))
   passes_again = subst (λ (s : Ahead). passes_at close a ≡ (next_is_at close s >>= λ x. Ok (x.0, if x.0 then x.2 else now))) (sym again)
-    (subst (λ (s : Ahead). passes_at close a ≡ (next_is_at close s >>= λ x. Ok (x.0, if x.0 then x.2 else s))) (sym same) (passes_by close a))
+      (subst (λ (s : Ahead). passes_at close a ≡ (next_is_at close s >>= λ x. Ok (x.0, if x.0 then x.2 else s))) (sym same) (passes_by close a))
 
   passes_all : (is : Bool) (at : ℕ) (b : Ahead) → next_is_at close start ≡ Ok (is, at, b) → passes_at close a ≡ Ok (is, if is then b else now)
   passes_all is at b h = passes_again ∙ ap (λ (r : Result (Bool × ℕ × Ahead) TextFault). r >>= λ x. Ok (x.0, if x.0 then x.2 else now)) h

@@ -16,9 +16,9 @@ pub invariant_of-result : goal.invariant_of-result
 invariant_of-result g c =
     let parts = arc_value c.self.inside.parts in
     subst (λ p. arity_fault p.relation (length p.terms.items) ≡ None) (sym c.in_ok-parts.ensures.ok) (
-      ap (λ (name : List ℕ). arity_fault name (length c.in_ok-terms.terms.items)) (name-kept g c)
-      ∙ ap (arity_fault parts.relation) (ap length (terms-made g c) ∙ length-map parts.terms.items (term_under c.args.valuation.now))
-      ∙ c.self.invariant
+    ap (λ (name : List ℕ). arity_fault name (length c.in_ok-terms.terms.items)) (name-kept g c)
+    ∙ ap (arity_fault parts.relation) (ap length (terms-made g c) ∙ length-map parts.terms.items (term_under c.args.valuation.now))
+    ∙ c.self.invariant
     )
 
 pub returns : goal.returns

@@ -6,9 +6,11 @@ pub returns-then-place-blocks : goal.returns-then-place-blocks
 returns-then-place-blocks g c = past-all c.blocks-blocks.result.now c.args.self.now c.blocks-blocks.ensures.blocks c.args.place.block c.args.place.index c.if-place-blocks.true
 
 pub returns-then-place-len : goal.returns-then-place-len
-returns-then-place-len g c =
-    (before-one c.blocks-blocks.result.now c.args.self.now c.blocks-blocks.ensures.blocks c.args.place.block c.args.place.index c.len.result c.index-blocks-place.result c.if-place-blocks.false c.index-blocks-place.is c.len.ensures
-    c.if-place-len.true, refl)
+returns-then-place-len g c = (
+  before-one c.blocks-blocks.result.now c.args.self.now c.blocks-blocks.ensures.blocks c.args.place.block c.args.place.index c.len.result c.index-blocks-place.result c.if-place-blocks.false c.index-blocks-place.is c.len.ensures
+      c.if-place-len.true,
+  refl,
+)
 
 pub returns-then-next-blocks : goal.returns-then-next-blocks
 returns-then-next-blocks g c =
