@@ -1,5 +1,5 @@
 -- One more query that is looked for: the steps that it takes, and whether it is taken.
-use Rattle.std.proofs.Common.{◌≡◌, Vec, inl, inr, ℕ, ◌+◌, ◌-◌, ◌≤◌, List, [], ◌∷◌, ◌++◌, length, map, take, sym, ap, subst, ◌∙◌, arith}
+use Rattle.std.proofs.Common.{◌≡◌, Vec, inl, inr, ℕ, ◌+◌, ◌-◌, ◌≤◌, List, [], ◌∷◌, ◌++◌, length, take, sym, ap, subst, ◌∙◌, arith}
 use Rattle.std.specs.List.{All}
 use Rattle.std.proofs.lemmas.List.{map-append, length-append, take-append-le, take_all}
 use Rattle.std.proofs.lemmas.List.Elements.{All-push, All-same}
