@@ -18,7 +18,8 @@ ask() {
 }
 
 while read -r line; do send "$line"; done <examples/pipes/lines
-if ask "status kramer jerry" | grep -qx "kramer waiting"; then
+states=$(ask "status kramer jerry")
+if grep -qx "kramer waiting" <<<"$states"; then
     ask "explain kramer"
     send "insert Flights(122, Paris)"
     send "publish"
