@@ -18,22 +18,33 @@ fn is_travel(catalog: &Catalog) -> bool {
         && catalog.entry(2).is_none()
 }
 
+/// The first name whose declaration with that arity is not refused so.
+fn other_declared(
+    catalog: &mut Catalog,
+    told: &[(&'static str, usize, CatalogFault)],
+) -> Option<&'static str> {
+    for (name, arity, fault) in told {
+        if catalog.declare(name, *arity) != Err(*fault) {
+            return Some(*name);
+        }
+    }
+    None
+}
+
+const REFUSED: [(&str, usize, CatalogFault); 5] = [
+    ("flights", 0, CatalogFault::BadName),
+    (LETTERS_33, 2, CatalogFault::BadName),
+    ("Flights", 0, CatalogFault::BadArity),
+    ("Flights", 17, CatalogFault::BadArity),
+    ("Flights", 3, CatalogFault::Declared),
+];
+
 #[test]
 fn refusals_of_a_declaration(rt: HostRuntime) -> Result<(), Fail> {
     let mut catalog = travel_catalog(rt.alloc())?;
-    for (name, arity, fault) in [
-        ("flights", 0, CatalogFault::BadName),
-        (LETTERS_33, 2, CatalogFault::BadName),
-        ("Flights", 0, CatalogFault::BadArity),
-        ("Flights", 17, CatalogFault::BadArity),
-        ("Flights", 3, CatalogFault::Declared),
-    ] {
-        assert!(rt;
-            catalog.declare(name, arity) == Err(fault),
-            "{name} {arity}"
-        );
-        assert!(rt; is_travel(&catalog), "{name} {arity}");
-    }
+    let other = other_declared(&mut catalog, REFUSED.as_slice());
+    assert!(rt; other.is_none(), "{other:?}");
+    assert!(rt; is_travel(&catalog));
     Ok(())
 }
 
@@ -47,6 +58,12 @@ fn declare_numbered(
     catalog.declare(name.as_str(), 1)
 }
 
+const REFUSED_WHERE_FULL: [(&str, usize, CatalogFault); 3] = [
+    ("S", 17, CatalogFault::BadArity),
+    ("R63", 1, CatalogFault::Declared),
+    ("S", 1, CatalogFault::CatalogFull),
+];
+
 #[test]
 fn full_catalog(rt: HostRuntime) {
     let mut catalog = Catalog::empty(rt.alloc());
@@ -54,15 +71,7 @@ fn full_catalog(rt: HostRuntime) {
         let told = declare_numbered(rt.alloc(), &mut catalog, number);
         assert!(rt; told == Ok(()), "{number}");
     }
-    for (name, arity, fault) in [
-        ("S", 17, CatalogFault::BadArity),
-        ("R63", 1, CatalogFault::Declared),
-        ("S", 1, CatalogFault::CatalogFull),
-    ] {
-        assert!(rt;
-            catalog.declare(name, arity) == Err(fault),
-            "{name} {arity}"
-        );
-    }
+    let other = other_declared(&mut catalog, REFUSED_WHERE_FULL.as_slice());
+    assert!(rt; other.is_none(), "{other:?}");
     assert!(rt; catalog.len() == 64 && catalog.entry(63) == Some(("R63", 1)));
 }

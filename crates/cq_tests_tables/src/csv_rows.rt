@@ -41,202 +41,257 @@ fn gives(heap: Global, text: &[u8], arity: usize, layout: Layout, printed: &[&st
     }
 }
 
+/// CSV over `T` of an arity, and how its rows are printed.
+type Told = (&'static [u8], usize, &'static [&'static str]);
+
+/// The place of the first whose rows are printed otherwise.
+fn other_rows(heap: Global, told: &[Told]) -> Option<usize> {
+    for (place, (text, arity, printed)) in told.iter().enumerate() {
+        if !gives(heap, text, *arity, PLAIN, printed) {
+            return Some(place);
+        }
+    }
+    None
+}
+
+const INSERTS: [Told; 10] = [
+    (
+        b"122,Paris\n\"123\",\"Pa\"\"ris\"\n007,\n",
+        2,
+        &[
+            r#"T(122, "Paris")"#,
+            r#"T(123, "Pa\"ris")"#,
+            r#"T("007", "")"#,
+        ],
+    ),
+    // Doubles, and each end of a record.
+    (b"1\r2\r\n1\n3", 1, &["T(1)", "T(2)", "T(1)", "T(3)"]),
+    // Empty lines are no records, and a line of a comma is one.
+    (b"\n\r\n1,2\n\n\r,\n\n", 2, &["T(1, 2)", r#"T("", "")"#]),
+    // A byte order mark in front is dropped, and another one is not.
+    (b"\xef\xbb\xbf1", 1, &["T(1)"]),
+    (b"\xef\xbb\xbf\xef\xbb\xbf1", 1, &["T(\"\u{feff}1\")"]),
+    // What looks like a number and is none.
+    (
+        b"--1,+1,1 ,-9223372036854775809,99999999999999999999999999999999999999,\xc2\x80",
+        6,
+        &[
+            "T(\"--1\", \"+1\", \"1 \", \"-9223372036854775809\", \"99999999999999999999999999999999999999\", \"\u{80}\")",
+        ],
+    ),
+    // No byte, one byte, quotes in the middle, commas in quotes, spaces, numbers at their ends.
+    (b"", 8, &[]),
+    (b"x", 1, &[r#"T("x")"#]),
+    (b"a\"b\",\"c,d\", 1", 3, &[r#"T("a\"b\"", "c,d", " 1")"#]),
+    (
+        b"-9223372036854775808,9223372036854775807,-0,9223372036854775808,-,0,1-2,00",
+        8,
+        &[
+            r#"T(-9223372036854775808, 9223372036854775807, "-0", "9223372036854775808", "-", 0, "1-2", "00")"#,
+        ],
+    ),
+];
+
 #[test]
 fn csv_to_inserts(rt: HostRuntime) {
     // Each text has these records and no others.
     all_records();
-    for (text, arity, printed) in [
-        (
-            b"122,Paris\n\"123\",\"Pa\"\"ris\"\n007,\n".as_slice(),
-            2,
-            [
-                r#"T(122, "Paris")"#,
-                r#"T(123, "Pa\"ris")"#,
-                r#"T("007", "")"#,
-            ]
-            .as_slice(),
-        ),
-        // Doubles, and each end of a record.
-        (
-            b"1\r2\r\n1\n3",
-            1,
-            ["T(1)", "T(2)", "T(1)", "T(3)"].as_slice(),
-        ),
-        // Empty lines are no records, and a line of a comma is one.
-        (
-            b"\n\r\n1,2\n\n\r,\n\n",
-            2,
-            ["T(1, 2)", r#"T("", "")"#].as_slice(),
-        ),
-        // A byte order mark in front is dropped, and another one is not.
-        (b"\xef\xbb\xbf1", 1, ["T(1)"].as_slice()),
-        (
-            b"\xef\xbb\xbf\xef\xbb\xbf1",
-            1,
-            ["T(\"\u{feff}1\")"].as_slice(),
-        ),
-        // What looks like a number and is none.
-        (
-            b"--1,+1,1 ,-9223372036854775809,99999999999999999999999999999999999999,\xc2\x80",
-            6,
-            [
-                "T(\"--1\", \"+1\", \"1 \", \"-9223372036854775809\", \"99999999999999999999999999999999999999\", \"\u{80}\")",
-            ].as_slice(),
-        ),
-        // No byte, one byte, quotes in the middle, commas in quotes, spaces, numbers at their ends.
-        (b"", 8, [].as_slice()),
-        (b"x", 1, [r#"T("x")"#].as_slice()),
-        (
-            b"a\"b\",\"c,d\", 1",
-            3,
-            [r#"T("a\"b\"", "c,d", " 1")"#].as_slice(),
-        ),
-        (
-            b"-9223372036854775808,9223372036854775807,-0,9223372036854775808,-,0,1-2,00",
-            8,
-            [
-                r#"T(-9223372036854775808, 9223372036854775807, "-0", "9223372036854775808", "-", 0, "1-2", "00")"#,
-            ].as_slice(),
-        ),
-    ] {
-        assert!(rt; gives(rt.alloc(), text, arity, PLAIN, printed), "{text:?}");
-    }
+    let other = other_rows(rt.alloc(), INSERTS.as_slice());
+    assert!(rt; other.is_none(), "{other:?}");
 }
+
+/// A delimiter, whether there is a header, CSV over `T` of arity 2, and how its rows are printed.
+type Laid = (u8, bool, &'static [u8], &'static [&'static str]);
+
+/// The place of the first whose rows are printed otherwise.
+fn other_laid(heap: Global, told: &[Laid]) -> Option<usize> {
+    for (place, (delimiter, has_header, text, printed)) in told.iter().enumerate() {
+        let layout = Layout {
+            delimiter: *delimiter,
+            has_header: *has_header,
+        };
+        if !gives(heap, text, 2, layout, printed) {
+            return Some(place);
+        }
+    }
+    None
+}
+
+const LAYOUTS: [Laid; 6] = [
+    (
+        b',',
+        true,
+        b"City,Number\nParis,122",
+        &[r#"T("Paris", 122)"#],
+    ),
+    // Nothing is looked at in a header, and there need be none.
+    (b',', true, b"\n\xff\n1,2\n", &["T(1, 2)"]),
+    (b',', true, b"1,2", &[]),
+    (b',', true, b"", &[]),
+    (
+        b';',
+        false,
+        b"1;2,3\n\"4;5\";6",
+        &[r#"T(1, "2,3")"#, r#"T("4;5", 6)"#],
+    ),
+    (b'\t', true, b"a\tb\nc\td", &[r#"T("c", "d")"#]),
+];
 
 #[test]
 fn csv_layouts(rt: HostRuntime) {
-    for (delimiter, has_header, text, printed) in [
-        (
-            b',',
-            true,
-            b"City,Number\nParis,122".as_slice(),
-            [r#"T("Paris", 122)"#].as_slice(),
-        ),
-        // Nothing is looked at in a header, and there need be none.
-        (b',', true, b"\n\xff\n1,2\n", ["T(1, 2)"].as_slice()),
-        (b',', true, b"1,2", [].as_slice()),
-        (b',', true, b"", [].as_slice()),
-        (
-            b';',
-            false,
-            b"1;2,3\n\"4;5\";6",
-            [r#"T(1, "2,3")"#, r#"T("4;5", 6)"#].as_slice(),
-        ),
-        (b'\t', true, b"a\tb\nc\td", [r#"T("c", "d")"#].as_slice()),
-    ] {
-        let layout = Layout {
-            delimiter,
-            has_header,
-        };
-        assert!(rt; gives(rt.alloc(), text, 2, layout, printed), "{text:?}");
-    }
+    let other = other_laid(rt.alloc(), LAYOUTS.as_slice());
+    assert!(rt; other.is_none(), "{other:?}");
 }
 
 /// Why CSV gives no rows, if it gives none.
-fn fault_of(heap: Global, text: &[u8], relation: &str, arity: usize) -> Option<CsvFault> {
-    read_csv(heap, heap, &mut Counted::new(text), relation, arity, PLAIN).err()
+fn fault_in(
+    heap: Global,
+    text: &[u8],
+    relation: &str,
+    arity: usize,
+    layout: Layout,
+) -> Option<CsvFault> {
+    read_csv(heap, heap, &mut Counted::new(text), relation, arity, layout).err()
 }
 
-fn width(line: usize, index: usize, fields: usize) -> Option<CsvFault> {
-    Some(CsvFault::Width {
-        line,
-        index,
-        fields,
-    })
+/// Why CSV gives no rows, if it gives none, as tables have it.
+#[derive(Clone, Copy)]
+enum Wrong {
+    /// A line, the index of the record in it, and how many fields that has.
+    Width(usize, usize, usize),
+    /// A line, the index of the record in it, the place of a field, and its flaw.
+    Text(usize, usize, usize, Flaw),
+    Arity,
+    Nothing,
 }
 
-fn text(line: usize, index: usize, field: usize, flaw: Flaw) -> Option<CsvFault> {
-    Some(CsvFault::Text {
-        line,
-        index,
-        field,
-        flaw,
-    })
+fn fault_of(wrong: Wrong) -> Option<CsvFault> {
+    match wrong {
+        Wrong::Width(line, index, fields) => Some(CsvFault::Width {
+            line,
+            index,
+            fields,
+        }),
+        Wrong::Text(line, index, field, flaw) => Some(CsvFault::Text {
+            line,
+            index,
+            field,
+            flaw,
+        }),
+        Wrong::Arity => Some(CsvFault::BadArity),
+        Wrong::Nothing => None,
+    }
 }
+
+/// CSV over `T` of an arity, and why it gives no rows.
+type Faulty = (&'static [u8], usize, Wrong);
+
+/// The place of the first that gives another fault.
+fn other_fault(heap: Global, told: &[Faulty]) -> Option<usize> {
+    for (place, (text, arity, wanted)) in told.iter().enumerate() {
+        if fault_in(heap, text, "T", *arity, PLAIN) != fault_of(*wanted) {
+            return Some(place);
+        }
+    }
+    None
+}
+
+const FAULTS: [Faulty; 17] = [
+    (b"a,b\nc\n", 2, Wrong::Width(2, 1, 1)),
+    (b"\xff\n", 1, Wrong::Text(1, 0, 0, Flaw::NotUtf8)),
+    (b"\xff,b\n", 1, Wrong::Width(1, 0, 2)),
+    (b"\xff\na,b", 1, Wrong::Text(1, 0, 0, Flaw::NotUtf8)),
+    (b"\"a\nb\",1", 2, Wrong::Text(1, 0, 0, Flaw::Control)),
+    (b"1,2\n3,\x7f\n4", 2, Wrong::Text(2, 1, 1, Flaw::Control)),
+    (b"1,\0,\xff", 3, Wrong::Text(1, 0, 1, Flaw::Control)),
+    (b"a\tb", 1, Wrong::Text(1, 0, 0, Flaw::Control)),
+    (b"\0", 1, Wrong::Text(1, 0, 0, Flaw::Control)),
+    (b"1,2,3,4,5,6,7,8", 8, Wrong::Nothing),
+    (b"1,2,3,4,5,6,7,8,9", 8, Wrong::Width(1, 0, 9)),
+    (LONG, 1, Wrong::Nothing),
+    (b"", 1, Wrong::Nothing),
+    (b"", 0, Wrong::Arity),
+    (b"1,2,3,4,5,6,7,8,9", 9, Wrong::Nothing),
+    (b"", 16, Wrong::Nothing),
+    (b"", 17, Wrong::Arity),
+];
 
 #[test]
 fn csv_faults(rt: HostRuntime) {
-    for (text, arity, fault) in [
-        (b"a,b\nc\n".as_slice(), 2, width(2, 1, 1)),
-        (b"\xff\n", 1, text(1, 0, 0, Flaw::NotUtf8)),
-        (b"\xff,b\n", 1, width(1, 0, 2)),
-        (b"\xff\na,b", 1, text(1, 0, 0, Flaw::NotUtf8)),
-        (b"\"a\nb\",1", 2, text(1, 0, 0, Flaw::Control)),
-        (b"1,2\n3,\x7f\n4", 2, text(2, 1, 1, Flaw::Control)),
-        (b"1,\0,\xff", 3, text(1, 0, 1, Flaw::Control)),
-        (b"a\tb", 1, text(1, 0, 0, Flaw::Control)),
-        (b"\0", 1, text(1, 0, 0, Flaw::Control)),
-        (b"1,2,3,4,5,6,7,8", 8, None),
-        (b"1,2,3,4,5,6,7,8,9", 8, width(1, 0, 9)),
-        (LONG, 1, None),
-        (b"", 1, None),
-        (b"", 0, Some(CsvFault::BadArity)),
-        (b"1,2,3,4,5,6,7,8,9", 9, None),
-        (b"", 16, None),
-        (b"", 17, Some(CsvFault::BadArity)),
-    ] {
-        assert!(rt; fault_of(rt.alloc(), text, "T", arity) == fault, "{text:?}");
-    }
-    assert!(rt; fault_of(rt.alloc(), b"\xff", "t", 0) == Some(CsvFault::BadName));
+    let other = other_fault(rt.alloc(), FAULTS.as_slice());
+    assert!(rt; other.is_none(), "{other:?}");
+    let named = fault_in(rt.alloc(), b"\xff", "t", 0, PLAIN);
+    assert!(rt; named == Some(CsvFault::BadName));
 }
+
+/// Whether there is a header, CSV over `T` of arity 2, and why it gives no rows.
+type Lined = (bool, &'static [u8], Wrong);
+
+/// The place of the first that gives another fault.
+fn other_line(heap: Global, told: &[Lined]) -> Option<usize> {
+    for (place, (has_header, text, wanted)) in told.iter().enumerate() {
+        let layout = Layout {
+            delimiter: b',',
+            has_header: *has_header,
+        };
+        if fault_in(heap, text, "T", 2, layout) != fault_of(*wanted) {
+            return Some(place);
+        }
+    }
+    None
+}
+
+const LINES: [Lined; 18] = [
+    // The last line needs no end, and the first one may hold the record.
+    (false, b"1,2,3", Wrong::Width(1, 0, 3)),
+    (false, b"1,2\n3", Wrong::Width(2, 1, 1)),
+    // Lines that are no record count.
+    (false, b"\n\n1\n", Wrong::Width(3, 0, 1)),
+    (false, b"\r\n\n1,2\n\n\n3\n", Wrong::Width(6, 1, 1)),
+    // A record is in the line in which it begins, and those behind it are in lines of their own.
+    (false, b"1,\"a\nb\"", Wrong::Text(1, 0, 1, Flaw::Control)),
+    (false, b"1,2\n\"a\n\n", Wrong::Width(2, 1, 1)),
+    (false, b"\n1,\"a\n\n\",3\n5,6\n", Wrong::Width(2, 0, 3)),
+    (
+        false,
+        b"1,2\n\"\"\"\n\",\xff",
+        Wrong::Text(2, 1, 0, Flaw::Control),
+    ),
+    // So is one behind a header, which counts as lines and not as a record.
+    (true, b"a,b\n1,2\n3\n", Wrong::Width(3, 1, 1)),
+    (true, b"\n\"a\nb\n\"\n\n1\n", Wrong::Width(6, 0, 1)),
+    (true, b"a\nb\nc", Wrong::Width(2, 0, 1)),
+    // CR and LF end one line, and CR alone ends none.
+    (false, b"1,2\r\n3,4\r\n5\r\n", Wrong::Width(3, 2, 1)),
+    (false, b"1,2\r3,4\r5\r", Wrong::Width(1, 2, 1)),
+    (false, b"1,2\r3\n", Wrong::Width(1, 1, 1)),
+    (false, b"1,2\n\r3\n", Wrong::Width(2, 1, 1)),
+    // A byte order mark changes nothing.
+    (false, b"\xef\xbb\xbf1,2\n3\n", Wrong::Width(2, 1, 1)),
+    (true, b"\xef\xbb\xbf\n\n1,2\n\n3\n", Wrong::Width(5, 0, 1)),
+    // Of many lines each is found.
+    (
+        false,
+        b"1,2\n1,2\n1,2\n1,2\n1,2\n1,2\n1,2\n1,2\n1,2\n1\n1,2\n1,2\n",
+        Wrong::Width(10, 9, 1),
+    ),
+];
 
 #[test]
 fn csv_lines(rt: HostRuntime) {
     // No other line than that which is told is right.
     one_line();
-    for (has_header, bytes, fault) in [
-        // The last line needs no end, and the first one may hold the record.
-        (false, b"1,2,3".as_slice(), width(1, 0, 3)),
-        (false, b"1,2\n3", width(2, 1, 1)),
-        // Lines that are no record count.
-        (false, b"\n\n1\n", width(3, 0, 1)),
-        (false, b"\r\n\n1,2\n\n\n3\n", width(6, 1, 1)),
-        // A record is in the line in which it begins, and those behind it are in lines of their own.
-        (false, b"1,\"a\nb\"", text(1, 0, 1, Flaw::Control)),
-        (false, b"1,2\n\"a\n\n", width(2, 1, 1)),
-        (false, b"\n1,\"a\n\n\",3\n5,6\n", width(2, 0, 3)),
-        (false, b"1,2\n\"\"\"\n\",\xff", text(2, 1, 0, Flaw::Control)),
-        // So is one behind a header, which counts as lines and not as a record.
-        (true, b"a,b\n1,2\n3\n", width(3, 1, 1)),
-        (true, b"\n\"a\nb\n\"\n\n1\n", width(6, 0, 1)),
-        (true, b"a\nb\nc", width(2, 0, 1)),
-        // CR and LF end one line, and CR alone ends none.
-        (false, b"1,2\r\n3,4\r\n5\r\n", width(3, 2, 1)),
-        (false, b"1,2\r3,4\r5\r", width(1, 2, 1)),
-        (false, b"1,2\r3\n", width(1, 1, 1)),
-        (false, b"1,2\n\r3\n", width(2, 1, 1)),
-        // A byte order mark changes nothing.
-        (false, b"\xef\xbb\xbf1,2\n3\n", width(2, 1, 1)),
-        (true, b"\xef\xbb\xbf\n\n1,2\n\n3\n", width(5, 0, 1)),
-        // Of many lines each is found.
-        (
-            false,
-            b"1,2\n1,2\n1,2\n1,2\n1,2\n1,2\n1,2\n1,2\n1,2\n1\n1,2\n1,2\n",
-            width(10, 9, 1),
-        ),
-    ] {
-        let layout = Layout {
-            delimiter: b',',
-            has_header,
-        };
-        let told = read_csv(
-            rt.alloc(),
-            rt.alloc(),
-            &mut Counted::new(bytes),
-            "T",
-            2,
-            layout,
-        );
-        assert!(rt; told.err() == fault, "{bytes:?}");
-    }
+    let other = other_line(rt.alloc(), LINES.as_slice());
+    assert!(rt; other.is_none(), "{other:?}");
 }
 
 /// Whether a text of a byte more than a text may have is no value.
 fn is_too_long(heap: Global) -> Result<bool, AllocError> {
-    let mut long = Vec::new(heap);
-    long.extend_from_slice(LONG)?;
-    long.push(b'a')?;
-    Ok(fault_of(heap, &long, "T", 1) == text(1, 0, 0, Flaw::Long))
+    let mut text = Vec::new(heap);
+    text.extend_from_slice(LONG)?;
+    text.push(b'a')?;
+    let long = Wrong::Text(1, 0, 0, Flaw::Long);
+    Ok(fault_in(heap, &text, "T", 1, PLAIN) == fault_of(long))
 }
 
 #[test]
@@ -280,7 +335,7 @@ fn csv_reads_that_fail(rt: HostRuntime) {
         let told = failing_at(rt.alloc(), good);
         assert!(rt; told == Some(CsvFault::Device { turn: good + 1 }), "{good}");
     }
-    assert!(rt; failing_at(rt.alloc(), 6) == width(2, 1, 1));
+    assert!(rt; failing_at(rt.alloc(), 6) == fault_of(Wrong::Width(2, 1, 1)));
 }
 
 /// Gives a line feed at each read.

@@ -46,27 +46,41 @@ fn is_kind(alloc: Global, line: &str, kind: (&str, usize, usize)) -> bool {
     }
 }
 
+/// A line, the word of its command, and two numbers of that.
+type Told = (&'static str, &'static str, usize, usize);
+
+/// The first of the lines that stands for another command.
+fn other_kind(alloc: Global, told: &[Told]) -> Option<&'static str> {
+    for (line, word, first, second) in told {
+        if !is_kind(alloc, line, (*word, *first, *second)) {
+            return Some(*line);
+        }
+    }
+    None
+}
+
+const KINDS: [Told; 15] = [
+    ("", "", 0, 0),
+    (" \t\r", "", 0, 0),
+    ("#", "", 0, 0),
+    ("  # post -0", "", 0, 0),
+    ("relation Flights 8", "relation", 7, 8),
+    ("board 1", "board", 8, 8),
+    (" board 2 ", "board", 16, 16),
+    ("limits 1000000 1 ", "limits", MAX_COUNT, 1),
+    ("post kramer {} R(x) <- T(x), U(1)", "post", 6, 2),
+    (" post show{}R(Jerry)<-\r", "post", 4, 0),
+    ("withdraw withdraw", "withdraw", 8, 0),
+    ("insert T(Paris,-5,\"x y\")", "insert", 1, 3),
+    ("delete T ( \"Paris\" , -5 )", "delete", 1, 2),
+    ("publish", "publish", 0, 0),
+    ("\tshow ", "show", 0, 0),
+];
+
 #[test]
 fn kinds(rt: HostRuntime) {
-    for (line, word, first, second) in [
-        ("", "", 0, 0),
-        (" \t\r", "", 0, 0),
-        ("#", "", 0, 0),
-        ("  # post -0", "", 0, 0),
-        ("relation Flights 8", "relation", 7, 8),
-        ("board 1", "board", 8, 8),
-        (" board 2 ", "board", 16, 16),
-        ("limits 1000000 1 ", "limits", MAX_COUNT, 1),
-        ("post kramer {} R(x) <- T(x), U(1)", "post", 6, 2),
-        (" post show{}R(Jerry)<-\r", "post", 4, 0),
-        ("withdraw withdraw", "withdraw", 8, 0),
-        ("insert T(Paris,-5,\"x y\")", "insert", 1, 3),
-        ("delete T ( \"Paris\" , -5 )", "delete", 1, 2),
-        ("publish", "publish", 0, 0),
-        ("\tshow ", "show", 0, 0),
-    ] {
-        assert!(rt; is_kind(rt.alloc(), line, (word, first, second)), "{line}");
-    }
+    let other = other_kind(rt.alloc(), KINDS.as_slice());
+    assert!(rt; other.is_none(), "{other:?}");
 }
 
 /// The first faults of a text as a line, as a query and as a ground atom.
@@ -118,35 +132,52 @@ fn limits_of(alloc: Global, text: &str) -> [Option<TextFault>; 2] {
     ]
 }
 
+/// The fault of a limit at that offset, if there is one.
+fn limit_at(offset: Option<usize>) -> Option<TextFault> {
+    match offset {
+        Some(offset) => at(Kind::Limit, offset),
+        None => None,
+    }
+}
+
+/// A line, and where it is at fault for a limit in form 1 and in form 2.
+type Limited = (&'static str, Option<usize>, Option<usize>);
+
+/// The first of the lines that is at fault elsewhere.
+fn other_limits(alloc: Global, told: &[Limited]) -> Option<&'static str> {
+    for (text, one, two) in told {
+        if limits_of(alloc, text) != [limit_at(*one), limit_at(*two)] {
+            return Some(*text);
+        }
+    }
+    None
+}
+
+const LIMITS: [Limited; 8] = [
+    ("relation F 8", None, None),
+    ("relation F 9", Some(11), None),
+    ("relation F 17", Some(11), Some(11)),
+    ("post a {} R(1,2,3,4,5,6,7,8,9) <-", Some(28), None),
+    (
+        "post a {} R(1,2,3,4,5,6,7,8,9,1,2,3,4,5,6,7,8) <-",
+        Some(28),
+        Some(44),
+    ),
+    ("insert R(1,2,3,4,5,6,7,8,9)", Some(25), None),
+    (
+        "insert R(1,2,3,4,5,6,7,8,9,1,2,3,4,5,6,7,8)",
+        Some(25),
+        Some(41),
+    ),
+    (
+        "post a {} A(1),A(1),A(1),A(1),A(1),A(1),A(1),A(1),B(1) <-",
+        Some(50),
+        None,
+    ),
+];
+
 #[test]
 fn limits_by_form(rt: HostRuntime) {
-    for (text, one, two) in [
-        ("relation F 8", None, None),
-        ("relation F 9", Some(11), None),
-        ("relation F 17", Some(11), Some(11)),
-        ("post a {} R(1,2,3,4,5,6,7,8,9) <-", Some(28), None),
-        (
-            "post a {} R(1,2,3,4,5,6,7,8,9,1,2,3,4,5,6,7,8) <-",
-            Some(28),
-            Some(44),
-        ),
-        ("insert R(1,2,3,4,5,6,7,8,9)", Some(25), None),
-        (
-            "insert R(1,2,3,4,5,6,7,8,9,1,2,3,4,5,6,7,8)",
-            Some(25),
-            Some(41),
-        ),
-        (
-            "post a {} A(1),A(1),A(1),A(1),A(1),A(1),A(1),A(1),B(1) <-",
-            Some(50),
-            None,
-        ),
-    ] {
-        let told = limits_of(rt.alloc(), text);
-        let wanted = [
-            one.and_then(|offset| at(Kind::Limit, offset)),
-            two.and_then(|offset| at(Kind::Limit, offset)),
-        ];
-        assert!(rt; told == wanted, "{text}");
-    }
+    let other = other_limits(rt.alloc(), LIMITS.as_slice());
+    assert!(rt; other.is_none(), "{other:?}");
 }
