@@ -2,13 +2,14 @@
 #
 # A case is a file NAME for standard input, with what a run of it must write and how it must end: NAME.stdout (always
 # there), NAME.stderr (nothing, where there is no such file), NAME.status (0) and NAME.args, one word a line (the
-# one word `replay`; an empty file is no word). A folder in examples/ is no case: it tells of a program over the crates.
+# one word `replay`; an empty file is no word). NAME.unproved stands in place of NAME.stdout for an unproved program. A folder in examples/ is
+# no case: it tells of a program over the crates.
 
 # All scripts of the cases, a line each.
 cases() {
     local file
     for file in examples/* cases/*; do
-        case $file in *.stdout | *.stderr | *.status | *.args) ;; *) [ -d "$file" ] || printf '%s\n' "$file" ;; esac
+        case $file in *.stdout | *.unproved | *.stderr | *.status | *.args) ;; *) [ -d "$file" ] || printf '%s\n' "$file" ;; esac
     done
 }
 
@@ -18,7 +19,7 @@ look_at_cases() {
     for file in examples/* cases/*; do
         [ -d "$file" ] && continue
         case $file in
-        *.stdout | *.stderr | *.status | *.args) [ -f "${file%.*}" ] || fail "$file belongs to no script" ;;
+        *.stdout | *.unproved | *.stderr | *.status | *.args) [ -f "${file%.*}" ] || fail "$file belongs to no script" ;;
         *) [ -f "$file.stdout" ] || fail "$file has no expected output" ;;
         esac
     done
@@ -61,12 +62,20 @@ compare_case() {
     fi
 }
 
-# Runs a case with a built program, and once more after a line that names form 1, where it may have one.
+# Whether the words of a case ask for what the first unproved program lacks.
+asks_for_whole() {
+    [ -f "$1.args" ] && grep -qE '^(sessions$|--memory)' "$1.args"
+}
+
+# Runs a case with a built program, and once more after a line that names form 1, where it may have one. The unproved programs are
+# called first and whole.
 run_case() {
-    local script=$1 program=$2 words wanted
+    local script=$1 program=$2 output=$1.stdout words wanted
+    [ "${program##*/}" = first ] && asks_for_whole "$script" && return
+    case ${program##*/} in first | whole) [ ! -f "$script.unproved" ] || output=$script.unproved ;; esac
     read_case "$script"
     timeout 120 "$program" ${words[@]+"${words[@]}"} <"$script" >"$room/out" 2>"$room/err"
-    compare_case "$script (${program##*/})" $? "$wanted" "$script.stdout"
+    compare_case "$script (${program##*/})" $? "$wanted" "$output"
     is_of_form_one "$script" || return 0
     write_in_form_one "$script" "$room/formed"
     timeout 120 "$program" replay <"$room/formed" >"$room/out" 2>"$room/err"

@@ -24,10 +24,12 @@ def logic():
 class Crate:
     """A crate of the repository at top: its folder, and the libraries that it names, its own repository's and the kit's."""
 
-    def __init__(self, top, name, parts, ours):
-        self.top, self.name, self.folder, self.parts = top, name, f"{top}/crates/{name}", parts
+    def __init__(self, top, name, parts, ours, folder=None):
+        self.top, self.name, self.folder, self.parts = top, name, folder or f"{top}/crates/{name}", parts
         self.of_kit = [it for it in parts if it not in ours]
         self.deps = [it for it in parts if it in ours]
+        # Where its proved library is: here `rt ci` leaves it, and ./build in another folder.
+        self.libraries = "out/rlib"
         self.root = "src/main.rt" if os.path.isfile(f"{self.folder}/src/main.rt") else "src/lib.rt"
 
     def files(self, *parts):
@@ -66,9 +68,9 @@ def checked_over(crates, crate):
         words += ["--extern", f"{it}={kit}/rlibs/{it}.rlib"]
     words += ["-L", f"dependency={kit}/rlibs"]
     for it in crate.deps:
-        words += ["--extern", f"{it}={crates[it].folder}/out/rlib/{it}.rlib"]
+        words += ["--extern", f"{it}={crates[it].folder}/{crates[it].libraries}/{it}.rlib"]
     for it in below(crates, crate.name):
-        words += ["-L", f"dependency={crates[it].folder}/out/rlib"]
+        words += ["-L", f"dependency={crates[it].folder}/{crates[it].libraries}"]
     words += ["--antt-project", f"{kit}/rattle/logic/antt-project.json", "--logic-built", f"{kit}/logic_built"]
     return [*words, "--links", f"{crate.name}="]
 

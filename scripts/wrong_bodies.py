@@ -23,6 +23,7 @@ import time
 from concurrent.futures import ThreadPoolExecutor
 
 sys.dont_write_bytecode = True
+from proving import use_kept
 from sums import WORD, split_generics, statements, sum_of
 from toolchain import below, checked_over, crates_of, kit_folder, text_of
 
@@ -464,12 +465,13 @@ def same_proved(crates, names, tree):
     if not os.path.isfile(f"{tree}/crates.txt"):
         raise SystemExit(f"wrong bodies: {tree} has no crates.txt")
     proved = crates_of(tree)
+    by_build = set(names) <= set(proved) and use_kept(proved, names)
     for name in [it for it in crates if it in names or any(it in below(crates, other) for other in names)]:
         mine, other = crates[name], proved.get(name)
         texts = lambda crate: {os.path.relpath(it, crate.folder): text_of(it) for it in crate.files(*PARTS)}
         if other is None or mine.parts != other.parts or texts(mine) != texts(other):
             raise SystemExit(f"wrong bodies: {name} is another one in {tree}")
-        if not is_built(other) or built_at(other) < max(os.path.getmtime(it) for it in other.files(*PARTS)):
+        if not by_build and (not is_built(other) or built_at(other) < max(os.path.getmtime(it) for it in other.files(*PARTS))):
             raise SystemExit(f"wrong bodies: {name}, as it is, was not proved in {tree}")
     return proved
 
