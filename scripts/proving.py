@@ -3,8 +3,8 @@
 usage: proving.py [--jobs N]    with at most N processors; else with all that this process may use
 
 A crate starts when the crates below it are proved. The first to start is the one with the longest remaining path: the seconds of
-crates.txt, added up to the program. It gets all processors; other crates get what it leaves free, at a lower priority, as far as memory
-allows. A crate that is proved stays in its folder out/proved/, and a later run proves only the rest. Of a crate that was not finished nothing
+crates.txt, added up to the program. It gets all processors, and so does another whose path is about as long as all that is left; other
+crates get one each or those that are free. A crate has the lower priority the shorter its path is. All this as far as memory allows. A crate that is proved stays in its folder out/proved/, and a later run proves only the rest. Of a crate that was not finished nothing
 stays: the toolchain would keep parts of it only if libraries held whole proofs, and then each crate above takes about twice as long.
 The program is crates/cq_cli/out/proved/cq_cli.
 """
@@ -26,10 +26,12 @@ PROGRAM = "cq_cli"
 KEPT = "out/proved"
 # The most processors that one check makes use of, and what each further one adds to its speed and to its memory.
 MOST_JOBS, SPEED_OF_JOB, MEMORY_OF_JOB = 8, 0.6, 0.2
+# A remaining path is long if it takes this share of the time that all that is left takes on all processors.
+LONG_PATH = 0.9
 # The share of the free memory that checks may use.
 SHARE_OF_MEMORY = 0.85
-# How much a crate that is not the first one gives way to others (`nice`).
-LOW_PRIORITY = 10
+# How much a crate gives way to others (`nice`): at most so much, and as its remaining path is shorter than the longest one.
+LOWEST_PRIORITY, PRIORITY_OF_PATH = 15, 40
 
 
 class Task:
@@ -183,14 +185,20 @@ class Build:
         """Returns true if no task at work has a longer remaining path."""
         return all(task.rest >= it.rest for it in self.running)
 
+    def is_long(self, task, jobs):
+        """Returns true if the task's remaining path takes about as long, with so many jobs, as all that is left takes on all processors."""
+        work = sum(it.seconds for it in self.tasks.values() if it.name not in self.done)
+        return task.rest / speed_with(jobs) >= LONG_PATH * work / self.processors
+
     def jobs_for(self, task, others):
         """Returns the processors that a task gets now, or 0 if it has to wait. `others` is the number of tasks that wait behind it."""
         if len(self.running) >= self.processors or self.running and any(it.name in self.killed for it in [task, *self.running]):
             return 0
         room = self.memory - sum(it.memory_with(it.jobs) for it in self.running)
         idle = self.processors - sum(it.jobs for it in self.running)
-        wanted = self.processors if self.is_first(task) else max(1, idle // (1 + others))
-        jobs = 1 if task.name in self.killed else min(wanted, MOST_JOBS)
+        most = min(self.processors, MOST_JOBS)
+        jobs = most if self.is_first(task) or self.is_long(task, most) else min(most, max(1, idle // (1 + others)))
+        jobs = 1 if task.name in self.killed else jobs
         while jobs and task.memory_with(jobs) > room:
             jobs -= 1
         # A check that has the machine to itself is tried in any case.
@@ -199,11 +207,12 @@ class Build:
     def start(self):
         """Starts what may start now."""
         ready = self.ready()
+        longest = max([it.rest for it in self.tasks.values() if it.name not in self.done], default=1)
         for at, task in enumerate(ready):
             jobs = self.jobs_for(task, len(ready) - at - 1)
             if not jobs:
                 break
-            priority = 0 if self.is_first(task) else LOW_PRIORITY
+            priority = min(LOWEST_PRIORITY, int(PRIORITY_OF_PATH * (1 - task.rest / longest)))
             task.jobs, task.began, task.log = jobs, time.monotonic(), tempfile.TemporaryFile()
             forget(task.crate)
             how = {"cwd": task.crate.folder, "stdin": subprocess.DEVNULL, "stdout": task.log, "stderr": task.log}
