@@ -40,7 +40,7 @@ class Task:
     def __init__(self, crate, seconds, memory):
         self.crate, self.name, self.deps = crate, crate.name, crate.deps
         self.seconds, self.rest, self.memory = seconds, seconds, memory
-        self.jobs, self.began, self.process, self.log = 0, None, None, None
+        self.jobs, self.began, self.process, self.log, self.stamp = 0, None, None, None, None
 
     def memory_with(self, jobs):
         return self.memory * (1 + MEMORY_OF_JOB * (jobs - 1))
@@ -84,39 +84,41 @@ def tasks_of(crates):
 # --- what is kept
 
 
-def stamp_of(crates, name, known):
-    """Returns the sum of all that the proof of a crate depends on: its files, those of the crates below, and the toolchain."""
-    if name not in known:
-        crate, sum = crates[name], hashlib.sha256(text_of(f"{kit_folder()}/KIT-ID").encode())
-        for file in crate.files("src", "specs", "proofs"):
-            sum.update(f"{os.path.relpath(file, crate.folder)}\n{text_of(file)}\0".encode())
-        sum.update(" ".join([*crate.of_kit, *[stamp_of(crates, it, known) for it in crate.deps]]).encode())
-        known[name] = sum.hexdigest()
-    return known[name]
+def stamp_of(crates, crate):
+    """Returns the sum of all that the proof of a crate depends on: its files, the toolchain, and the libraries below as they were built, whose files
+    `format` have the sums of theirs."""
+    found = hashlib.sha256(text_of(f"{kit_folder()}/KIT-ID").encode())
+    for file in crate.files("src", "specs", "proofs"):
+        found.update(f"{os.path.relpath(file, crate.folder)}\n{text_of(file)}\0".encode())
+    found.update(" ".join([*crate.of_kit, *crate.deps]).encode())
+    for it in crate.deps:
+        found.update(text_of(f"{crates[it].folder}/{KEPT}/{it}.rlib/format").encode())
+    return found.hexdigest()
+
+
+def kept_of(crates, names):
+    """Returns which of these crates, lowest first, are proved as they are, over libraries that are."""
+    found = []
+    for crate in [crates[it] for it in names]:
+        folder = f"{crate.folder}/{KEPT}"
+        made = f"{folder}/{crate.name}" if crate.name == PROGRAM else f"{folder}/{crate.name}.rlib/format"
+        if os.path.isfile(made) and os.path.isfile(f"{folder}/stamp") and set(crate.deps) <= set(found):
+            found += [crate.name] * (text_of(f"{folder}/stamp") == stamp_of(crates, crate))
+    return found
 
 
 def use_kept(crates, names):
-    """Returns true if these crates and those below them are proved in these folders as they are, by ./build, and has checks use these libraries then."""
-    stamps = {}
-    for name in names:
-        stamp_of(crates, name, stamps)
-    if not all(is_kept(crates[it], stamp) for it, stamp in stamps.items()):
+    """Returns true if these crates and those below them are proved in their folders as they are, by ./build, and has checks use these libraries then."""
+    needed = list(dict.fromkeys(it for name in names for it in [*below(crates, name), name]))
+    if kept_of(crates, needed) != needed:
         return False
     for crate in crates.values():
         crate.libraries = KEPT
     return True
 
 
-def is_kept(crate, stamp):
-    made = f"{crate.folder}/{KEPT}/{crate.name}" + ".rlib" * (crate.name != PROGRAM)
-    try:
-        return os.path.exists(made) and text_of(f"{crate.folder}/{KEPT}/stamp") == stamp
-    except OSError:
-        return False
-
-
 def forget(crate):
-    """Removes the stamp of a crate before it is proved anew, so that a stamp never speaks of other files."""
+    """Removes the stamp of a crate before it is proved anew, so that a stamp never speaks of another library."""
     os.makedirs(f"{crate.folder}/{KEPT}", exist_ok=True)
     with contextlib.suppress(FileNotFoundError):
         os.remove(f"{crate.folder}/{KEPT}/stamp")
@@ -124,7 +126,7 @@ def forget(crate):
 
 def keep(crates, crate, stamp):
     """Writes the stamp of a crate that was proved, unless its files changed meanwhile."""
-    if stamp_of(crates, crate.name, {}) == stamp:
+    if stamp_of(crates, crate) == stamp:
         with open(f"{crate.folder}/{KEPT}/stamp", "w", encoding="utf-8") as file:
             file.write(stamp)
 
@@ -215,6 +217,7 @@ class Build:
             priority = min(LOWEST_PRIORITY, int(PRIORITY_OF_PATH * (1 - task.rest / longest)))
             task.jobs, task.began, task.log = jobs, time.monotonic(), tempfile.TemporaryFile()
             forget(task.crate)
+            task.stamp = stamp_of(self.crates, task.crate)
             how = {"cwd": task.crate.folder, "stdin": subprocess.DEVNULL, "stdout": task.log, "stderr": task.log}
             task.process = self.group.start(words_of(self.crates, task.crate, jobs), priority, **how)
             self.running.append(task)
@@ -268,7 +271,7 @@ def clock(seconds):
     return f"{int(seconds) // 60}:{int(seconds) % 60:02d}"
 
 
-def prove(build, stamps):
+def prove(build):
     """Runs all tasks, and returns 0, or 1 if one failed."""
     while len(build.done) < len(build.tasks):
         build.start()
@@ -285,7 +288,7 @@ def prove(build, stamps):
             sys.stderr.write(task.log.read().decode(errors="replace"))
             print(f"build: {task.name}: not proved", flush=True)
             return 1
-        keep(build.crates, task.crate, stamps[task.name])
+        keep(build.crates, task.crate, task.stamp)
         build.done.add(task.name)
         build.start()
         names = ", ".join(it.name for it in build.running)
@@ -301,12 +304,11 @@ def main(words):
     elif words:
         print(__doc__, end="", file=sys.stderr)
         return 2
-    crates, stamps = crates_of(TOP), {}
+    crates = crates_of(TOP)
     for it in crates.values():
         it.libraries = KEPT
-    stamp_of(crates, PROGRAM, stamps)
     tasks = tasks_of(crates)
-    done = [it for it in tasks if is_kept(crates[it], stamps[it])]
+    done = kept_of(crates, tasks)
     kept = f", {len(done)} of them proved before" if done else ""
     print(f"build: {len(tasks)} crates{kept}; {processors} processors; how long it takes is printed when the next one is proved", flush=True)
     build = Build(crates, tasks, done, processors)
@@ -317,7 +319,7 @@ def main(words):
 
     for number in (signal.SIGINT, signal.SIGTERM, signal.SIGHUP):
         signal.signal(number, stop)
-    return prove(build, stamps)
+    return prove(build)
 
 
 if __name__ == "__main__":
