@@ -175,7 +175,7 @@ class Build:
     def __init__(self, crates, tasks, done, processors):
         self.crates, self.tasks, self.done, self.processors = crates, tasks, set(done), processors
         self.memory, self.group = SHARE_OF_MEMORY * free_memory(), Group()
-        self.running, self.killed, self.speed = [], set(), None
+        self.running, self.killed, self.speed = [], set(), 1
         self.began, self.total = time.monotonic(), self.left()
 
     def ready(self):
@@ -254,17 +254,20 @@ class Build:
 
     def share_done(self, task):
         """Returns about how much of a task is done."""
-        if task not in self.running or not self.speed:
+        if task not in self.running:
             return 0
         return min(0.9, (time.monotonic() - task.began) * speed_with(task.jobs) / (self.speed * task.seconds))
 
     def how_far(self):
         """Says how much is done by the clock, how long that took, and about how long the rest takes at the speed seen so far."""
-        spent, left = time.monotonic() - self.began, self.left()
-        if left and left < self.total:
+        spent = time.monotonic() - self.began
+        # What is done of the crates at work depends on the speed, and the speed on that.
+        for _ in range(20):
+            left = self.left()
+            if not 0 < left < self.total:
+                return f"{0 if left else 100} of 100 done in {clock(spent)}"
             self.speed = spent / (self.total - left)
-            return f"{int(100 * (1 - left / self.total))} of 100 done in {clock(spent)}, about {clock(left * self.speed)} left"
-        return f"{0 if left else 100} of 100 done in {clock(spent)}"
+        return f"{int(100 * (1 - left / self.total))} of 100 done in {clock(spent)}, about {clock(left * self.speed)} left"
 
 
 def clock(seconds):
