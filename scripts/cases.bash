@@ -67,15 +67,21 @@ asks_for_whole() {
     [ -f "$1.args" ] && grep -qE '^(sessions$|--memory)' "$1.args"
 }
 
-# Runs a case with a built program, and once more after a line that names form 1, where it may have one. The unproved programs are
-# called first and whole.
+# The file with what a program is to write for a case. The unproved programs are called first and whole.
+output_of() {
+    case ${2##*/} in
+    first | whole) [ -f "$1.unproved" ] && echo "$1.unproved" && return ;;
+    esac
+    echo "$1.stdout"
+}
+
+# Runs a case with a built program, and once more after a line that names form 1, where it may have one.
 run_case() {
-    local script=$1 program=$2 output=$1.stdout words wanted
+    local script=$1 program=$2 words wanted
     [ "${program##*/}" = first ] && asks_for_whole "$script" && return
-    case ${program##*/} in first | whole) [ ! -f "$script.unproved" ] || output=$script.unproved ;; esac
     read_case "$script"
     timeout 120 "$program" ${words[@]+"${words[@]}"} <"$script" >"$room/out" 2>"$room/err"
-    compare_case "$script (${program##*/})" $? "$wanted" "$output"
+    compare_case "$script (${program##*/})" $? "$wanted" "$(output_of "$script" "$program")"
     is_of_form_one "$script" || return 0
     write_in_form_one "$script" "$room/formed"
     timeout 120 "$program" replay <"$room/formed" >"$room/out" 2>"$room/err"

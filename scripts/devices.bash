@@ -56,7 +56,7 @@ run_redirected() {
     [ -f "$script.status" ] && own=$(<"$script.status")
     [ "$wanted" = own ] && wanted=$own
     : >"$room/wanted.out"
-    [ "$wanted" -eq "$own" ] && [[ " $redirected" != *" >"* ]] && cp -- "$script.stdout" "$room/wanted.out"
+    [ "$wanted" -eq "$own" ] && [[ " $redirected" != *" >"* ]] && cp -- "$(output_of "$script" "$program")" "$room/wanted.out"
     case $told in
     own) cat -- "$script.stderr" ;;
     ?*) printf '%s\n' "$told" ;;
