@@ -275,7 +275,7 @@ def lanes():
 
 def built_at(crate):
     """When the crate was proved here, so that its library or its program was built, or nothing."""
-    made = [f"{crate.folder}/out/{it}" for it in (f"rlib/{crate.name}.rlib/format", crate.name)]
+    made = [f"{crate.folder}/{crate.libraries}/{crate.name}{it}" for it in (".rlib/format", "")] + [f"{crate.folder}/out/{crate.name}"]
     return next((os.path.getmtime(it) for it in made if os.path.isfile(it)), None)
 
 
