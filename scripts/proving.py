@@ -5,7 +5,7 @@ usage: proving.py [--jobs N]    with at most N processors; else with all that th
 A crate starts when the crates below it are proved. The first to start is the one with the longest remaining path: the seconds of
 crates.txt, added up to the program. It gets all processors, and so does another whose path is about as long as all that is left; other
 crates get one each or those that are free. A crate has the lower priority the shorter its path is. All this as far as memory allows. A crate that is proved stays in its folder out/proved/, and a later run proves only the rest. Of a crate that was not finished nothing
-stays: the toolchain would keep parts of it only if libraries held whole proofs, and then each crate above takes about twice as long.
+stays: the toolchain keeps parts of a crate only beside libraries that hold whole proofs, over which checks need more time and memory.
 The program is crates/cq_cli/out/proved/cq_cli.
 """
 import contextlib
