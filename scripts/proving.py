@@ -30,6 +30,8 @@ MOST_JOBS, SPEED_OF_JOB, MEMORY_OF_JOB = 8, 0.6, 0.2
 LONG_PATH = 0.9
 # The share of the free memory that checks may use.
 SHARE_OF_MEMORY = 0.85
+# The seconds by the clock that a second of crates.txt takes where nothing is known of the machine, and how many of these seconds count for that.
+USUAL_SPEED, USUAL_WEIGHT = 2, 150
 # How much a crate gives way to others (`nice`): at most so much, and as its remaining path is shorter than the longest one.
 LOWEST_PRIORITY, PRIORITY_OF_PATH = 15, 40
 
@@ -165,8 +167,11 @@ class Group:
         return subprocess.Popen(words, preexec_fn=lambda: (os.setpgid(0, number), os.nice(priority)), **how)
 
     def end(self):
-        os.close(self.held)
-        self.shell.wait()
+        """Ends the group, once: a signal may come while another one is handled."""
+        held, self.held = self.held, None
+        if held is not None:
+            os.close(held)
+            self.shell.wait()
 
 
 class Build:
@@ -175,7 +180,7 @@ class Build:
     def __init__(self, crates, tasks, done, processors):
         self.crates, self.tasks, self.done, self.processors = crates, tasks, set(done), processors
         self.memory, self.group = SHARE_OF_MEMORY * free_memory(), Group()
-        self.running, self.killed, self.speed = [], set(), 1
+        self.running, self.killed, self.speed = [], set(), USUAL_SPEED
         self.began, self.total = time.monotonic(), self.left()
 
     def ready(self):
@@ -266,7 +271,7 @@ class Build:
             left = self.left()
             if not 0 < left < self.total:
                 return f"{0 if left else 100} of 100 done in {clock(spent)}"
-            self.speed = spent / (self.total - left)
+            self.speed = (spent + USUAL_SPEED * USUAL_WEIGHT) / (self.total - left + USUAL_WEIGHT)
         return f"{int(100 * (1 - left / self.total))} of 100 done in {clock(spent)}, about {clock(left * self.speed)} left"
 
 
@@ -307,6 +312,10 @@ def main(words):
     elif words:
         print(__doc__, end="", file=sys.stderr)
         return 2
+    # At a terminal an interrupt comes twice: from there, and from ./build.
+    interrupts = (signal.SIGINT, signal.SIGTERM, signal.SIGHUP)
+    for it in interrupts:
+        signal.signal(it, lambda number, frame: os._exit(128 + number))
     crates = crates_of(TOP)
     for it in crates.values():
         it.libraries = KEPT
@@ -317,11 +326,13 @@ def main(words):
     build = Build(crates, tasks, done, processors)
 
     def stop(number, frame):
+        for it in interrupts:
+            signal.signal(it, signal.SIG_IGN)
         build.group.end()
         os._exit(128 + number)
 
-    for number in (signal.SIGINT, signal.SIGTERM, signal.SIGHUP):
-        signal.signal(number, stop)
+    for it in interrupts:
+        signal.signal(it, stop)
     return prove(build)
 
 
