@@ -64,14 +64,15 @@ is_of_unbound kinds.Shape = false
 is_of_unbound kinds.Limit = false
 is_of_unbound kinds.Unbound = true
 
--- The token may stand there: the trial is a command, or it has its first fault behind the front of the token, or it lacks nothing but a row's variable.
-abbrev pub passes : List ℕ → Reading → Bool
-passes front (Reads command) = true
-passes front (Faulty kind offset) = is_of_unbound kind || nat_lt 1 (offset - length front)
+-- The token may stand there: the trial is a command, or it has its first fault behind the front of the token, or it lacks nothing but an atom of the body with
+-- a variable, which may follow a token and cannot follow the end of the line.
+abbrev pub passes : (front token : List ℕ) → Reading → Bool
+passes front token (Reads command) = true
+passes front token (Faulty kind offset) = (is_of_unbound kind && not (length token == 0)) || nat_lt 1 (offset - length front)
 
 -- The words of a token that may stand there, by the reading of its trial.
 abbrev pub IsTried : Form → List ℕ → Sample → List (List ℕ) → Type 0
-IsTried form front sample words = (reading : Reading) × IsReading form (trial front sample.0) reading × (words ≡ (if passes front reading then sample.1 ∷ [] else []))
+IsTried form front sample words = (reading : Reading) × IsReading form (trial front sample.0) reading × (words ≡ (if passes front sample.0 reading then sample.1 ∷ [] else []))
 
 -- The words of the tokens that may stand behind the front of a line, by the grammar of commands.
 abbrev pub AreExpected : Form → List ℕ → List (List ℕ) → Type 0
@@ -132,10 +133,28 @@ abbrev pub meant : Option (List ℕ) → List ℕ
 meant None = []
 meant (Some name) = codes "; did you mean " ++ (name ++ codes "?")
 
+-- A word that is no command, and the command that may have been meant.
+abbrev pub no_command_words : List (List ℕ) → List ℕ → List ℕ
+no_command_words words rest = found rest ++ (codes ": no such command" ++ meant (closest (found rest) words))
+
+-- What the form allows.
+abbrev pub limit_words : Form → List ℕ
+limit_words One = codes "form 1 has names of up to 32 characters, up to 8 terms to an atom, 8 atoms to a part of a query, 131072 bytes to a line, and counts from 1"
+limit_words Two = codes "form 2 has names of up to 32 characters, up to 16 terms to an atom, 16 atoms to a part of a query, 524288 bytes to a line, and counts from 1"
+
+-- The tokens that may stand there, or that none may, since each would be past a limit of the form.
+abbrev pub expected_words : Form → List (List ℕ) → List ℕ
+expected_words form [] = codes "nothing may follow: " ++ limit_words form
+expected_words form (word ∷ words) = codes "expected " ++ one_of (word ∷ words)
+
+-- Something else than what was expected.
+abbrev pub unexpected_words : Form → List (List ℕ) → List ℕ → List ℕ
+unexpected_words form words rest = expected_words form words ++ (codes "; " ++ found_words words rest)
+
 -- A token that may not stand there: a word that is no command, or something else than what was expected.
-abbrev pub shape_words : Bool → List (List ℕ) → List ℕ → List ℕ
-shape_words true words rest = found rest ++ (codes ": no such command" ++ meant (closest (found rest) words))
-shape_words false words rest = codes "expected " ++ (one_of words ++ (codes "; " ++ found_words words rest))
+abbrev pub shape_words : Bool → Form → List (List ℕ) → List ℕ → List ℕ
+shape_words true form words rest = no_command_words words rest
+shape_words false form words rest = unexpected_words form words rest
 
 -- A word stands at the front of a line.
 abbrev pub is_no_command : List ℕ → List ℕ → Bool
@@ -150,17 +169,12 @@ abbrev pub token_words : Bool → List ℕ → List ℕ
 token_words true rest = codes "a byte order mark, with which no script begins"
 token_words false rest = found rest ++ codes ": begins no token"
 
--- What the form allows.
-abbrev pub limit_words : Form → List ℕ
-limit_words One = codes "form 1 has names of up to 32 characters, up to 8 terms to an atom, 8 atoms to a part of a query, 131072 bytes to a line, and counts from 1"
-limit_words Two = codes "form 2 has names of up to 32 characters, up to 16 terms to an atom, 16 atoms to a part of a query, 524288 bytes to a line, and counts from 1"
-
 -- What is wrong at a place, by the kind of the fault there.
 abbrev pub IsHint : Form → Kind → (front rest : List ℕ) → List ℕ → Type 0
 IsHint form kinds.Token front rest text = text ≡ token_words (is_mark front rest) rest
 IsHint form kinds.Text front rest text = text ≡ codes "a text ends with \", has up to 255 bytes of UTF-8 without control characters, and \\ before \" and \\ alone"
 IsHint form kinds.Number front rest text = text ≡ codes "a number is from -9223372036854775808 to 9223372036854775807, without + or a zero in front"
-IsHint form kinds.Shape front rest text = (words : List (List ℕ)) × AreExpected form front words × (text ≡ shape_words (is_no_command front rest) words rest)
+IsHint form kinds.Shape front rest text = (words : List (List ℕ)) × AreExpected form front words × (text ≡ shape_words (is_no_command front rest) form words rest)
 IsHint form kinds.Limit front rest text = text ≡ limit_words form
 IsHint form kinds.Unbound front rest text = text ≡ found rest ++ codes ": no atom of the body has this variable"
 

@@ -3,7 +3,7 @@
 ghost use Rattle.std.specs.Prelude.{◌≡◌, ◌++◌, ◌&&◌, List, ℕ, true, false, map, codes, string_bytes, OnOk, IfOk, Some, option_map};
 ghost use Rattle.std.specs.List.{list_any};
 ghost use Rattle.std.specs.Str.{bytes_eq};
-ghost use Rattle.cq_why.specs.Why.{is_lower, found, found_words, one_of, separator, meant, shape_words, is_no_command, is_mark, token_words, limit_words, IsHint};
+ghost use Rattle.cq_why.specs.Why.{is_lower, found, found_words, one_of, separator, meant, no_command_words, limit_words, expected_words, unexpected_words, is_no_command, is_mark, token_words, IsHint};
 
 use crate::closest::closest;
 use crate::found::{first_bytes, put_found, word_len};
@@ -130,7 +130,7 @@ fn put_no_command<A: Allocator + Copy>(
     rest: &[u8],
     page: &mut String<A>,
 ) -> Result<(), AllocError>
-    ensures { OnOk result (string_bytes page.new ≡ string_bytes page.old ++ shape_words true (map (λ word. word.now) words.now) rest.now) }
+    ensures { OnOk result (string_bytes page.new ≡ string_bytes page.old ++ no_command_words (map (λ word. word.now) words.now) rest.now) }
 {
     let mut word = String::new(alloc);
     put_found(&mut word, rest)?;
@@ -139,16 +139,44 @@ fn put_no_command<A: Allocator + Copy>(
     put_meant(page, closest(alloc, word.as_str(), words)?)
 }
 
-/// Puts what was expected, and what was found.
+fn limit_words(form: Form) -> &'static str
+    ensures { result.now ≡ limit_words form }
+{
+    match form {
+        Form::One =>
+            "form 1 has names of up to 32 characters, up to 8 terms to an atom, 8 atoms to a part of a query, 131072 bytes to a line, and counts from 1",
+        Form::Two =>
+            "form 2 has names of up to 32 characters, up to 16 terms to an atom, 16 atoms to a part of a query, 524288 bytes to a line, and counts from 1",
+    }
+}
+
+/// Writes which tokens may stand there, or that none may and what the form allows.
+fn put_expected<A: Allocator>(
+    page: &mut String<A>,
+    form: Form,
+    words: &[&str],
+) -> Result<(), AllocError>
+    ensures { OnOk result (string_bytes page.new ≡ string_bytes page.old ++ expected_words form (map (λ word. word.now) words.now)) }
+{
+    if words.is_empty() {
+        page.push_str("nothing may follow: ")?;
+        page.push_str(limit_words(form))
+    } else {
+        page.push_str("expected ")?;
+        put_one_of(page, words)
+    }
+}
+
+/// Writes what was expected, and what was found.
 fn put_unexpected<A: Allocator>(
     page: &mut String<A>,
+    form: Form,
     words: &[&str],
     rest: &[u8],
 ) -> Result<(), AllocError>
-    ensures { OnOk result (string_bytes page.new ≡ string_bytes page.old ++ shape_words false (map (λ word. word.now) words.now) rest.now) }
+    ensures { OnOk result (string_bytes page.new ≡ string_bytes page.old ++ unexpected_words form (map (λ word. word.now) words.now) rest.now) }
 {
-    page.push_str("expected ")?;
-    put_one_of(page, words)?;
+    put_expected(page, form, words)?;
     page.push_str("; ")?;
     put_found_words(page, words, rest)
 }
@@ -174,7 +202,7 @@ fn put_shape<A: Allocator + Copy>(
     if is_no_command(front, rest) {
         put_no_command(alloc, &words, rest, page)
     } else {
-        put_unexpected(page, &words, rest)
+        put_unexpected(page, form, &words, rest)
     }
 }
 
@@ -197,17 +225,6 @@ fn put_token<A: Allocator>(
         page.push_str("a byte order mark, with which no script begins")
     } else {
         put_found_and(page, rest, ": begins no token")
-    }
-}
-
-fn limit_words(form: Form) -> &'static str
-    ensures { result.now ≡ limit_words form }
-{
-    match form {
-        Form::One =>
-            "form 1 has names of up to 32 characters, up to 8 terms to an atom, 8 atoms to a part of a query, 131072 bytes to a line, and counts from 1",
-        Form::Two =>
-            "form 2 has names of up to 32 characters, up to 16 terms to an atom, 16 atoms to a part of a query, 524288 bytes to a line, and counts from 1",
     }
 }
 

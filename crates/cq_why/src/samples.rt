@@ -75,11 +75,12 @@ fn trial<A: Allocator + Copy>(alloc: A, front: &[u8], token: &str) -> Result<Vec
     Ok(text)
 }
 
-/// Whether a trial with this first fault has it behind the front of the token, or lacks nothing but a row's variable.
-fn passes(front: &[u8], kind: Kind, offset: usize) -> bool
-    ensures { result ≡ passes front.now (Faulty kind offset) }
+/// Returns true if a trial with this first fault has it after the first byte of the token, or if it lacks only an atom of the body with a variable. Such an
+/// atom may follow a token, but not the end of the line.
+fn passes(front: &[u8], token: &str, kind: Kind, offset: usize) -> bool
+    ensures { result ≡ passes front.now token.now (Faulty kind offset) }
 {
-    is_of_unbound(kind) || offset.saturating_sub(front.len()) > 1
+    (is_of_unbound(kind) && !token.is_empty()) || offset.saturating_sub(front.len()) > 1
 }
 
 /// Whether the token may stand behind the front.
@@ -89,12 +90,12 @@ fn may_stand<A: Allocator + Copy>(
     front: &[u8],
     token: &str,
 ) -> Result<bool, AllocError>
-    ensures { IfOk result (λ may. (reading : Reading) × IsReading form (trial front.now token.now) reading × (may ≡ passes front.now reading)) }
+    ensures { IfOk result (λ may. (reading : Reading) × IsReading form (trial front.now token.now) reading × (may ≡ passes front.now token.now reading)) }
 {
     let text = trial(alloc, front, token)?;
     match read_command(alloc, &text, form) {
         Ok(_command) => Ok(true),
-        Err(TextFault::At { kind, offset }) => Ok(passes(front, kind, offset)),
+        Err(TextFault::At { kind, offset }) => Ok(passes(front, token, kind, offset)),
         Err(TextFault::NoMemory) => Err(AllocError),
     }
 }
