@@ -28,19 +28,16 @@ use std::rt::Clock;
 use std::sync::Wait;
 use std::thread::Threads;
 
-/// That the first record of CSV seems to be a header.
-const HEADED: &str = "board: the first record seems to be a header; --header leaves it out
-";
+/// The first record of CSV seems to be a header.
+const HEADED: &str = "the first record seems to be a header; --header leaves it out";
 
-/// That the insert lines need a script of form 2.
+/// The insert lines need a script of form 2.
 const OF_FORM_TWO: &str =
-    "board: a relation of more than 8 columns needs a script that begins with `board 2`
-";
+    "a relation of more than 8 columns needs a script that begins with `board 2`";
 
-const HEADED_OF_FORM_TWO: &str =
-    "board: the first record seems to be a header; --header leaves it out
-board: a relation of more than 8 columns needs a script that begins with `board 2`
-";
+/// Both, in two lines.
+const HEADED_OF_FORM_TWO: &str = "the first record seems to be a header; --header leaves it out
+board: a relation of more than 8 columns needs a script that begins with `board 2`";
 
 /// Writes a text, and tells where that failed.
 fn say<W: Sink, E: Sink>(alloc: Global, text: &str, sink: &mut W, errors: &mut E) -> Status
@@ -135,13 +132,16 @@ fn origin_of(fault: RowsFault, origin: &str) -> &str {
     }
 }
 
-/// What is told beside rows.
-fn hint_text(hint: Hint) -> &'static str {
+/// Writes the hints beside rows on the sink of errors: that of a header behind the name of the file, and that of the form, which does not depend on the
+/// file, by itself.
+fn tell_hint<E: Sink>(alloc: Global, origin: &str, hint: Hint, errors: &mut E)
+    requires { E.write_failures errors.old < 2 ^ 62 }
+{
     match (hint.seems_headed, hint.needs_form_two) {
-        (false, false) => "",
-        (true, false) => HEADED,
-        (false, true) => OF_FORM_TWO,
-        (true, true) => HEADED_OF_FORM_TWO,
+        (false, false) => {}
+        (true, false) => tell_fault(alloc, origin, &HEADED, errors),
+        (false, true) => tell_fault(alloc, "", &OF_FORM_TWO, errors),
+        (true, true) => tell_fault(alloc, origin, &HEADED_OF_FORM_TWO, errors),
     }
 }
 
@@ -162,7 +162,7 @@ fn answer_rows<A: Allocator + Copy, R: Source, W: Sink, E: Sink>(
 {
     match write_rows(heap, alloc, words, source, sink) {
         Ok(hint) => {
-            tell(errors, hint_text(hint));
+            tell_hint(alloc, origin, hint, errors);
             Status::Done
         }
         Err(fault) => {
