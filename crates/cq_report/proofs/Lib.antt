@@ -13,6 +13,7 @@ pub mod Ending
 pub mod Leaving
 pub mod Runs
 pub mod Lives
+pub mod Quitting
 pub mod Empty
 pub mod Parts
 pub mod Sums

@@ -1,5 +1,5 @@
 -- Lines answered one at a time.
-use Rattle.std.proofs.Common.{◌≡◌, ℕ, ◌<◌, ◌+◌, true, false, List, [], ◌∷◌, ◌++◌, length, map, Option, Some, None, inl, inr, refl, sym, ap, subst, ◌∙◌, append_assoc, append-nil, length-append, arith}
+use Rattle.std.proofs.Common.{◌≡◌, ℕ, ◌<◌, ◌≤◌, ◌+◌, true, false, List, [], ◌∷◌, ◌++◌, length, map, Option, Some, None, inl, inr, refl, sym, ap, subst, ◌∙◌, append_assoc, append-nil, length-append, arith}
 use Rattle.std.proofs.lemmas.List.{nil_from_length}
 use Rattle.cq_report.specs.declared.output.Output.{Output}
 use Rattle.cq_report.specs.declared.fault.RunFault.TheVariants.{Write}
@@ -11,14 +11,15 @@ use Rattle.std.specs.Prelude.{Result, IfSome, MatchResult}
 use Rattle.std.specs.Io.KnownBytes.{Consumes, IsAtEnd}
 use Rattle.std.proofs.KnownBytes.{Consumes-whole}
 use Rattle.cq_devices.specs.Device.{TakesFront}
+use Rattle.cq_devices.specs.Limits.{max_piece}
 use Rattle.cq_report.specs.declared.numbering.Numbering.{Numbering}
 use Rattle.cq_report.specs.declared.fault.LiveFault.{LiveFault}
 use Rattle.cq_report.specs.declared.fault.LiveFault.TheVariants as faults
-use Rattle.cq_report.specs.Live.{Life, Turn, Served, Asked, OutOfMemory, Unheard, IsTurn, AreTurns, turned, turn_reply, life_turned, replies_to, begin_live, Answered, AnsweredWhole, AnsweredFront, Leaves, write_failures_of}
+use Rattle.cq_report.specs.Live.{Life, Turn, Served, Asked, OutOfMemory, Unheard, IsTurn, AreTurns, turned, turn_reply, life_turned, replies_to, begin_live, Answered, AnsweredWhole, AnsweredFront, ReadNoFurther, Leaves, write_failures_of}
 use Rattle.cq_report.specs.Steps.Written.{Puts, Breaks}
 use Rattle.cq_report.specs.Steps.Kept.{kept}
 use Rattle.cq_report.specs.Steps.Serving.{IsSound, ended}
-use Rattle.cq_report.specs.Steps.Living.{Turns, TurnBreaks, Keeps, KeepsOn, is_new, Answers, AnswerBreaks, FailsOnce, Lived, LiveBreaks, LiveEnds, LiveQuits, LivesOn, BreaksOn, LivedOut, LiveBrokeOff, LiveEnded, LiveFails}
+use Rattle.cq_report.specs.Steps.Living.{Turns, TurnBreaks, Keeps, KeepsOn, is_new, Answers, AnswerBreaks, FailsOnce, Lived, LiveBreaks, LiveEnds, LiveQuits, LivesOn, BreaksOn, LastRead, LivedOut, LiveBrokeOff, LiveEnded, LiveFails}
 use Rattle.cq_report.specs.Steps.Writing.{Puts-nothing, Puts-then, Puts-breaks}
 use Rattle.cq_report.proofs.Cutting.{kept_nil, kept_again, kept_none, kept_some, lines_of_all_ended, lines_of_ended, lines_of_open, whole_lines_all_ended, HasNoEnd-append, HaveNoEnd-more, ended-more}
 use Rattle.cq_report.proofs.Ending.{Consumes-front, Passes-all}
@@ -135,6 +136,21 @@ module _ {W A : Type 0} (taken : W → Option (List ℕ)) (failures : W → ℕ)
     are = s.are;
     after = s.after;
     puts = s.puts;
+  }
+
+  -- from here on, what was read of the line that is not ended has been read
+  pub Lived-again : (now : Output W A) (state : Life) (line : Option (List ℕ)) (bytes : List ℕ) (s : Lived taken failures first opening now state line bytes) → Lived taken failures now state now state line s.pending
+  Lived-again now state line bytes s = record {
+    lines = [];
+    pending = s.pending;
+    cut = refl;
+    no_end = tt;
+    open_end = s.open_end;
+    keeps = s.keeps;
+    turns = [];
+    are = tt;
+    after = refl;
+    puts = Puts-nothing taken failures now;
   }
 
   -- LF, after which the line is answered
@@ -359,6 +375,42 @@ pub LiveQuits-passed : {W A : Type 0} (taken : W → Option (List ℕ)) (failure
     → life.is_over ≡ true → Lived taken failures first opening now life line bytes → Puts taken failures now now' [] → LiveQuits taken failures first opening now' bytes
 LiveQuits-passed taken failures first opening now now' life line bytes over s p = record { life = life; line = line; over = over; lived = Lived-passed taken failures first opening now now' life line bytes s p }
 
+-- ---- the last read
+
+module _ {W A : Type 0} (taken : W → Option (List ℕ)) (failures : W → ℕ) (first : Output W A) (opening : Life) (now new : Output W A) (state : Life) (line left left' : Option (List ℕ)) where
+  -- a piece more, of which and of what was not ended before all lines were answered
+  last_read : (bytes piece : List ℕ) (s : Lived taken failures first opening now state line bytes) → state.is_over ≡ false → Consumes left left' (bytes ++ piece) → length piece ≤ max_piece
+      → LiveEnds taken failures now state new (s.pending ++ piece) → LastRead taken failures opening left left' first new
+  last_read bytes piece s on read small e =
+      let cut : lines_of (bytes ++ piece) ≡ s.lines ++ lines_of (s.pending ++ piece) = lines_of_behind s.lines s.pending bytes piece s.cut s.no_end in
+      let whole : whole_lines bytes ≡ s.lines = ap whole_lines s.cut ∙ whole_lines_all_ended s.lines s.pending s.no_end s.open_end in
+      let same : replies_to opening s.turns ++ replies_to state e.turns ≡ replies_to opening (s.turns ++ e.turns) =
+      ap (λ (l : Life). replies_to opening s.turns ++ replies_to l e.turns) s.after ∙ sym (replies_then opening s.turns e.turns) in
+      record {
+        before = bytes;
+        piece = piece;
+        read = read;
+        small = small;
+        turns = s.turns;
+        are = subst (λ (ls : List (List ℕ)). AreTurns opening ls s.turns) (sym whole) s.are;
+        goes_on = ap (λ (l : Life). l.is_over) (sym s.after) ∙ on;
+        more = e.turns;
+        all = subst (λ (ls : List (List ℕ)). AreTurns opening ls (s.turns ++ e.turns)) (sym cut)
+            (turns_then opening s.lines (lines_of (s.pending ++ piece)) s.turns e.turns s.are (subst (λ (l : Life). AreTurns l (lines_of (s.pending ++ piece)) e.turns) s.after e.are));
+        puts = subst (Puts taken failures first new) same (Puts-then taken failures first now new (replies_to opening s.turns) (replies_to state e.turns) s.puts e.puts);
+      }
+
+  -- the read that brought nothing
+  pub LastRead-end : (bytes : List ℕ) (s : Lived taken failures first opening now state line bytes) → state.is_over ≡ false → Consumes left left' (bytes ++ []) → LiveEnds taken failures now state new s.pending
+      → LastRead taken failures opening left left' first new
+  LastRead-end bytes s on read e = last_read bytes [] s on read (omega arith) (subst (LiveEnds taken failures now state new) (sym (append-nil s.pending)) e)
+
+  -- the read that brought the end
+  pub LastRead-quit : (bytes piece : List ℕ) (s : Lived taken failures first opening now state line bytes) → state.is_over ≡ false → Consumes left left' (bytes ++ piece) → length piece ≤ max_piece
+      → LiveQuits taken failures now state new (s.pending ++ piece) → LastRead taken failures opening left left' first new
+  LastRead-quit bytes piece s on read small q =
+      last_read bytes piece s on read small (subst (LiveEnds taken failures now state new) (append-nil (s.pending ++ piece)) (LiveQuits-all taken failures now state new (s.pending ++ piece) [] q))
+
 -- ---- a whole life
 
 module _ {W A : Type 0} (numbering : Numbering) (taken : W → Option (List ℕ)) (failures : W → ℕ) (opening : Life) (left left' : Option (List ℕ)) (first now : Output W A) (t t' : Option (List ℕ)) (begins : opening ≡ begin_live numbering) (none : first.held.now.items ≡ []) (e : taken first.sink.now ≡ t) (e' : taken now.sink.now ≡ t') where
@@ -380,6 +432,24 @@ module _ {W A : Type 0} (numbering : Numbering) (taken : W → Option (List ℕ)
   LivedOut-answered r0 =
       let r = subst (λ (s : Life). LivedOut taken failures s left left' first now) begins r0 in
       elim r.ends [ inl ended ↦ all_answered r.bytes r.read ended.0 ended.1 r.held | inr quits ↦ all_heard r.bytes r.read quits r.held ]
+
+  -- nothing was read after the last read that was needed
+  pub LivedOut-quits : LivedOut taken failures opening left left' first now → ReadNoFurther numbering left left' t t'
+  LivedOut-quits r0 =
+      let r = subst (λ (s : Life). LivedOut taken failures s left left' first now) begins r0 in
+      let l = r.last in
+      record {
+        before = l.before;
+        piece = l.piece;
+        read = l.read;
+        small = l.small;
+        turns = l.turns;
+        are = l.are;
+        goes_on = l.goes_on;
+        more = l.more;
+        all = l.all;
+        wrote = rw (← e, ← e') (Passes-all _ _ _ _ _ l.puts.passed none r.held);
+      }
 
   -- the whole lines were answered
   broke_off : LiveBrokeOff taken failures opening left left' first now → AnsweredWhole numbering left left' t t'

@@ -1,7 +1,8 @@
 -- What is written for lines that are answered one at a time, and what an allocation that fails leaves. (this project's profile)
-use Rattle.std.specs.Prelude.{◌≡◌, ◌+◌, ◌^◌, ◌⊎◌, ℕ, List, [], ◌∷◌, ◌++◌, Option, Some, None, Bool, true, false, codes, ⊤}
+use Rattle.std.specs.Prelude.{◌≡◌, ◌≤◌, ◌+◌, ◌^◌, ◌⊎◌, ℕ, List, [], ◌∷◌, ◌++◌, length, Option, Some, None, Bool, true, false, codes, ⊤}
 use Rattle.std.specs.Io.KnownBytes.{Appends, Consumes}
 use Rattle.cq_devices.specs.Device.{TakesFront}
+use Rattle.cq_devices.specs.Limits.{max_piece}
 use Rattle.cq_report.specs.declared.fault.LiveFault.{LiveFault}
 use Rattle.cq_report.specs.declared.fault.LiveFault.TheVariants as faults
 use Rattle.cq_report.specs.Lines.{lines_of, whole_lines}
@@ -92,6 +93,19 @@ pub record Answered (numbering : Numbering) (lines : List (List ℕ)) (taken tak
   pub turns : List Turn
   pub are : AreTurns (begin_live numbering) lines turns
   pub wrote : Appends taken taken' (replies_to (begin_live numbering) turns)
+
+-- All that was read is this: bytes after whose whole lines the board was not over, and the piece that the last read brought. The replies to all lines of both were written.
+pub record ReadNoFurther (numbering : Numbering) (left left' taken taken' : Option (List ℕ)) : Type 0 where
+  pub before : List ℕ
+  pub piece : List ℕ
+  pub read : Consumes left left' (before ++ piece)
+  pub small : length piece ≤ max_piece
+  pub turns : List Turn
+  pub are : AreTurns (begin_live numbering) (whole_lines before) turns
+  pub goes_on : (life_turned (begin_live numbering) turns).is_over ≡ false
+  pub more : List Turn
+  pub all : AreTurns (begin_live numbering) (lines_of (before ++ piece)) (turns ++ more)
+  pub wrote : Appends taken taken' (replies_to (begin_live numbering) (turns ++ more))
 
 -- Bytes were read, and the replies to their whole lines were written.
 pub record AnsweredWhole (numbering : Numbering) (left left' taken taken' : Option (List ℕ)) : Type 0 where

@@ -1,9 +1,9 @@
 //! Lines that are answered one at a time, on and on.
 
-ghost use Rattle.std.specs.Prelude.{◌≡◌, ◌<◌, ◌≤◌, ◌+◌, ◌^◌, ℕ, List, Some, length, ◌++◌, ◌∷◌, [], OnOk, OnErr, IfErr, IfSome, MatchResult};
+ghost use Rattle.std.specs.Prelude.{◌≡◌, ◌<◌, ◌≤◌, ◌+◌, ◌^◌, ℕ, List, Some, length, ◌++◌, ◌∷◌, [], false, OnOk, OnErr, IfErr, IfSome, MatchResult};
 ghost use Rattle.cq_report.specs.Lines.{HasNoEnd};
 ghost use Rattle.cq_report.specs.Lines.{lines_of};
-ghost use Rattle.cq_report.specs.Live.{Answered, Leaves, write_failures_of, ReadsFailed};
+ghost use Rattle.cq_report.specs.Live.{Answered, ReadNoFurther, Leaves, write_failures_of, ReadsFailed};
 ghost use Rattle.cq_report.specs.Steps.Count.{lines_before};
 ghost use Rattle.cq_report.specs.Steps.Living.{Answers, AnswerBreaks, LivesOn, BreaksOn, FailsOnce, EndsLive, LivedOut, LiveFails};
 ghost use Rattle.cq_report.specs.Steps.Serving.{IsSound};
@@ -121,6 +121,7 @@ fn serve<A: Allocator + Copy, R: Source, W: Sink>(
     output: &mut Output<'_, W, A>,
 ) -> Result<(), LiveFault>
     requires lines { lines_before life.old.state ≡ 0 }
+    requires heard { life.old.is_over ≡ false }
     requires line { line.old ≡ Some [] }
     requires piece { length piece.old ≡ MAX_PIECE }
     requires reads { R.reads_made reader.old < 2 ^ 62 }
@@ -155,8 +156,8 @@ fn serve<A: Allocator + Copy, R: Source, W: Sink>(
 
 /// Answers lines one at a time, as long as there are any.
 ///
-/// A line that [asks](cq_ask::read_ask) is answered of the board that is published, and changes nothing; after `quit` none is read. The others are those of a
-/// script, and are answered as [`run`](crate::run) answers them. Each is answered before the next read. A line at which an allocation fails is answered `refused Memory`. It changes nothing, and the lines after it are
+/// A line that [asks](cq_ask::read_ask) is answered of the board that is published, and changes nothing; after `quit` no line is answered, and nothing is read
+/// after the read that brought it. The others are those of a script, and are answered as [`run`](crate::run) answers them. Each is answered before the next read. A line at which an allocation fails is answered `refused Memory`. It changes nothing, and the lines after it are
 /// answered as if it had not been.
 ///
 /// # Errors
@@ -174,6 +175,9 @@ pub fn live<A: Allocator + Copy, R: Source, W: Sink>(
 
     // Where all went well, all lines of the input were answered.
     ensures answered { OnOk result (IfSome (R.left reader.old) (λ input. Answered numbering (lines_of input) (W.taken writer.old) (W.taken writer.new))) }
+
+    // No byte was read after the read that brought `quit`.
+    ensures quits { OnOk result (ReadNoFurther numbering (R.left reader.old) (R.left reader.new) (W.taken writer.old) (W.taken writer.new)) }
 
     // And else those that the fault tells of.
     ensures leaves { IfErr result (λ fault. Leaves numbering fault (R.left reader.old) (R.left reader.new) (W.taken writer.old) (W.taken writer.new)) }

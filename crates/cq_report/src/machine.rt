@@ -1,8 +1,9 @@
 //! The machine of a script, line by line.
 
-ghost use Rattle.std.specs.Prelude.{◌≡◌, ◌<◌, ◌≤◌, ◌+◌, ◌^◌, List, ℕ, [], string_bytes, OnOk, OnErr, IfOk, IfErr};
+ghost use Rattle.std.specs.Prelude.{◌≡◌, ◌<◌, ◌≤◌, ◌+◌, ◌^◌, List, ℕ, [], true, string_bytes, OnOk, OnErr, IfOk, IfErr};
 ghost use Rattle.std.specs.Option.{is_some};
-ghost use Rattle.cq_ask.specs.Ask.{asked};
+ghost use Rattle.cq_ask.specs.Answer.{FloorRecord};
+ghost use Rattle.cq_ask.specs.Ask.{AskRecord, asked, is_quit};
 ghost use Rattle.cq_ask.specs.Data.{IsMember};
 ghost use Rattle.cq_report.specs.Reading.{Reading, Reads, IsReading};
 ghost use Rattle.cq_report.specs.Reply.{Misread};
@@ -47,6 +48,16 @@ fn memory_told(numbering: Numbering) -> ReplyLine
     match numbering {
         Numbering::Json => ReplyLine::just(",\"refused\":\"Memory\""),
         Numbering::Plain | Numbering::Numbered => memory_line(),
+    }
+}
+
+/// The answer to `quit`. It needs no memory.
+fn quit_told(numbering: Numbering) -> ReplyLine
+    ensures { (floor : FloorRecord) (before : ℕ) (ask : AskRecord) → is_quit ask.kind ≡ true → IsAskTold numbering floor before ask result }
+{
+    match numbering {
+        Numbering::Json => ReplyLine::just(",\"quit\":true"),
+        Numbering::Plain | Numbering::Numbered => ReplyLine::just(""),
     }
 }
 
@@ -259,10 +270,13 @@ impl<A: Allocator + Copy> Machine<A> {
         Ok(Said::of_text("", text, ""))
     }
 
-    /// The answer to what is asked, of what is published.
+    /// The answer to what is asked, of what is published. The answer to `quit` needs no memory: who asks for the end waits for it.
     fn tell_either(&self, ask: &Ask<A>) -> Result<Said<A>, AllocError>
         ensures { IfOk result (λ said. IsAskTold self.now.numbering (serving_of self.now.stage) self.now.before ask.now said.bytes) }
     {
+        if ask.is_quit() {
+            return Ok(Said::of_line(quit_told(self.numbering), None));
+        }
         match self.numbering {
             Numbering::Json => self.tell_data(ask),
             Numbering::Plain | Numbering::Numbered => self.tell_lines(ask),

@@ -1,11 +1,12 @@
 -- How far lines have been answered one at a time.
-use Rattle.std.specs.Prelude.{◌≡◌, ◌==◌, ◌<◌, ◌+◌, ◌⊎◌, ℕ, Bool, true, false, List, [], ◌++◌, length, Option, Some, None, ⊤}
+use Rattle.std.specs.Prelude.{◌≡◌, ◌==◌, ◌<◌, ◌≤◌, ◌+◌, ◌⊎◌, ℕ, Bool, true, false, List, [], ◌++◌, length, Option, Some, None, ⊤}
 use Rattle.std.specs.Io.KnownBytes.{Consumes, IsAtEnd}
 use Rattle.cq_report.specs.declared.output.Output.{Output}
 use Rattle.cq_report.specs.declared.fault.RunFault.TheVariants.{Write}
 use Rattle.cq_report.specs.declared.fault.LiveFault.{LiveFault}
 use Rattle.cq_report.specs.declared.fault.LiveFault.TheVariants as faults
-use Rattle.cq_report.specs.Lines.{lines_of, HasNoEnd}
+use Rattle.cq_devices.specs.Limits.{max_piece}
+use Rattle.cq_report.specs.Lines.{lines_of, whole_lines, HasNoEnd}
 use Rattle.cq_ask.specs.Ask.{AskRecord}
 use Rattle.cq_report.specs.Machine.{State, serving_of, numbered}
 use Rattle.cq_report.specs.Live.{Life, Turn, IsTurn, AreTurns, IsAskTold, turned, turn_reply, life_turned, replies_to}
@@ -122,11 +123,25 @@ pub record LiveQuits {W A : Type 0} (taken : W → Option (List ℕ)) (failures 
   pub over : life.is_over ≡ true
   pub lived : Lived taken failures first opening now life line bytes
 
+-- The board was not over before the last read, and the lines of all that was read were answered.
+pub record LastRead {W A : Type 0} (taken : W → Option (List ℕ)) (failures : W → ℕ) (opening : Life) (left left' : Option (List ℕ)) (first now : Output W A) : Type 0 where
+  pub before : List ℕ
+  pub piece : List ℕ
+  pub read : Consumes left left' (before ++ piece)
+  pub small : length piece ≤ max_piece
+  pub turns : List Turn
+  pub are : AreTurns opening (whole_lines before) turns
+  pub goes_on : (life_turned opening turns).is_over ≡ false
+  pub more : List Turn
+  pub all : AreTurns opening (lines_of (before ++ piece)) (turns ++ more)
+  pub puts : Puts taken failures first now (replies_to opening (turns ++ more))
+
 -- Bytes were read, and all lines of the input answered: no bytes were left, or no further line is heard.
 pub record LivedOut {W A : Type 0} (taken : W → Option (List ℕ)) (failures : W → ℕ) (opening : Life) (left left' : Option (List ℕ)) (first now : Output W A) : Type 0 where
   pub bytes : List ℕ
   pub read : Consumes left left' bytes
   pub ends : (IsAtEnd left' × LiveEnds taken failures first opening now bytes) ⊎ LiveQuits taken failures first opening now bytes
+  pub last : LastRead taken failures opening left left' first now
   pub held : now.held.now.items ≡ []
 
 -- Bytes were read, all whole lines answered, and nothing waits.

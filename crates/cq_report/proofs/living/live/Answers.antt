@@ -1,11 +1,15 @@
 use Rattle.std.proofs.Common.{rules, ap}
 use Rattle.std.proofs.lemmas.Result.{on_ok_weaker, IfErr-weaker}
-use Rattle.cq_report.proofs.Lives.{LivedOut-answered, LiveFails-leaves, rises_by}
+use Rattle.cq_report.proofs.Lives.{LivedOut-answered, LivedOut-quits, LiveFails-leaves, rises_by}
 use Rattle.cq_report.proofs.living.live.Goals as goal
 
 pub returns-clause-answered : goal.returns-clause-answered
 returns-clause-answered g c =
     on_ok_weaker c.serve-ended.result (λ out. LivedOut-answered c.args.numbering g.W.Sink.taken g.W.Sink.write_failures _ _ _ _ _ _ _ c.begin-life.ensures c.new-output.ensures.held (ap g.W.Sink.taken c.new-output.ensures.same) (search rules) out) c.serve-ended.ensures.ok
+
+pub returns-clause-quits : goal.returns-clause-quits
+returns-clause-quits g c =
+    on_ok_weaker c.serve-ended.result (λ out. LivedOut-quits c.args.numbering g.W.Sink.taken g.W.Sink.write_failures _ _ _ _ _ _ _ c.begin-life.ensures c.new-output.ensures.held (ap g.W.Sink.taken c.new-output.ensures.same) (search rules) out) c.serve-ended.ensures.ok
 
 pub returns-clause-leaves : goal.returns-clause-leaves
 returns-clause-leaves g c =

@@ -1,11 +1,12 @@
 use Rattle.cq_devices.specs.declared.limits.TheConstants.{MAX_PIECE}
+use Rattle.cq_devices.specs.Limits.{max_piece}
 use Rattle.std.proofs.Common.{◌≡◌, ◌++◌, [], ◌∙◌, arith, take, refl, sym, inl, inr}
 use Rattle.std.proofs.KnownBytes.{Consumes-nil, Consumes-trans, Consumes-kept}
 use Rattle.std.proofs.lemmas.List.{length-take}
 use Rattle.std.proofs.lemmas.Result.{err_from_is_err_and}
 use Rattle.cq_report.proofs.Ending.{Consumes-none}
 use Rattle.cq_report.proofs.Served.{IsSound-nothing, IsSound-then, IsSound-puts}
-use Rattle.cq_report.proofs.Lives.{Lived-nothing, Lived-passed, LiveBreaks-passing, LiveQuits-passed}
+use Rattle.cq_report.proofs.Lives.{Lived-nothing, Lived-again, Lived-passed, LiveBreaks-passing, LiveQuits-passed, LastRead-end, LastRead-quit}
 use Rattle.cq_report.proofs.living.serve.Goals as goal
 
 pub loop-i-init : goal.loop-i-init
@@ -13,6 +14,7 @@ loop-i-init g c = record {
   bytes = [];
   read = Consumes-nil _;
   lived = rw c.requires.line (Lived-nothing _ _ _ _);
+  goes_on = c.requires.heard;
   lines = omega (arith, c.requires.lines);
   sound = IsSound-nothing g.W.Sink.taken _ _;
   held = c.requires.held;
@@ -41,6 +43,7 @@ returns-then-len-eq0-clause-ok g c =
       bytes = i.bytes;
       read = Consumes-none _ _ _ _ i.read none;
       ends = inl (c.in-Ok.ensures.bytes.1 c.if-len-eq0.true (omega arith), c.in_ok-finish.ensures.ok _ _ _ i.lived);
+      last = LastRead-end _ _ _ _ _ _ _ _ _ _ i.bytes i.lived i.goes_on (Consumes-trans _ _ _ i.bytes [] i.read none) (c.in_ok-finish.ensures.ok _ _ _ (Lived-again _ _ _ _ _ _ _ i.bytes i.lived));
       held = c.in_ok-finish.ensures.held;
     }
 
@@ -92,9 +95,16 @@ pub returns-then-is_over-clause-ok : goal.returns-then-is_over-clause-ok
 returns-then-is_over-clause-ok g c =
     let i = c.loop-i.invariant in
     let piece = take c.in-Ok.len c.read.new.buf in
+    let long = length-take c.in-Ok.len c.read.new.buf in
+    let size : MAX_PIECE ≡ 4096 = refl in
+    let most : max_piece ≡ 4096 = refl in
+    let over = sym c.is_over.ensures ∙ c.if-is_over.true in
+    let again = Lived-passed _ _ _ _ _ _ _ _ _ (c.in_ok-feed.ensures.ok _ _ _ (Lived-again _ _ _ _ _ _ _ i.bytes i.lived)) c.in_ok-write_out.ensures.ok in
     record {
       bytes = i.bytes ++ piece;
       read = Consumes-trans _ _ _ i.bytes piece i.read c.in-Ok.ensures.bytes.0;
+      last = LastRead-quit _ _ _ _ _ _ _ _ _ _ i.bytes piece i.lived i.goes_on (Consumes-trans _ _ _ i.bytes piece i.read c.in-Ok.ensures.bytes.0) (omega (arith, long, i.room, c.requires.piece, size, most))
+          (LiveQuits-passed _ _ _ _ _ _ _ _ _ over again c.in_ok-finish-2.ensures.ok);
       ends = inr (LiveQuits-passed _ _ _ _ _ _ _ _ _ (sym c.is_over.ensures ∙ c.if-is_over.true) (Lived-passed _ _ _ _ _ _ _ _ _ (c.in_ok-feed.ensures.ok _ _ _ i.lived) c.in_ok-write_out.ensures.ok) c.in_ok-finish-2.ensures.ok);
       held = c.in_ok-finish-2.ensures.held;
     }
@@ -110,6 +120,7 @@ loop-i-preserved g c =
       read = Consumes-trans _ _ _ i.bytes piece i.read c.in-Ok.ensures.bytes.0;
       lines = omega (arith, i.lines, c.in_ok-feed.ensures.lines, long, i.room, c.requires.piece, size);
       lived = Lived-passed _ _ _ _ _ _ _ _ _ (c.in_ok-feed.ensures.ok _ _ _ i.lived) c.in_ok-write_out.ensures.ok;
+      goes_on = sym c.is_over.ensures ∙ c.if-is_over.false;
       sound = IsSound-then g.W.Sink.taken _ _ _ _ (IsSound-then g.W.Sink.taken _ _ _ _ i.sound c.in_ok-feed.ensures.sound) (IsSound-puts _ _ _ _ _ c.in_ok-write_out.ensures.ok);
       held = c.in_ok-write_out.ensures.held;
       reads = omega (arith, c.in-Ok.ensures.reads, i.reads);

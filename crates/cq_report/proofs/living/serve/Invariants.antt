@@ -1,4 +1,4 @@
-use Rattle.std.proofs.Common.{◌≡◌, ◌+◌, ◌*◌, ◌≤◌, ℕ, List, length, []}
+use Rattle.std.proofs.Common.{◌≡◌, ◌+◌, ◌*◌, ◌≤◌, ℕ, List, length, [], false}
 use Rattle.cq_report.specs.Steps.Count.{lines_before}
 use Rattle.std.specs.Io.KnownBytes.{Consumes}
 use Rattle.cq_report.specs.Steps.Living.{Lived}
@@ -10,6 +10,7 @@ invariant-loop-i g l = record {
   bytes : List ℕ;
   read : Consumes (g.R.Source.left l.fn.reader) (g.R.Source.left l.reader) bytes;
   lived : Lived g.W.Sink.taken g.W.Sink.write_failures l.fn.output l.fn.life l.output l.life l.line bytes;
+  goes_on : l.life.is_over ≡ false;
   lines : lines_before l.life.state ≤ l.i * 4096;
   sound : IsSound g.W.Sink.write_failures l.fn.output l.output;
   held : l.output.held.now.items ≡ [];
