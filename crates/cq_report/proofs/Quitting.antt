@@ -1,14 +1,13 @@
--- The answer to `quit`, which is the same for all floors.
-use Rattle.std.proofs.Common.{◌≡◌, ◌++◌, ℕ, true, false, List, [], refl, sym, subst}
+-- The answer to `quit` as a member of a JSON object, which is the same for all floors.
+use Rattle.std.proofs.Common.{◌≡◌, ℕ, true, false, refl, sym, subst}
 use Rattle.std.specs.Prelude.{codes}
 use Rattle.json.specs.Json.{boolean}
 use Rattle.json.specs.Print.{print_from}
 use Rattle.cq_ask.specs.declared.ask.AskKind.{AskKind}
 use Rattle.cq_ask.specs.declared.ask.AskKind.TheVariants.{Count, Status, Query, Explain, Near, Choice, Choose, Groups, Changes, Graph, Json, Help, Quit, Unfit}
 use Rattle.cq_ask.specs.Ask.{AskRecord, is_quit}
-use Rattle.cq_ask.specs.Answer.{FloorRecord, published_pool, IsToldOf, ending}
+use Rattle.cq_ask.specs.Answer.{FloorRecord, published_pool}
 use Rattle.cq_ask.specs.Data.{IsMember, IsMemberOf}
-use Rattle.cq_report.specs.Live.{IsAnswer}
 
 is_quit_alone : (kind : AskKind) → is_quit kind ≡ true → kind ≡ Quit
 is_quit_alone Quit is = refl
@@ -27,11 +26,6 @@ is_quit_alone Help is = absurd (let never : false ≡ true = is in cc)
 is_quit_alone Unfit is = absurd (let never : false ≡ true = is in cc)
 
 module _ (floor : FloorRecord) (before : ℕ) (ask : AskRecord) (is : is_quit ask.kind ≡ true) where
-  pub quit_in_words : IsAnswer floor before ask []
-  quit_in_words =
-      let same : Quit ≡ ask.kind = sym (is_quit_alone ask.kind is) in
-      ([], subst (λ (kind : AskKind). IsToldOf floor (published_pool floor) before kind ask.names ask.text []) same refl, subst (λ (kind : AskKind). [] ≡ [] ++ ending kind) same refl)
-
   pub quit_as_member : IsMember floor before ask (codes ",\"quit\":true")
   unfolding print_from
   quit_as_member =
