@@ -270,7 +270,7 @@ impl<A: Allocator + Copy> Machine<A> {
         Ok(Said::of_text("", text, ""))
     }
 
-    /// The answer to what is asked, of what is published. The answer to `quit` needs no memory: who asks for the end waits for it.
+    /// The answer to what is asked, of what is published. The answer to `quit` needs no memory.
     fn tell_either(&self, ask: &Ask<A>) -> Result<Said<A>, AllocError>
         ensures { IfOk result (λ said. IsAskTold self.now.numbering (serving_of self.now.stage) self.now.before ask.now said.bytes) }
     {

@@ -150,7 +150,7 @@ fn limit_words(form: Form) -> &'static str
     }
 }
 
-/// Writes which tokens may stand there, or that none may and what the form allows.
+/// Writes which tokens are accepted there, or that none is, and the limits of the form.
 fn put_expected<A: Allocator>(
     page: &mut String<A>,
     form: Form,
