@@ -4,49 +4,41 @@ use Rattle.std.proofs.lemmas.Bool.Decides.{nat_tests}
 use Rattle.std.specs.Prelude.{◌⊎◌, Result, Ok, Err, IfOk, IfErr, IfSome}
 use Rattle.std.proofs.lemmas.Option.{IfSome_then}
 use Rattle.cq_board.specs.Choice.{ChoiceRecord}
-use Rattle.cq_report.specs.declared.fault.RunFault.{RunFault}
-use Rattle.cq_report.specs.declared.fault.RunFault.TheVariants as runs
-use Rattle.cq_report.specs.declared.fault.LiveFault.{LiveFault}
-use Rattle.cq_report.specs.declared.fault.LiveFault.TheVariants as lives
-use Rattle.cq_report.specs.Live.{ReadsFailed, write_failures_of}
-use Rattle.cq_report.specs.Run.{IfRead, IsOfRead, fault_of_reading, failures_of}
-use Rattle.cq_devices.specs.declared.fault.WholeFault.{WholeFault}
-use Rattle.cq_devices.specs.declared.fault.WholeFault.TheVariants as reads
-use Rattle.cq_devices.specs.Device.{FailedAtTurn, IfAtTurn, IsAtTurn}
+use Rattle.cq_report.specs.Live.{ReadsFailed}
+use Rattle.cq_devices.specs.declared.stop.Stop.{Stop}
+use Rattle.cq_devices.specs.declared.stop.Stop.TheVariants as stops
+use Rattle.cq_devices.specs.Device.{FailedAtTurn, IfAtTurn, IsAtTurn, write_failures_of}
 use Rattle.cq_report.specs.Lines.{lines_of}
 use Rattle.cq_report.specs.Reading.{Reading}
 use Rattle.cq_report.specs.Output.{AreReadings, Left, left_after}
 use Rattle.cq_cli.specs.declared.choices.ChoiceFault.{ChoiceFault}
 use Rattle.cq_cli.specs.declared.choices.ChoiceFault.TheVariants as choices
-use Rattle.cq_cli.specs.declared.fault.AnswerFault.{AnswerFault}
-use Rattle.cq_cli.specs.declared.fault.AnswerFault.TheVariants as answers
 use Rattle.cq_cli.specs.declared.status.Status.{Status}
 use Rattle.cq_cli.specs.declared.rows.RowsFault.{RowsFault}
 use Rattle.cq_cli.specs.declared.rows.RowsFault.TheVariants as rows
 use Rattle.cq_cli.specs.declared.status.Status.TheVariants.{Done, Failed, Usage, NoMemory, BadRecord, Unserved, NotSo, Undecided, BadFile, LineRefused}
 use Rattle.cq_going.specs.declared.telling.Outcome.{Outcome}
 use Rattle.cq_going.specs.declared.telling.Outcome.TheVariants as sought
-use Rattle.cq_cli.specs.Status.{IsRefused, IsTold, ended, over_file, status_of_outcome, status_of_choices, status_of_live, status_of_rows, status_of_run}
+use Rattle.cq_cli.specs.Status.{IsRefused, IsTold, ended, over_file, status_of_outcome, status_of_choices, status_of_rows, status_of_run}
 use Rattle.cq_cli.specs.Devices.{DeviceCounts, EndsRun, LeavesRefused, ReportsFailures, ReportsWriting}
 use Rattle.cq_cli.specs.Rows.{MatchFault, IsOfReader}
 use Rattle.cq_cli.specs.Rows as rows_failures
 use Rattle.cq_ask.specs.Choices.{StandForChoices}
-use Rattle.cq_cli.specs.Steps.Answers.{fault_of_answer}
 use Rattle.cq_why.specs.Why.{is_mark}
 
 -- it ended by a fault of reading the script
-pub read_ends : {X : Type 0} (before after : DeviceCounts) (fault : WholeFault) → IfAtTurn fault (λ turn. FailedAtTurn turn before.reads after.reads before.read_failures after.read_failures) → ((IsAtTurn fault → ⊥) → after.read_failures ≡ before.read_failures)
-    → after.write_failures ≡ before.write_failures → EndsRun {X = X} before after (Err (fault_of_reading fault))
-read_ends before after (reads.Read turn) at unread same = record { turn = at; read_failures = unread; write_failures = omega (arith, same) }
-read_ends before after reads.NoMemory at unread same = record { turn = tt; read_failures = unread; write_failures = omega (arith, same) }
+pub read_ends : {X : Type 0} (before after : DeviceCounts) (fault : Stop) → IfAtTurn fault (λ turn. FailedAtTurn turn before.reads after.reads before.read_failures after.read_failures) → ((IsAtTurn fault → ⊥) → after.read_failures ≡ before.read_failures)
+    → write_failures_of fault ≡ 0 → after.write_failures ≡ before.write_failures → EndsRun {X = X} before after (Err fault)
+read_ends before after fault at unread none same = record { turn = at; read_failures = unread; write_failures = omega (arith, same, none) }
 
 -- it ended by a fault of an answer, which is none of reading
-pub answer_ends : {X : Type 0} (before after : DeviceCounts) (fault : AnswerFault) → after.read_failures ≡ before.read_failures → after.write_failures ≡ before.write_failures + failures_of (fault_of_answer fault) → EndsRun {X = X} before after (Err (fault_of_answer fault))
-answer_ends before after answers.Write same writes = record { turn = tt; read_failures = λ _. same; write_failures = writes }
-answer_ends before after answers.NoMemory same writes = record { turn = tt; read_failures = λ _. same; write_failures = writes }
+pub answer_ends : {X : Type 0} (before after : DeviceCounts) (fault : Stop) → (IsAtTurn fault → ⊥) → after.read_failures ≡ before.read_failures → after.write_failures ≡ before.write_failures + write_failures_of fault → EndsRun {X = X} before after (Err fault)
+answer_ends before after (stops.Read turn) no_read same writes = absurd (no_read tt)
+answer_ends before after stops.Write no_read same writes = record { turn = tt; read_failures = λ _. same; write_failures = writes }
+answer_ends before after stops.NoMemory no_read same writes = record { turn = tt; read_failures = λ _. same; write_failures = writes }
 
 -- what holds whether a run failed or not holds where it failed
-pub where_failed : (r : Result Status RunFault) {P : Type 0} → P → IfErr r (λ fault. P)
+pub where_failed : (r : Result Status Stop) {P : Type 0} → P → IfErr r (λ fault. P)
 where_failed (Ok status) p = tt
 where_failed (Err fault) p = p
 
@@ -65,11 +57,11 @@ none_failed before after status other reads writes = record {
 }
 
 -- the status after a fault of a run reports it
-pub run_reported : (before after : DeviceCounts) (fault : RunFault) → IfRead fault (λ turn. FailedAtTurn turn before.reads after.reads before.read_failures after.read_failures) → ((IsOfRead fault → ⊥) → after.read_failures ≡ before.read_failures)
-    → after.write_failures ≡ before.write_failures + failures_of fault → ReportsFailures before after (status_of_run fault)
-run_reported before after (runs.Read n) turn reads writes = record { read = λ _. refl; write = λ _. refl; failed = λ _. inr (inl (n, turn)) }
-run_reported before after runs.Write turn reads writes = record { read = λ _. refl; write = λ _. refl; failed = λ _. inl (omega (arith, writes)) }
-run_reported before after runs.NoMemory turn reads writes = none_failed before after NoMemory (λ is. cc) (reads (λ no. no)) (omega (arith, writes))
+pub run_reported : (before after : DeviceCounts) (fault : Stop) → IfAtTurn fault (λ turn. FailedAtTurn turn before.reads after.reads before.read_failures after.read_failures) → ((IsAtTurn fault → ⊥) → after.read_failures ≡ before.read_failures)
+    → after.write_failures ≡ before.write_failures + write_failures_of fault → ReportsFailures before after (status_of_run fault)
+run_reported before after (stops.Read n) turn reads writes = record { read = λ _. refl; write = λ _. refl; failed = λ _. inr (inl (n, turn)) }
+run_reported before after stops.Write turn reads writes = record { read = λ _. refl; write = λ _. refl; failed = λ _. inl (omega (arith, writes)) }
+run_reported before after stops.NoMemory turn reads writes = none_failed before after NoMemory (λ is. cc) (reads (λ no. no)) (omega (arith, writes))
 
 told_no_failure : (status : Status) → IsTold status → status ≡ Failed → ⊥
 told_no_failure status told is = subst IsTold is told
@@ -84,7 +76,7 @@ outcome_told status sought.Found e = subst IsTold (sym e) tt
 outcome_told status sought.Impossible e = subst IsTold (sym e) tt
 outcome_told status sought.Undecided e = subst IsTold (sym e) tt
 
-pub ended_reported : (before after : DeviceCounts) (r : Result Status RunFault) → IfOk r IsTold → EndsRun before after r → ReportsFailures before after (ended r)
+pub ended_reported : (before after : DeviceCounts) (r : Result Status Stop) → IfOk r IsTold → EndsRun before after r → ReportsFailures before after (ended r)
 ended_reported before after (Ok status) told ends = none_failed before after status (told_no_failure status told) ends.read_failures ends.write_failures
 ended_reported before after (Err fault) told ends = run_reported before after fault ends.turn ends.read_failures ends.write_failures
 
@@ -110,22 +102,17 @@ not_refused source source' sink sink' status other = record {
 }
 
 -- the status after a fault of lines that were answered on and on reports it
-pub live_reported : (before after : DeviceCounts) (fault : LiveFault) → ReadsFailed fault before.reads after.reads before.read_failures after.read_failures → after.write_failures ≡ before.write_failures + write_failures_of fault
-    → ReportsFailures before after (status_of_live fault)
-live_reported before after (lives.Read n) (inl failed) writes = record { read = λ _. refl; write = λ _. refl; failed = λ _. inr (inl (n, inl failed)) }
-live_reported before after (lives.Read n) (inr endless) writes = record { read = λ _. refl; write = λ _. refl; failed = λ _. inr (inr endless.1) }
-live_reported before after lives.Write same writes = record { read = λ _. refl; write = λ _. refl; failed = λ _. inl (omega (arith, writes)) }
-live_reported before after lives.NoMemory same writes = none_failed before after NoMemory (λ is. cc) same (omega (arith, writes))
+pub live_reported : (before after : DeviceCounts) (fault : Stop) → ReadsFailed fault before.reads after.reads before.read_failures after.read_failures → after.write_failures ≡ before.write_failures + write_failures_of fault
+    → ReportsFailures before after (status_of_run fault)
+live_reported before after (stops.Read n) (inl failed) writes = record { read = λ _. refl; write = λ _. refl; failed = λ _. inr (inl (n, inl failed)) }
+live_reported before after (stops.Read n) (inr endless) writes = record { read = λ _. refl; write = λ _. refl; failed = λ _. inr (inr endless.1) }
+live_reported before after stops.Write same writes = record { read = λ _. refl; write = λ _. refl; failed = λ _. inl (omega (arith, writes)) }
+live_reported before after stops.NoMemory same writes = none_failed before after NoMemory (λ is. cc) same (omega (arith, writes))
 
-pub live_not_refused : (fault : LiveFault) → IsRefused (status_of_live fault) → ⊥
-live_not_refused (lives.Read n) refused = refused
-live_not_refused lives.Write refused = refused
-live_not_refused lives.NoMemory refused = refused
-
-pub run_not_refused : (fault : RunFault) → IsRefused (status_of_run fault) → ⊥
-run_not_refused (runs.Read n) is = is
-run_not_refused runs.Write is = is
-run_not_refused runs.NoMemory is = is
+pub run_not_refused : (fault : Stop) → IsRefused (status_of_run fault) → ⊥
+run_not_refused (stops.Read n) is = is
+run_not_refused stops.Write is = is
+run_not_refused stops.NoMemory is = is
 
 told_not_refused : (status : Status) → IsTold status → IsRefused status → ⊥
 told_not_refused Done told is = is
@@ -139,15 +126,15 @@ told_not_refused Undecided told is = is
 told_not_refused BadFile told is = told
 told_not_refused LineRefused told is = told
 
-pub ended_not_refused : (r : Result Status RunFault) → IfOk r IsTold → IsRefused (ended r) → ⊥
+pub ended_not_refused : (r : Result Status Stop) → IfOk r IsTold → IsRefused (ended r) → ⊥
 ended_not_refused (Ok status) told is = told_not_refused status told is
 ended_not_refused (Err fault) told is = run_not_refused fault is
 
-pub ended_usage : (r : Result Status RunFault) → IfOk r IsTold → ended r ≡ Usage → ⊥
+pub ended_usage : (r : Result Status Stop) → IfOk r IsTold → ended r ≡ Usage → ⊥
 ended_usage (Ok status) told e = subst IsTold e told
-ended_usage (Err (runs.Read n)) told e = cc
-ended_usage (Err runs.Write) told e = cc
-ended_usage (Err runs.NoMemory) told e = cc
+ended_usage (Err (stops.Read n)) told e = cc
+ended_usage (Err stops.Write) told e = cc
+ended_usage (Err stops.NoMemory) told e = cc
 
 -- the status after a fault of rows reports it
 pub rows_reported : (before after : DeviceCounts) (words writer of_record of_memory : Type 0) (fault : RowsFault) → MatchFault fault words (λ turn. FailedAtTurn turn before.reads after.reads before.read_failures after.read_failures) writer of_record of_memory

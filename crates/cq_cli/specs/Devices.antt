@@ -1,10 +1,9 @@
 -- What the devices of the program did, and how that is reported. (this project's profile)
 use Rattle.std.specs.Prelude.{◌≡◌, ◌<◌, ◌+◌, ◌^◌, ℕ, ◌⊎◌, List, Option, Result, MatchResult, IfErr}
 use Rattle.std.specs.Io.KnownBytes.{prepend_known}
-use Rattle.cq_devices.specs.Device.{FailedAtTurn}
-use Rattle.cq_report.specs.declared.fault.RunFault.{RunFault}
+use Rattle.cq_devices.specs.declared.stop.Stop.{Stop}
+use Rattle.cq_devices.specs.Device.{FailedAtTurn, IfAtTurn, IsAtTurn, write_failures_of}
 use Rattle.cq_report.specs.Live.{max_live_reads}
-use Rattle.cq_report.specs.Run.{IfRead, IsOfRead, failures_of}
 use Rattle.cq_cli.specs.declared.status.Status.{Status}
 use Rattle.cq_cli.specs.declared.status.Status.TheVariants.{Failed, Usage}
 use Rattle.cq_cli.specs.Status.{IsRefused}
@@ -44,13 +43,13 @@ DeviceFailed before after =
     ⊎ (after.reads ≡ before.reads + max_live_reads)
 
 -- A run ended by a fault exactly where a device failed or memory ran out, and the fault tells which.
-pub record EndsRun {X : Type 0} (before after : DeviceCounts) (ended : Result X RunFault) : Type 0 where
+pub record EndsRun {X : Type 0} (before after : DeviceCounts) (ended : Result X Stop) : Type 0 where
   -- A fault of reading tells the turn of the read that failed.
-  pub turn : IfErr ended (λ fault. IfRead fault (λ turn. FailedAtTurn turn before.reads after.reads before.read_failures after.read_failures))
+  pub turn : IfErr ended (λ fault. IfAtTurn fault (λ turn. FailedAtTurn turn before.reads after.reads before.read_failures after.read_failures))
   -- No read failed but with a fault of reading.
-  pub read_failures : MatchResult ended (λ _. after.read_failures ≡ before.read_failures) (λ fault. (IsOfRead fault → ⊥) → after.read_failures ≡ before.read_failures)
+  pub read_failures : MatchResult ended (λ _. after.read_failures ≡ before.read_failures) (λ fault. (IsAtTurn fault → ⊥) → after.read_failures ≡ before.read_failures)
   -- The sink failed with its own fault, and with no other.
-  pub write_failures : MatchResult ended (λ _. after.write_failures ≡ before.write_failures) (λ fault. after.write_failures ≡ before.write_failures + failures_of fault)
+  pub write_failures : MatchResult ended (λ _. after.write_failures ≡ before.write_failures) (λ fault. after.write_failures ≡ before.write_failures + write_failures_of fault)
 
 -- The status reports that a device failed.
 pub record ReportsFailures (before after : DeviceCounts) (status : Status) : Type 0 where

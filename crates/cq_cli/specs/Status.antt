@@ -1,11 +1,7 @@
 -- How the program ends. (this project's profile)
 use Rattle.std.specs.Prelude.{ℕ, Bool, true, false, Result, Ok, Err}
-use Rattle.cq_devices.specs.declared.fault.WholeFault.{WholeFault}
-use Rattle.cq_devices.specs.declared.fault.WholeFault.TheVariants as reads
-use Rattle.cq_report.specs.declared.fault.RunFault.{RunFault}
-use Rattle.cq_report.specs.declared.fault.RunFault.TheVariants as runs
-use Rattle.cq_report.specs.declared.fault.LiveFault.{LiveFault}
-use Rattle.cq_report.specs.declared.fault.LiveFault.TheVariants as lives
+use Rattle.cq_devices.specs.declared.stop.Stop.{Stop}
+use Rattle.cq_devices.specs.declared.stop.Stop.TheVariants as stops
 use Rattle.cq_sessions.specs.declared.fault.SessionsFault.{SessionsFault}
 use Rattle.cq_sessions.specs.declared.fault.SessionsFault.TheVariants as sessions
 use Rattle.cq_cli.specs.declared.rows.RowsFault.{RowsFault}
@@ -33,22 +29,17 @@ code_of Undecided = 6
 code_of BadFile = 1
 code_of LineRefused = 7
 
--- A fault of reading or writing is a device that failed.
-abbrev pub status_of_run : RunFault → Status
-status_of_run (runs.Read turn) = Failed
-status_of_run runs.Write = Failed
-status_of_run runs.NoMemory = NoMemory
+-- A read or a write that fails is a device that failed.
+abbrev pub status_of_run : Stop → Status
+status_of_run (stops.Read turn) = Failed
+status_of_run stops.Write = Failed
+status_of_run stops.NoMemory = NoMemory
 
--- The same of a board that answers on and on.
-abbrev pub status_of_live : LiveFault → Status
-status_of_live (lives.Read turn) = Failed
-status_of_live lives.Write = Failed
-status_of_live lives.NoMemory = NoMemory
-
--- A file whose reading fails is none of the standard devices.
-abbrev pub status_of_reading : WholeFault → Status
-status_of_reading (reads.Read turn) = Unserved
-status_of_reading reads.NoMemory = NoMemory
+-- A file whose reading fails is none of the standard devices. Nothing is written to it.
+abbrev pub status_of_reading : Stop → Status
+status_of_reading (stops.Read turn) = Unserved
+status_of_reading stops.Write = Unserved
+status_of_reading stops.NoMemory = NoMemory
 
 -- A fault of writing is a device that failed; sessions without a place or a thread were not served.
 abbrev pub status_of_sessions : SessionsFault → Status
@@ -89,7 +80,7 @@ status_of_choices (choices.Name word) = Usage
 status_of_choices choices.NoMemory = NoMemory
 
 -- How the program ends where this was reported, or where that fault kept it from being reported.
-abbrev pub ended : Result Status RunFault → Status
+abbrev pub ended : Result Status Stop → Status
 ended (Ok status) = status
 ended (Err fault) = status_of_run fault
 

@@ -1,3 +1,2 @@
 -- What the private steps of the code are stated with; no part of what a reader must believe.
-pub mod Answers
 pub mod Ahead

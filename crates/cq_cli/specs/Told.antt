@@ -4,8 +4,8 @@ use Rattle.std.specs.Option.{is_some}
 use Rattle.cq_rel.specs.Tables.{Declaration}
 use Rattle.cq_board.specs.declared.limits.Limits.{Limits}
 use Rattle.cq_render.specs.Report.{line}
-use Rattle.cq_report.specs.declared.fault.RunFault.{RunFault}
-use Rattle.cq_report.specs.declared.fault.RunFault.TheVariants as runs
+use Rattle.cq_devices.specs.declared.stop.Stop.{Stop}
+use Rattle.cq_devices.specs.declared.stop.Stop.TheVariants as stops
 use Rattle.cq_report.specs.Lines.{lines_of}
 use Rattle.cq_report.specs.declared.numbering.Numbering.{Numbering}
 use Rattle.cq_report.specs.declared.numbering.Numbering.TheVariants.{Plain}
@@ -53,7 +53,7 @@ pub record IsToldOf (origin : List ℕ) (is_summed : Bool) (script : List ℕ) (
   pub is : text ≡ whys ++ summary_if is_summed origin state
 
 -- A script that is read whole is no device: one that is too long is a file that fails.
-abbrev pub status_of_text : RunFault → Status
-status_of_text (runs.Read turn) = BadFile
-status_of_text runs.Write = Failed
-status_of_text runs.NoMemory = NoMemory
+abbrev pub status_of_text : Stop → Status
+status_of_text (stops.Read turn) = BadFile
+status_of_text stops.Write = Failed
+status_of_text stops.NoMemory = NoMemory

@@ -18,8 +18,8 @@ use crate::writing::{tell, tell_fault, write_text};
 use clap::Error;
 use clap::error::ErrorKind;
 use cq_budget::Budget;
-use cq_devices::{Sink, Source};
-use cq_report::{Numbering, RunFault, live};
+use cq_devices::{Sink, Source, Stop};
+use cq_report::{Numbering, live};
 use std::alloc::{Allocator, Global};
 use std::convert::AsStr;
 use std::fs;
@@ -47,7 +47,7 @@ fn say<W: Sink, E: Sink>(alloc: Global, text: &str, sink: &mut W, errors: &mut E
     ensures refused { IsRefused result → (sink.new ≡ sink.old) }
 {
     let Ok(()) = write_text(sink, text) else {
-        tell_fault(alloc, "", &RunFault::Write, errors);
+        tell_fault(alloc, "", &Stop::Write, errors);
         return Status::Failed;
     };
     Status::Done
@@ -121,7 +121,7 @@ fn answer_live<A: Allocator + Copy, R: Source, W: Sink, E: Sink>(
         return Status::Done;
     };
     tell_fault(alloc, origin, &fault, errors);
-    Status::of_live(fault)
+    Status::of_run(fault)
 }
 
 /// What stands before a fault of rows: the file, which is not at fault for the words.

@@ -3,28 +3,26 @@
 ghost use Rattle.std.specs.Prelude.{◌≡◌, ◌≢◌, ◌<◌, ◌+◌, ◌^◌, ◌++◌, ℕ, List, [], map, false, string_bytes, IfOk, IfErr, IfSome, OnErr, MatchResult};
 ghost use Rattle.std.specs.List.{list_all};
 ghost use Rattle.cq_atom.specs.Text.{is_name};
+ghost use Rattle.cq_devices.specs.Device.{IsAtTurn, write_failures_of};
 ghost use Rattle.cq_report.specs.Lines.{lines_of};
 ghost use Rattle.cq_report.specs.Reading.{Reading};
 ghost use Rattle.cq_report.specs.Output.{AreReadings, left_after};
-ghost use Rattle.cq_report.specs.Run.{failures_of};
 ghost use Rattle.cq_report.specs.Summary.{warning};
 ghost use Rattle.cq_cli.specs.declared.status.Status.{Status};
 ghost use Rattle.cq_cli.specs.Status.{ended, IsTold};
 ghost use Rattle.cq_cli.specs.Devices.{counts, EndsRun, HaveRoom, LeavesRefused, ReportsFailures};
 ghost use Rattle.cq_cli.specs.Views.{told_line, ToldOn, IsShown, IsSought, IsJudgedShown};
-ghost use Rattle.cq_cli.specs.Steps.Answers.{fault_of_answer};
 ghost use Rattle.cq_ask.specs.Choices.{StandForNone};
 ghost use Rattle.cq_why.specs.Why.{is_mark};
 
 use crate::ahead::LookAhead;
 use crate::choices::{read_choices, read_names};
-use crate::fault::AnswerFault;
 use crate::status::Status;
 use crate::views::{Choose, Explain, Graph, Groups, Json, Judge, View};
 use crate::wanted::Look;
 use crate::writing::{marked_notes, tell, tell_fault, write_text};
-use cq_devices::Sink;
-use cq_report::{Played, RunFault, put_warning, read_script};
+use cq_devices::{Sink, Stop};
+use cq_report::{Played, put_warning, read_script};
 use std::alloc::{AllocError, Allocator, Global};
 
 /// What is to be known of a script by somebody who looks at its board, in a line, and these lines behind it.
@@ -53,13 +51,14 @@ fn write_seen<A: Allocator + Copy, V: View<A>, W: Sink, E: Sink>(
     script: &Played<A>,
     sink: &mut W,
     errors: &mut E,
-) -> Result<Status, AnswerFault>
+) -> Result<Status, Stop>
     requires sink { W.write_failures sink.old < 2 ^ 62 }
     requires errors { E.write_failures errors.old < 2 ^ 62 }
     ensures ok { IfOk result (λ status. IsShown (V.tells view.now) origin.now is_marked script.now status (W.taken sink.old) (W.taken sink.new) (ToldOn (E.write_failures errors.old) (E.write_failures errors.new) (E.taken errors.old) (E.taken errors.new))) }
     ensures status { IfOk result IsTold }
     ensures errors { OnErr result (errors.new ≡ errors.old) }
-    ensures failures { MatchResult result (λ _. W.write_failures sink.new ≡ W.write_failures sink.old) (λ fault. W.write_failures sink.new ≡ W.write_failures sink.old + failures_of (fault_of_answer fault)) }
+    ensures failures { MatchResult result (λ _. W.write_failures sink.new ≡ W.write_failures sink.old) (λ fault. W.write_failures sink.new ≡ W.write_failures sink.old + write_failures_of fault) }
+    ensures no_read { IfErr result (λ fault. IsAtTurn fault → ⊥) }
 {
     let seen = view.look(heap, script)?;
     let notes = notes_on(heap, origin, script, &seen.notes)?;
@@ -77,7 +76,7 @@ fn show<A: Allocator + Copy, V: View<A>, R: LookAhead, W: Sink, E: Sink>(
     source: &mut R,
     sink: &mut W,
     errors: &mut E,
-) -> Result<Status, RunFault>
+) -> Result<Status, Stop>
     requires devices { HaveRoom (counts R.reads_made R.failures_met W.write_failures source.old sink.old) }
     requires errors { E.write_failures errors.old < 2 ^ 62 }
     ensures told { IfOk result (λ status. IfSome (R.left source.old) (λ input. (readings : List Reading) → AreReadings (lines_of input) readings → IsShown (V.tells view.now) origin.now (is_mark [] input) (left_after readings) status (W.taken sink.old) (W.taken sink.new) (ToldOn (E.write_failures errors.old) (E.write_failures errors.new) (E.taken errors.old) (E.taken errors.new)))) }
@@ -86,17 +85,18 @@ fn show<A: Allocator + Copy, V: View<A>, R: LookAhead, W: Sink, E: Sink>(
     ensures failures { EndsRun (counts R.reads_made R.failures_met W.write_failures source.old sink.old) (counts R.reads_made R.failures_met W.write_failures source.new sink.new) result }
 {
     let Ok(is_marked) = source.has_mark() else {
-        return Err(RunFault::Read { turn: 1 });
+        return Err(Stop::Read { turn: 1 });
     };
     let script = read_script(heap, source)?;
-    Ok(write_seen(heap, origin, is_marked, view, &script, sink, errors)?)
+    let status = write_seen(heap, origin, is_marked, view, &script, sink, errors)?;
+    Ok(status)
 }
 
 /// Tells a fault, where there is one, and how the program ends.
 fn end_with<E: Sink>(
     alloc: Global,
     origin: &str,
-    told: Result<Status, RunFault>,
+    told: Result<Status, Stop>,
     errors: &mut E,
 ) -> Status
     requires { IfErr told (λ _. E.write_failures errors.old < 2 ^ 62) }

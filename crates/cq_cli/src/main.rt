@@ -12,7 +12,6 @@ mod ahead;
 mod answering;
 mod choices;
 mod drawing;
-mod fault;
 mod looking;
 mod noting;
 mod progress;

@@ -15,8 +15,8 @@ ghost use Rattle.cq_why.specs.Why.{is_mark};
 use crate::ahead::LookAhead;
 use crate::status::Status;
 use crate::writing::{marked_notes, tell, tell_fault};
-use cq_devices::{Counted, Sink, Source, read_whole};
-use cq_report::{Numbering, Played, Ran, RunFault, put_summary, run};
+use cq_devices::{Counted, Sink, Source, Stop, read_whole};
+use cq_report::{Numbering, Played, Script, put_summary, run};
 use cq_why::put_whys;
 use std::alloc::{AllocError, Allocator, Global};
 
@@ -37,7 +37,7 @@ fn line_of<A: Allocator + Copy>(
 fn summary_line<A: Allocator + Copy>(
     heap: A,
     origin: &str,
-    ran: Ran<A>,
+    ran: Script<A>,
 ) -> Result<String<A>, AllocError>
     ensures { IfOk result (λ text. string_bytes text ≡ line (codes "board: " ++ origin.now ++ summary (left_in ran))) }
 {
@@ -74,7 +74,7 @@ fn summary_line_if<A: Allocator + Copy>(
     heap: A,
     origin: &str,
     is_summed: bool,
-    ran: Ran<A>,
+    ran: Script<A>,
 ) -> Result<String<A>, AllocError>
     ensures { IfOk result (λ text. string_bytes text ≡ summary_if is_summed origin.now ran) }
 {
@@ -91,7 +91,7 @@ fn end_text<A: Allocator + Copy>(
     origin: &str,
     is_marked: bool,
     is_summed: bool,
-    ran: Ran<A>,
+    ran: Script<A>,
 ) -> Result<String<A>, AllocError>
     ensures { IfOk result (λ text. string_bytes text ≡ end_words origin.now is_marked is_summed ran) }
 {
@@ -106,7 +106,7 @@ fn end_replay<A: Allocator + Copy, E: Sink>(
     origin: &str,
     is_marked: bool,
     replaying: Replaying,
-    ran: Ran<A>,
+    ran: Script<A>,
     errors: &mut E,
 ) -> Status
     requires { E.write_failures errors.old < 2 ^ 62 }
@@ -120,7 +120,7 @@ fn end_replay<A: Allocator + Copy, E: Sink>(
             status
         }
         Err(AllocError) => {
-            tell_fault(alloc, origin, &RunFault::NoMemory, errors);
+            tell_fault(alloc, origin, &Stop::NoMemory, errors);
             Status::NoMemory
         }
     }
@@ -160,7 +160,7 @@ fn told_text<A: Allocator + Copy>(
     origin: &str,
     is_summed: bool,
     script: &[u8],
-    ran: Ran<A>,
+    ran: Script<A>,
 ) -> Result<String<A>, AllocError>
     ensures { IfOk result (λ text. IsToldOf origin.now is_summed script.now ran (string_bytes text)) }
 {
@@ -187,7 +187,7 @@ fn end_told<A: Allocator + Copy, E: Sink>(
     origin: &str,
     replaying: Replaying,
     script: &[u8],
-    ran: Ran<A>,
+    ran: Script<A>,
     errors: &mut E,
 ) -> Status
     requires { E.write_failures errors.old < 2 ^ 62 }
@@ -201,20 +201,20 @@ fn end_told<A: Allocator + Copy, E: Sink>(
             status
         }
         Err(AllocError) => {
-            tell_fault(alloc, origin, &RunFault::NoMemory, errors);
+            tell_fault(alloc, origin, &Stop::NoMemory, errors);
             Status::NoMemory
         }
     }
 }
 
 /// How the program ends after a script that was in memory.
-fn status_of_text(fault: RunFault) -> Status
+fn status_of_text(fault: Stop) -> Status
     ensures { result ≡ status_of_text fault }
 {
     match fault {
-        RunFault::Read { turn: _ } => Status::BadFile,
-        RunFault::Write => Status::Failed,
-        RunFault::NoMemory => Status::NoMemory,
+        Stop::Read { turn: _ } => Status::BadFile,
+        Stop::Write => Status::Failed,
+        Stop::NoMemory => Status::NoMemory,
     }
 }
 
@@ -266,10 +266,9 @@ fn answer_told<A: Allocator + Copy, R: Source, W: Sink, E: Sink>(
 {
     match read_whole(heap, source) {
         Ok(script) => replay_text(alloc, heap, origin, replaying, &script, sink, errors),
-        Err(fault) => {
-            let stopped = RunFault::from(fault);
-            tell_fault(alloc, origin, &stopped, errors);
-            Status::of_run(stopped)
+        Err(stop) => {
+            tell_fault(alloc, origin, &stop, errors);
+            Status::of_run(stop)
         }
     }
 }
@@ -280,14 +279,14 @@ fn run_marked<A: Allocator + Copy, R: LookAhead, W: Sink>(
     replaying: Replaying,
     source: &mut R,
     sink: &mut W,
-) -> Result<(bool, Ran<A>), RunFault>
+) -> Result<(bool, Script<A>), Stop>
     requires devices { HaveRoom (counts R.reads_made R.failures_met W.write_failures source.old sink.old) }
     ensures mark { IfOk result (λ ran. IfSome (R.left source.old) (λ input. ran.0 ≡ is_mark [] input)) }
     ensures heard { IfOk result (λ ran. IfSome (R.left source.old) (λ input. Heard replaying.is_strict replaying.numbering input (W.taken sink.old) (W.taken sink.new) ran.1)) }
     ensures failures { EndsRun (counts R.reads_made R.failures_met W.write_failures source.old sink.old) (counts R.reads_made R.failures_met W.write_failures source.new sink.new) result }
 {
     let Ok(is_marked) = source.has_mark() else {
-        return Err(RunFault::Read { turn: 1 });
+        return Err(Stop::Read { turn: 1 });
     };
     let ran = run(heap, replaying.numbering, replaying.is_strict, source, sink)?;
     Ok((is_marked, ran))

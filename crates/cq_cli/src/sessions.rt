@@ -4,7 +4,7 @@ ghost use Rattle.std.specs.Prelude.{◌≡◌, ◌<◌, ◌+◌, ◌^◌, ◌⊎
 ghost use Rattle.cq_ask.specs.Choices.{ArePaired};
 ghost use Rattle.cq_cli.specs.Sessions.{WroteScript, IsOfWriting, IsOfCount, failures_of};
 
-use cq_devices::{Counted, Sink, WholeFault, read_whole};
+use cq_devices::{Counted, Sink, Stop, read_whole};
 use cq_sessions::{SessionsFault, run_sessions};
 use std::alloc::Allocator;
 use std::fs;
@@ -25,7 +25,7 @@ pub(crate) enum FileFault<'a> {
     Open { path: &'a str },
     /// It was not read whole.
     #[error(transparent)]
-    Read(WholeFault),
+    Read(Stop),
 }
 
 /// Why files were not served, or not all was written.
@@ -75,7 +75,7 @@ impl<H: Files> Shelf for H {
         let file = match fs::open(self, path) {
             Ok(file) => file,
             Err(error) if error.kind() == ErrorKind::OutOfMemory => {
-                return Err(FileFault::Read(WholeFault::NoMemory));
+                return Err(FileFault::Read(Stop::NoMemory));
             }
             Err(_) => return Err(FileFault::Open { path }),
         };
@@ -100,7 +100,7 @@ fn read_files<'a, S: Shelf, A: Allocator + Copy>(
     for path in paths {
         let bytes = shelf.take(alloc, *path)?;
         let Ok(()) = files.push(bytes) else {
-            return Err(FileFault::Read(WholeFault::NoMemory));
+            return Err(FileFault::Read(Stop::NoMemory));
         };
     }
     Ok(files)

@@ -1,14 +1,13 @@
 //! How the program ends.
 
 ghost use Rattle.std.specs.Prelude.{◌≡◌};
-ghost use Rattle.cq_cli.specs.Status.{code_of, status_of_live, status_of_run, status_of_choices, status_of_outcome, status_of_files, status_of_reading, status_of_rows, status_of_sessions, over_file};
+ghost use Rattle.cq_cli.specs.Status.{code_of, status_of_run, status_of_choices, status_of_outcome, status_of_files, status_of_reading, status_of_rows, status_of_sessions, over_file};
 
 use crate::choices::ChoiceFault;
 use crate::rows::RowsFault;
 use crate::sessions::{FileFault, FilesFault};
-use cq_devices::WholeFault;
+use cq_devices::Stop;
 use cq_going::Outcome;
-use cq_report::{LiveFault, RunFault};
 use cq_sessions::SessionsFault;
 
 /// How the program ends.
@@ -66,32 +65,22 @@ impl Status {
     }
 
     /// How the program ends after a run that ended so.
-    pub(crate) fn of_run(fault: RunFault) -> Status
+    pub(crate) fn of_run(fault: Stop) -> Status
         ensures { result ≡ status_of_run fault }
     {
         match fault {
-            RunFault::Read { turn: _ } | RunFault::Write => Status::Failed,
-            RunFault::NoMemory => Status::NoMemory,
-        }
-    }
-
-    /// How the program ends after lines that ended so.
-    pub(crate) fn of_live(fault: LiveFault) -> Status
-        ensures { result ≡ status_of_live fault }
-    {
-        match fault {
-            LiveFault::Read { turn: _ } | LiveFault::Write => Status::Failed,
-            LiveFault::NoMemory => Status::NoMemory,
+            Stop::Read { turn: _ } | Stop::Write => Status::Failed,
+            Stop::NoMemory => Status::NoMemory,
         }
     }
 
     /// How the program ends after a file that was not read whole.
-    fn of_reading(fault: WholeFault) -> Status
+    fn of_reading(fault: Stop) -> Status
         ensures { result ≡ status_of_reading fault }
     {
         match fault {
-            WholeFault::Read { turn: _ } => Status::Unserved,
-            WholeFault::NoMemory => Status::NoMemory,
+            Stop::Read { turn: _ } | Stop::Write => Status::Unserved,
+            Stop::NoMemory => Status::NoMemory,
         }
     }
 

@@ -10,7 +10,7 @@ use crate::fault::CsvFault;
 use crate::layout::Layout;
 use crate::records::rows_of;
 use cq_atom::{MAX_ARITY, Row, is_relation_text};
-use cq_devices::{Source, WholeFault, read_whole};
+use cq_devices::{Source, Stop, read_whole};
 use std::alloc::{Allocator, Global};
 
 /// All bytes that the source has left.
@@ -26,10 +26,9 @@ fn read_bytes<A: Allocator, R: Source>(alloc: A, source: &mut R) -> Result<Vec<u
 {
     match read_whole(alloc, source) {
         Ok(bytes) => Ok(bytes),
-        Err(WholeFault::Read { turn }) => Err(CsvFault::Device {
-            turn: u64::from(turn),
-        }),
-        Err(WholeFault::NoMemory) => Err(CsvFault::NoMemory),
+        Err(Stop::Read { turn }) => Err(CsvFault::Device { turn }),
+        Err(Stop::Write) => unreachable!(),
+        Err(Stop::NoMemory) => Err(CsvFault::NoMemory),
     }
 }
 

@@ -2,8 +2,8 @@
 use Rattle.std.specs.Prelude.{◌≡◌, ℕ, ◌+◌, List, ◌++◌, Option, ◌⊎◌}
 use Rattle.std.specs.Io.KnownBytes.{Appends, Consumes, IsAtEnd}
 use Rattle.cq_devices.specs.Limits.{max_reads}
-use Rattle.cq_devices.specs.declared.fault.WholeFault.{WholeFault}
-use Rattle.cq_devices.specs.declared.fault.WholeFault.TheVariants.{Read, NoMemory}
+use Rattle.cq_devices.specs.declared.stop.Stop.{Stop}
+use Rattle.cq_devices.specs.declared.stop.Stop.TheVariants.{Read, Write, NoMemory}
 
 -- the device itself, the number of reads made of it, and the number of its calls that failed
 pub record CountedRecord (D : Type 0) : Type 0 where
@@ -29,12 +29,28 @@ FailedAtTurn turn reads reads' failures failures' =
     ((reads' ≡ reads + turn) × (failures' ≡ failures + 1))
     ⊎ ((turn ≡ max_reads + 1) × (reads' ≡ reads + max_reads) × (failures' ≡ failures))
 
--- What is known of the turn of a fault of reading.
-abbrev pub IfAtTurn : WholeFault → (ℕ → Type 0) → Type 0
+-- ---- why a call stops before its end
+
+-- What is known if it is a read that failed, by the turn that is reported.
+abbrev pub IfAtTurn : Stop → (ℕ → Type 0) → Type 0
 IfAtTurn (Read turn) P = P turn
+IfAtTurn Write P = Unit {0}
 IfAtTurn NoMemory P = Unit {0}
 
--- The fault is that of a read.
-abbrev pub IsAtTurn : WholeFault → Type 0
+-- It is a read that failed.
+abbrev pub IsAtTurn : Stop → Type 0
 IsAtTurn (Read turn) = Unit {0}
+IsAtTurn Write = ⊥
 IsAtTurn NoMemory = ⊥
+
+-- What is known if memory ran out.
+abbrev pub IfMemory : Stop → Type 0 → Type 0
+IfMemory (Read turn) P = Unit {0}
+IfMemory Write P = Unit {0}
+IfMemory NoMemory P = P
+
+-- How much the writer's failures rise: by one if a write failed, and else not.
+abbrev pub write_failures_of : Stop → ℕ
+write_failures_of (Read turn) = 0
+write_failures_of Write = 1
+write_failures_of NoMemory = 0

@@ -7,15 +7,15 @@
 #![tactic(auto)]
 
 mod counted;
-mod fault;
 mod limits;
 mod sink;
 mod source;
+mod stop;
 mod whole;
 
 pub use counted::Counted;
-pub use fault::WholeFault;
 pub use limits::{MAX_PIECE, MAX_READS};
 pub use sink::{Sink, write_all};
 pub use source::{Failed, Source};
+pub use stop::Stop;
 pub use whole::read_whole;

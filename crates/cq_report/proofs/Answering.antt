@@ -9,7 +9,7 @@ use Rattle.cq_text.specs.Grammar.{CommandContent, StandsFor}
 use Rattle.cq_text.specs.Fault.{FirstFault}
 use Rattle.cq_text.specs.Views.{OrNoMemory, OfFault}
 use Rattle.cq_report.specs.declared.output.Output.{Output}
-use Rattle.cq_report.specs.declared.fault.RunFault.TheVariants as faults
+use Rattle.cq_devices.specs.declared.stop.Stop.TheVariants as faults
 use Rattle.cq_report.specs.Steps.Written.{Breaks}
 use Rattle.cq_report.specs.Reading.{Reading, Reads, Faulty, IsReading}
 use Rattle.cq_report.specs.Machine.{State, counted}

@@ -4,11 +4,9 @@ use Rattle.std.specs.Prelude.{◌⊎◌}
 use Rattle.std.specs.Io.KnownBytes.{Appends, Consumes}
 use Rattle.std.proofs.KnownBytes.{Consumes-whole, Consumes-trans}
 use Rattle.cq_report.specs.declared.output.Output.{Output}
-use Rattle.cq_devices.specs.Device.{TakesFront}
-use Rattle.cq_report.specs.declared.fault.ReplyFault.{ReplyFault}
-use Rattle.cq_report.specs.declared.fault.ReplyFault.TheVariants as replies
-use Rattle.cq_report.specs.declared.fault.RunFault.{RunFault}
-use Rattle.cq_report.specs.declared.fault.RunFault.TheVariants as faults
+use Rattle.cq_devices.specs.Device.{TakesFront, IfAtTurn, IsAtTurn}
+use Rattle.cq_devices.specs.declared.stop.Stop.{Stop}
+use Rattle.cq_devices.specs.declared.stop.Stop.TheVariants as faults
 use Rattle.cq_report.specs.declared.numbering.Numbering.{Numbering}
 use Rattle.cq_report.specs.declared.numbering.Numbering.TheVariants.{Plain}
 use Rattle.cq_report.specs.Lines.{lines_of, whole_lines}
@@ -16,9 +14,8 @@ use Rattle.cq_report.specs.Reading.{Reading}
 use Rattle.cq_report.specs.Machine.{State, begin_state}
 use Rattle.cq_report.specs.Refusals.{no_refusal}
 use Rattle.cq_report.specs.Output.{AreReadings, Heard, IsRefusedLast, output, left_in, left_after}
-use Rattle.cq_report.specs.Steps.Replies.{fault_of_reply}
 use Rattle.cq_report.specs.Steps.Written.{Passes}
-use Rattle.cq_report.specs.Run.{IfRead, WroteWholeLines, WroteFront}
+use Rattle.cq_report.specs.Run.{WroteWholeLines, WroteFront}
 use Rattle.cq_report.specs.Steps.Replay.{Halted, Replayed, BrokeOff, Ended}
 use Rattle.cq_report.specs.Steps.Serving.{Finished}
 use Rattle.cq_report.proofs.Cutting.{whole_lines_all_ended}
@@ -34,15 +31,16 @@ Passes-all taken taken' held bytes held' p none none' =
     let e : p.front ≡ bytes = sym (append-nil p.front) ∙ ap (λ (l : List ℕ). p.front ++ l) (sym none') ∙ p.whole ∙ ap (λ (l : List ℕ). l ++ bytes) none in
     subst (Appends taken taken') e p.took
 
-pub IfRead-weaker : (fault : RunFault) (P Q : ℕ → Type 0) → ((turn : ℕ) → P turn → Q turn) → IfRead fault P → IfRead fault Q
-IfRead-weaker (faults.Read turn) P Q f h = f turn h
-IfRead-weaker faults.Write P Q f h = tt
-IfRead-weaker faults.NoMemory P Q f h = tt
+pub IfAtTurn-weaker : (fault : Stop) (P Q : ℕ → Type 0) → ((turn : ℕ) → P turn → Q turn) → IfAtTurn fault P → IfAtTurn fault Q
+IfAtTurn-weaker (faults.Read turn) P Q f h = f turn h
+IfAtTurn-weaker faults.Write P Q f h = tt
+IfAtTurn-weaker faults.NoMemory P Q f h = tt
 
--- a fault of a reply is none of reading
-pub reply_read : (fault : ReplyFault) (P : ℕ → Type 0) → IfRead (fault_of_reply fault) P
-reply_read replies.Write P = tt
-reply_read replies.NoMemory P = tt
+-- what stops at no read
+pub unread : (fault : Stop) (P : ℕ → Type 0) → (IsAtTurn fault → ⊥) → IfAtTurn fault P
+unread (faults.Read turn) P no_read = absurd (no_read tt)
+unread faults.Write P no_read = tt
+unread faults.NoMemory P no_read = tt
 
 -- known bytes, of which a front was read
 pub Consumes-front : (left left' : Option (List ℕ)) (bytes : List ℕ) (P : List ℕ → Type 0) → Consumes left left' bytes → ((rest : List ℕ) → P (bytes ++ rest)) → IfSome left P
@@ -133,7 +131,7 @@ module _ {W A : Type 0} (taken : W → Option (List ℕ)) (failures : W → ℕ)
       }
 
   -- a fault came, and no more than a front was written
-  pub Ended-wrote : (t t' : Option (List ℕ)) (fault : RunFault) → opening ≡ begin_state numbering → first.held.now.items ≡ [] → taken first.sink.now ≡ t → taken now.sink.now ≡ t' → Ended taken failures opening left left' first now fault → WroteFront numbering left left' t t'
+  pub Ended-wrote : (t t' : Option (List ℕ)) (fault : Stop) → opening ≡ begin_state numbering → first.held.now.items ≡ [] → taken first.sink.now ≡ t → taken now.sink.now ≡ t' → Ended taken failures opening left left' first now fault → WroteFront numbering left left' t t'
   Ended-wrote t t' fault begins none e e' d0 =
       let d = subst (λ (s : State). Ended taken failures s left left' first now fault) begins d0 in
       record {

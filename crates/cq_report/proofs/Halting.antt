@@ -1,7 +1,7 @@
 -- A strict script that comes to a line which is refused.
 use Rattle.std.proofs.Common.{◌≡◌, ℕ, Bool, true, List, [], ◌++◌, Option, ap, subst, ◌∙◌, append_assoc}
 use Rattle.cq_report.specs.declared.output.Output.{Output}
-use Rattle.cq_report.specs.declared.fault.RunFault.{RunFault}
+use Rattle.cq_devices.specs.declared.stop.Stop.{Stop}
 use Rattle.cq_report.specs.Machine.{State}
 use Rattle.cq_report.specs.Steps.Written.{Puts, Breaks}
 use Rattle.cq_report.specs.Steps.Serving.{Served, Stopped, HaltsOn}
@@ -23,7 +23,7 @@ module _ {W A : Type 0} (taken : W → Option (List ℕ)) (failures : W → ℕ)
   }
 
   -- the writer failed at what waited
-  pub Halts-breaks : (a b c : Output W A) (r s : State) (k l bytes piece : List ℕ) (fault : RunFault) → Served taken failures first opening a r k bytes → HaltsOn taken failures a b r s k l piece → Breaks taken failures b c [] fault
+  pub Halts-breaks : (a b c : Output W A) (r s : State) (k l bytes piece : List ℕ) (fault : Stop) → Served taken failures first opening a r k bytes → HaltsOn taken failures a b r s k l piece → Breaks taken failures b c [] fault
       → Stopped taken failures first opening c (bytes ++ piece) fault
   Halts-breaks a b c r s k l bytes piece fault served halts breaks =
       subst (λ (bs : List ℕ). Stopped taken failures first opening c bs fault) (append_assoc bytes halts.done halts.rest ∙ ap (λ (bs : List ℕ). bytes ++ bs) halts.cut)

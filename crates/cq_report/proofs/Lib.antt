@@ -1,6 +1,6 @@
 pub mod CallerLemmas
 mod Examples
-pub mod Unanswered
+pub mod Acting
 pub mod Answering
 pub mod Tallying
 pub mod Cutting
@@ -13,7 +13,7 @@ pub mod Ending
 pub mod Leaving
 pub mod Runs
 pub mod Lives
-pub mod Quitting
+pub mod Asking
 pub mod Empty
 pub mod Parts
 pub mod Sums

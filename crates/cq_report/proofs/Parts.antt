@@ -1,20 +1,28 @@
--- Replies by their parts.
-use Rattle.std.proofs.Common.{◌≡◌, ◌<◌, ◌==◌, ◌^◌, ◌++◌, ◌∙◌, ℕ, List, [], false, length, sym, ap, arith, append-nil, append_assoc}
-use Rattle.std.specs.Prelude.{decimal}
-use Rattle.std.proofs.lemmas.Bool.Decides.{nat_tests}
-use Rattle.std.proofs.lemmas.Fmt.{decimal_nonempty}
+-- The pieces of a reply, joined.
+use Rattle.std.proofs.Common.{◌≡◌, ◌==◌, ◌+◌, ◌++◌, ◌∷◌, ◌∙◌, ℕ, List, [], false, length, ap, sym, append-nil, append_assoc}
+use Rattle.std.specs.Prelude.{codes, decimal}
+use Rattle.cq_report.specs.declared.numbering.Numbering.TheVariants.{Numbered, Json}
+use Rattle.cq_report.specs.Machine.{numbered}
 
-some_length : (n : ℕ) → 0 < n → false ≡ (n == 0)
-some_length n some = grind (arith, nat_tests)
+-- a refusal as members, whose texts end with a quote
+pub as_members : (front word before part lead number quote parts place : List ℕ) → before ++ (part ++ quote) ≡ quote ++ parts → lead ++ number ≡ quote ++ place
+    → (front ++ word) ++ ((before ++ part) ++ (lead ++ (number ++ []))) ≡ front ++ (word ++ (quote ++ (parts ++ place)))
+as_members front word before part lead number quote parts place is at =
+    let grouped : (front ++ word) ++ ((before ++ part) ++ (quote ++ place)) ≡ front ++ (word ++ ((before ++ (part ++ quote)) ++ place)) = simp append_assoc in
+    let split : front ++ (word ++ ((quote ++ parts) ++ place)) ≡ front ++ (word ++ (quote ++ (parts ++ place))) = simp append_assoc in
+    ap (λ (l : List ℕ). (front ++ word) ++ ((before ++ part) ++ (lead ++ l))) (append-nil number)
+    ∙ ap (λ (l : List ℕ). (front ++ word) ++ ((before ++ part) ++ l)) at
+    ∙ grouped
+    ∙ ap (λ (l : List ℕ). front ++ (word ++ (l ++ place))) is
+    ∙ split
 
--- a number has a digit
-pub some_digit : (n : ℕ) → n < 2 ^ 64 → false ≡ (length (decimal n) == 0)
-some_digit n small = some_length (length (decimal n)) (decimal_nonempty n small)
+-- a reply in words that is not empty, behind its number
+pub after_number : (before : ℕ) (bytes : List ℕ) → (length bytes == 0) ≡ false → (decimal (before + 1) ++ codes ": ") ++ (bytes ++ []) ≡ numbered Numbered before bytes
+after_number before [] some = absurd (cc)
+after_number before (b ∷ bs) some = ap (λ (l : List ℕ). (decimal (before + 1) ++ codes ": ") ++ l) (append-nil (b ∷ bs))
 
--- what is told, its end and a tail, as they are put
-pub ended : (told end tail : List ℕ) → told ++ (end ++ [] ++ tail) ≡ told ++ end ++ tail
-ended told end tail = ap (λ (last : List ℕ). told ++ (last ++ tail)) (append-nil end) ∙ sym (append_assoc told end tail)
-
--- the same with what stands in front of it
-pub in_front : (front told end tail : List ℕ) → front ++ (told ++ end ++ tail) ≡ front ++ told ++ end ++ tail
-in_front front told end tail = sym (append_assoc front (told ++ end) tail) ∙ ap (λ (l : List ℕ). l ++ tail) (sym (append_assoc front told end))
+-- a number and a reply in an object
+pub in_object : (before : ℕ) (bytes : List ℕ) → (codes "{\"line\":" ++ (decimal (before + 1) ++ [])) ++ (bytes ++ codes "}\n") ≡ numbered Json before bytes
+in_object before bytes =
+    ap (λ (number : List ℕ). (codes "{\"line\":" ++ number) ++ (bytes ++ codes "}\n")) (append-nil (decimal (before + 1)))
+    ∙ sym (append_assoc (codes "{\"line\":" ++ decimal (before + 1)) bytes (codes "}\n"))

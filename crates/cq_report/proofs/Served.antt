@@ -2,14 +2,13 @@
 use Rattle.std.proofs.Common.{◌≡◌, ℕ, ◌<◌, ◌+◌, List, [], ◌∷◌, ◌++◌, length, Option, refl, sym, ap, subst, ◌∙◌, append_assoc, append-nil, arith}
 use Rattle.std.proofs.lemmas.List.{nil_from_length}
 use Rattle.cq_report.specs.declared.output.Output.{Output}
-use Rattle.cq_report.specs.declared.fault.RunFault.{RunFault}
-use Rattle.cq_report.specs.declared.fault.RunFault.TheVariants as faults
+use Rattle.cq_devices.specs.declared.stop.Stop.{Stop}
+use Rattle.cq_devices.specs.declared.stop.Stop.TheVariants as faults
 use Rattle.cq_text.specs.declared.form.Form.{Form}
 use Rattle.cq_report.specs.Lines.{lines_of}
 use Rattle.cq_report.specs.Reading.{Reading, IsReading}
 use Rattle.cq_report.specs.Machine.{State, form_in, next, reply}
 use Rattle.cq_report.specs.Output.{AreReadFrom, state_after, output_from}
-use Rattle.cq_report.specs.Run.{failures_of}
 use Rattle.cq_report.specs.Steps.Written.{Puts, Breaks, Fails}
 use Rattle.cq_report.specs.Steps.Kept.{kept}
 use Rattle.cq_report.specs.Steps.Serving.{HaveNoEnd, ended, Answered, Served, Finished, Stopped, ServesOn, StopsOn, IsSound}
@@ -17,6 +16,7 @@ use Rattle.cq_report.specs.Lines.{HasNoEnd}
 use Rattle.cq_report.proofs.Cutting.{kept_nil, kept_again, kept_none, kept_some, lines_of_all_ended, lines_of_ended, lines_of_open, HasNoEnd-append, HaveNoEnd-more, ended-more}
 use Rattle.cq_report.proofs.Kept.{IsReading-kept, IsReading-whole}
 use Rattle.cq_report.specs.Steps.Writing.{Puts-nothing, Puts-then, Puts-breaks, Breaks-more, Puts-cut, Puts-starved}
+use Rattle.cq_devices.specs.Device.{write_failures_of}
 
 -- ---- readings of one list of lines after another
 
@@ -181,7 +181,7 @@ module _ {W A : Type 0} (taken : W → Option (List ℕ)) (failures : W → ℕ)
   }
 
   -- a fault in the answer to a line that others follow
-  stopped_at : (lines : List (List ℕ)) (line : List ℕ) (more : List (List ℕ)) (now now' : Output W A) (state : State) (bytes : List ℕ) (fault : RunFault) → Answered taken failures first opening lines now state
+  stopped_at : (lines : List (List ℕ)) (line : List ℕ) (more : List (List ℕ)) (now now' : Output W A) (state : State) (bytes : List ℕ) (fault : Stop) → Answered taken failures first opening lines now state
       → lines_of bytes ≡ lines ++ (line ∷ more)
       → ((reading : Reading) → IsReading (form_in state) line reading → Breaks taken failures now now' (reply state reading) fault)
       → Stopped taken failures first opening now' bytes fault
@@ -195,7 +195,7 @@ module _ {W A : Type 0} (taken : W → Option (List ℕ)) (failures : W → ℕ)
       subst (λ (l : List ℕ). Breaks taken failures first now' l fault) (output_from-parted opening state rs p.front f.reading f.rest e before.0) (Breaks-more taken failures first now' (output_from opening p.front ++ reply state f.reading) others fault here)
 
   -- a fault in the answer to the line that LF ends
-  pub Stopped-line : (now now' : Output W A) (state : State) (line bytes rest : List ℕ) (fault : RunFault) → Served taken failures first opening now state line bytes
+  pub Stopped-line : (now now' : Output W A) (state : State) (line bytes rest : List ℕ) (fault : Stop) → Served taken failures first opening now state line bytes
       → ((reading : Reading) → IsReading (form_in state) line reading → Breaks taken failures now now' (reply state reading) fault)
       → Stopped taken failures first opening now' (bytes ++ (10 ∷ rest)) fault
   Stopped-line now now' state line bytes rest fault s breaks =
@@ -212,7 +212,7 @@ module _ {W A : Type 0} (taken : W → Option (List ℕ)) (failures : W → ℕ)
       subst (λ (bs : List ℕ). Served taken failures first opening now' state' [] bs) (append_assoc bytes last (10 ∷ []))
       (Served-line now now' state state' line' (bytes ++ last) (Served-front now state line line' bytes last s none_ends k) read answer)
 
-  pub Stopped-last_bytes : (now now' : Output W A) (state : State) (line line' bytes last rest : List ℕ) (fault : RunFault) → Served taken failures first opening now state line bytes → HasNoEnd last → line' ≡ kept (line ++ last)
+  pub Stopped-last_bytes : (now now' : Output W A) (state : State) (line line' bytes last rest : List ℕ) (fault : Stop) → Served taken failures first opening now state line bytes → HasNoEnd last → line' ≡ kept (line ++ last)
       → ((reading : Reading) → IsReading (form_in state) line' reading → Breaks taken failures now now' (reply state reading) fault)
       → Stopped taken failures first opening now' (bytes ++ (last ++ (10 ∷ rest))) fault
   Stopped-last_bytes now now' state line line' bytes last rest fault s none_ends k breaks =
@@ -230,7 +230,7 @@ module _ {W A : Type 0} (taken : W → Option (List ℕ)) (failures : W → ℕ)
       (Served-last now now' state state' line (kept whole) bytes whole s none_ends (ap (λ (l : List ℕ). kept (l ++ whole)) none) (r, IsReading-kept (form_in state) whole r read)
       (λ r' i. answer r' (IsReading-whole (form_in state) whole r' i)))
 
-  pub Stopped-alone : (now now' : Output W A) (state : State) (line bytes whole rest : List ℕ) (fault : RunFault) → Served taken failures first opening now state line bytes → HasNoEnd whole → length line ≡ 0
+  pub Stopped-alone : (now now' : Output W A) (state : State) (line bytes whole rest : List ℕ) (fault : Stop) → Served taken failures first opening now state line bytes → HasNoEnd whole → length line ≡ 0
       → ((reading : Reading) → IsReading (form_in state) whole reading → Breaks taken failures now now' (reply state reading) fault)
       → Stopped taken failures first opening now' (bytes ++ (whole ++ (10 ∷ rest))) fault
   Stopped-alone now now' state line bytes whole rest fault s none_ends n breaks =
@@ -238,7 +238,7 @@ module _ {W A : Type 0} (taken : W → Option (List ℕ)) (failures : W → ℕ)
       (λ r i. breaks r (IsReading-whole (form_in state) whole r i))
 
   -- a fault that has nothing to do with a line
-  stopped_between : (now now' : Output W A) (state : State) (line bytes rest : List ℕ) (fault : RunFault) → Served taken failures first opening now state line bytes
+  stopped_between : (now now' : Output W A) (state : State) (line bytes rest : List ℕ) (fault : Stop) → Served taken failures first opening now state line bytes
       → ((x y : List ℕ) → Put now x → Breaks taken failures first now' (x ++ y) fault)
       → Stopped taken failures first opening now' (bytes ++ rest) fault
   stopped_between now now' state line bytes rest fault s breaks rs h =
@@ -258,12 +258,12 @@ module _ {W A : Type 0} (taken : W → Option (List ℕ)) (failures : W → ℕ)
       (stopped_between now now state line bytes [] (faults.Read turn) s (λ x y p. Puts-cut taken failures first now x y (faults.Read turn) refl p))
 
   -- what waited was not passed on, after which bytes more were read
-  pub Stopped-passing-more : (now now' : Output W A) (state : State) (line bytes rest : List ℕ) (fault : RunFault) → Served taken failures first opening now state line bytes → Breaks taken failures now now' [] fault → Stopped taken failures first opening now' (bytes ++ rest) fault
+  pub Stopped-passing-more : (now now' : Output W A) (state : State) (line bytes rest : List ℕ) (fault : Stop) → Served taken failures first opening now state line bytes → Breaks taken failures now now' [] fault → Stopped taken failures first opening now' (bytes ++ rest) fault
   Stopped-passing-more now now' state line bytes rest fault s b =
       stopped_between now now' state line bytes rest fault s (λ x y p. subst (λ (l : List ℕ). Breaks taken failures first now' l fault) (ap (λ (l : List ℕ). l ++ y) (append-nil x)) (Breaks-more taken failures first now' (x ++ []) y fault (Puts-breaks taken failures first now now' x [] fault p b)))
 
   -- what waited was not passed on
-  pub Stopped-passing : (now now' : Output W A) (state : State) (line bytes : List ℕ) (fault : RunFault) → Served taken failures first opening now state line bytes → Breaks taken failures now now' [] fault → Stopped taken failures first opening now' bytes fault
+  pub Stopped-passing : (now now' : Output W A) (state : State) (line bytes : List ℕ) (fault : Stop) → Served taken failures first opening now state line bytes → Breaks taken failures now now' [] fault → Stopped taken failures first opening now' bytes fault
   Stopped-passing now now' state line bytes fault s b =
       subst (λ (l : List ℕ). Stopped taken failures first opening now' l fault) (append-nil bytes)
       (Stopped-passing-more now now' state line bytes [] fault s b)
@@ -305,7 +305,7 @@ module _ {W A : Type 0} (taken : W → Option (List ℕ)) (failures : W → ℕ)
         all = λ rs h. t.answered rs (subst (λ (ls : List (List ℕ)). AreReadFrom opening.heading ls rs) (e ∙ f) h);
       }
 
-  pub Stopped-last : (now now' : Output W A) (state : State) (line bytes : List ℕ) (fault : RunFault) → Served taken failures first opening now state line bytes → 0 < length line
+  pub Stopped-last : (now now' : Output W A) (state : State) (line bytes : List ℕ) (fault : Stop) → Served taken failures first opening now state line bytes → 0 < length line
       → ((reading : Reading) → IsReading (form_in state) line reading → Breaks taken failures now now' (reply state reading) fault)
       → Stopped taken failures first opening now' bytes fault
   Stopped-last now now' state line bytes fault s n breaks =
@@ -319,7 +319,7 @@ module _ {W A : Type 0} (taken : W → Option (List ℕ)) (failures : W → ℕ)
     all = λ rs h. ((f.all rs h).0, subst (Put now') (append-nil (output_from opening rs)) (Puts-then taken failures first now now' (output_from opening rs) [] (f.all rs h).1 p));
   }
 
-  pub Stopped-finished : (now now' : Output W A) (state : State) (bytes : List ℕ) (fault : RunFault) → Finished taken failures first opening now state bytes → Breaks taken failures now now' [] fault → Stopped taken failures first opening now' bytes fault
+  pub Stopped-finished : (now now' : Output W A) (state : State) (bytes : List ℕ) (fault : Stop) → Finished taken failures first opening now state bytes → Breaks taken failures now now' [] fault → Stopped taken failures first opening now' bytes fault
   Stopped-finished now now' state bytes fault f b rs h = subst (λ (l : List ℕ). Breaks taken failures first now' l fault) (append-nil (output_from opening rs)) (Puts-breaks taken failures first now now' (output_from opening rs) [] fault (f.all rs h).1 b)
 
 module _ {W A : Type 0} (taken : W → Option (List ℕ)) (failures : W → ℕ) where
@@ -330,7 +330,7 @@ module _ {W A : Type 0} (taken : W → Option (List ℕ)) (failures : W → ℕ)
   ServesOn-then a b c r s t k l m x y p q first opening bytes h =
       subst (λ (bs : List ℕ). Served taken failures first opening c t m bs) (append_assoc bytes x y) (q first opening (bytes ++ x) (p first opening bytes h))
 
-  pub StopsOn-then : (a b c : Output W A) (r s : State) (k l x y : List ℕ) (fault : RunFault) → ServesOn taken failures a b r s k l x → StopsOn taken failures b c s l y fault → StopsOn taken failures a c r k (x ++ y) fault
+  pub StopsOn-then : (a b c : Output W A) (r s : State) (k l x y : List ℕ) (fault : Stop) → ServesOn taken failures a b r s k l x → StopsOn taken failures b c s l y fault → StopsOn taken failures a c r k (x ++ y) fault
   StopsOn-then a b c r s k l x y fault p q first opening bytes h =
       subst (λ (bs : List ℕ). Stopped taken failures first opening c bs fault) (append_assoc bytes x y) (q first opening (bytes ++ x) (p first opening bytes h))
 
@@ -347,8 +347,8 @@ module _ {W A : Type 0} (taken : W → Option (List ℕ)) (failures : W → ℕ)
   pub IsSound-then : (a b c : Output W A) → IsSound failures a b → IsSound failures b c → IsSound failures a c
   IsSound-then a b c p q = record { writer = q.writer ∙ p.writer; failed = q.failed ∙ p.failed }
 
-  pub IsSound-fails : (a b c : Output W A) (fault : RunFault) → IsSound failures a b → Fails failures b c fault → Fails failures a c fault
-  IsSound-fails a b c fault p q = record { writer = q.writer ∙ p.writer; failed = q.failed ∙ ap (λ (n : ℕ). n + failures_of fault) p.failed }
+  pub IsSound-fails : (a b c : Output W A) (fault : Stop) → IsSound failures a b → Fails failures b c fault → Fails failures a c fault
+  IsSound-fails a b c fault p q = record { writer = q.writer ∙ p.writer; failed = q.failed ∙ ap (λ (n : ℕ). n + write_failures_of fault) p.failed }
 
   pub IsSound-puts : (a b : Output W A) (bytes : List ℕ) → Puts taken failures a b bytes → IsSound failures a b
   IsSound-puts a b bytes p = record { writer = p.writer; failed = p.failed }
@@ -358,7 +358,7 @@ module _ {W A : Type 0} (taken : W → Option (List ℕ)) (failures : W → ℕ)
       → ((reading : Reading) → IsReading (form_in state) line reading → (state' ≡ next state reading) × Puts taken failures a b (reply state reading)) → IsSound failures a b
   IsSound-answer a b state state' line (r, i) answer = IsSound-puts a b (reply state r) (answer r i).1
 
-  pub Fails-write : (a b : Output W A) (bytes : List ℕ) (fault : RunFault) → Breaks taken failures a b bytes fault → fault ≡ faults.Write → Fails failures a b fault
+  pub Fails-write : (a b : Output W A) (bytes : List ℕ) (fault : Stop) → Breaks taken failures a b bytes fault → fault ≡ faults.Write → Fails failures a b fault
   Fails-write a b bytes fault p e = record { writer = p.writer; failed = p.failed }
 
   pub Fails-memory : (a : Output W A) → Fails failures a a faults.NoMemory

@@ -4,29 +4,30 @@ use Rattle.std.specs.Io.KnownBytes.{Consumes}
 use Rattle.std.proofs.KnownBytes.{Appends-nil, Consumes-nil}
 use Rattle.cq_devices.specs.Limits.{max_piece}
 use Rattle.cq_report.specs.declared.output.Output.{Output}
-use Rattle.cq_report.specs.declared.fault.RunFault.{RunFault}
-use Rattle.cq_report.specs.declared.fault.RunFault.TheVariants as faults
+use Rattle.cq_devices.specs.declared.stop.Stop.{Stop}
+use Rattle.cq_devices.specs.declared.stop.Stop.TheVariants as faults
 use Rattle.cq_report.specs.declared.numbering.Numbering.{Numbering}
 use Rattle.cq_report.specs.Lines.{whole_lines, before_whole}
 use Rattle.cq_report.specs.Machine.{State, begin_state}
 use Rattle.cq_report.specs.Output.{AreReadings}
-use Rattle.cq_report.specs.Run.{IfMemory, WroteFirstLines}
+use Rattle.cq_report.specs.Run.{WroteFirstLines}
 use Rattle.cq_report.specs.Steps.Written.{Puts, Breaks}
 use Rattle.cq_report.specs.Steps.Serving.{Served, Stopped, Starved, ServesOn, StarvesOn}
 use Rattle.cq_report.specs.Steps.Replay.{RanOut, Ended}
 use Rattle.cq_report.proofs.Cutting.{whole_lines_all_ended}
 use Rattle.cq_report.proofs.Served.{none_of_them, Served-passed, Stopped-starved, Stopped-passing-more}
 use Rattle.cq_report.proofs.Ending.{Passes-all}
+use Rattle.cq_devices.specs.Device.{IfMemory}
 
-pub IfMemory-weaker : (fault : RunFault) (P Q : Type 0) → (P → Q) → IfMemory fault P → IfMemory fault Q
+pub IfMemory-weaker : (fault : Stop) (P Q : Type 0) → (P → Q) → IfMemory fault P → IfMemory fault Q
 IfMemory-weaker (faults.Read turn) P Q f h = tt
 IfMemory-weaker faults.Write P Q f h = tt
 IfMemory-weaker faults.NoMemory P Q f h = f h
 
-pub of_memory : (fault : RunFault) (P : Type 0) → fault ≡ faults.NoMemory → IfMemory fault P → P
-of_memory fault P is h = subst (λ (f : RunFault). IfMemory f P) is h
+pub of_memory : (fault : Stop) (P : Type 0) → fault ≡ faults.NoMemory → IfMemory fault P → P
+of_memory fault P is h = subst (λ (f : Stop). IfMemory f P) is h
 
-pub for_memory : (fault : RunFault) (P : Type 0) → P → IfMemory fault P
+pub for_memory : (fault : Stop) (P : Type 0) → P → IfMemory fault P
 for_memory (faults.Read turn) P h = tt
 for_memory faults.Write P h = tt
 for_memory faults.NoMemory P h = h
@@ -74,7 +75,7 @@ module _ {W A : Type 0} (taken : W → Option (List ℕ)) (failures : W → ℕ)
       subst (λ (l : List ℕ). Stopped taken failures first opening now l faults.NoMemory) (whole_of now bytes piece s)
       (Stopped-starved taken failures first opening now s.state s.line (bytes ++ s.done) s.rest s.served)
 
-  pub Starved-breaks : (now now' : Output W A) (bytes piece : List ℕ) (fault : RunFault) → Starved taken failures first opening now bytes piece → Breaks taken failures now now' [] fault → Stopped taken failures first opening now' (bytes ++ piece) fault
+  pub Starved-breaks : (now now' : Output W A) (bytes piece : List ℕ) (fault : Stop) → Starved taken failures first opening now bytes piece → Breaks taken failures now now' [] fault → Stopped taken failures first opening now' (bytes ++ piece) fault
   Starved-breaks now now' bytes piece fault s b =
       subst (λ (l : List ℕ). Stopped taken failures first opening now' l fault) (whole_of now bytes piece s)
       (Stopped-passing-more taken failures first opening now now' s.state s.line (bytes ++ s.done) s.rest fault s.served b)
@@ -116,7 +117,7 @@ module _ {W A : Type 0} (taken : W → Option (List ℕ)) (failures : W → ℕ)
   }
 
   -- and what waited was passed on
-  pub RanOut-all : (opening : State) (left left' : Option (List ℕ)) (first now now' : Output W A) (fault : RunFault) → RanOut taken failures opening left left' first now → Puts taken failures now now' [] → now'.held.now.items ≡ []
+  pub RanOut-all : (opening : State) (left left' : Option (List ℕ)) (first now now' : Output W A) (fault : Stop) → RanOut taken failures opening left left' first now → Puts taken failures now now' [] → now'.held.now.items ≡ []
       → IfMemory fault (RanOut taken failures opening left left' first now' × (now'.held.now.items ≡ []))
   RanOut-all opening left left' first now now' fault r p held = for_memory fault _ (RanOut-passed opening left left' first now now' r p, held)
 
@@ -128,7 +129,7 @@ module _ {W A : Type 0} (taken : W → Option (List ℕ)) (failures : W → ℕ)
     stopped = Starved-stopped taken failures first opening now' r.bytes r.piece (Starved-passed taken failures first opening now now' r.bytes r.piece r.starved p);
   }
 
-  pub RanOut-breaks : (opening : State) (left left' : Option (List ℕ)) (first now now' : Output W A) (fault : RunFault) → RanOut taken failures opening left left' first now → Breaks taken failures now now' [] fault → Ended taken failures opening left left' first now' fault
+  pub RanOut-breaks : (opening : State) (left left' : Option (List ℕ)) (first now now' : Output W A) (fault : Stop) → RanOut taken failures opening left left' first now → Breaks taken failures now now' [] fault → Ended taken failures opening left left' first now' fault
   RanOut-breaks opening left left' first now now' fault r b = record {
     bytes = r.bytes ++ r.piece;
     read = r.read;

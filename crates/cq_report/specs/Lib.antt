@@ -1,9 +1,9 @@
 pub mod Limits
 pub mod Lines
 pub mod Reading
+pub mod Refusals
 pub mod Reply
 pub mod Data
-pub mod Refusals
 pub mod Machine
 pub mod Output
 pub mod Summary

@@ -1,5 +1,5 @@
 -- A script is served by its setup first, and from then on by the floor machine with one session. (this project's profile)
-use Rattle.std.specs.Prelude.{ℕ, List, [], ◌∷◌, ◌++◌, ◌+◌, Option, Some, None, codes, decimal}
+use Rattle.std.specs.Prelude.{ℕ, Bool, false, List, [], ◌∷◌, ◌++◌, ◌+◌, Option, Some, None, codes, decimal}
 use Rattle.cq_rel.specs.declared.fault.CatalogFault.{CatalogFault}
 use Rattle.cq_rel.specs.Tables.{Declaration, declaration, declare_fault}
 use Rattle.cq_text.specs.declared.form.Form.{Form}
@@ -15,18 +15,23 @@ use Rattle.cq_desk.specs.declared.event.Event.{Event}
 use Rattle.cq_desk.specs.declared.event.Event.TheVariants as events
 use Rattle.cq_desk.specs.Machine.{opening_machine, answer_to, published_content}
 use Rattle.cq_desk.specs.Standing.{StandingRecord, stepped}
+use Rattle.json.specs.Print.{print}
+use Rattle.json.specs.Tree.{json_tokens}
+use Rattle.cq_render.specs.Json.{json_of}
+use Rattle.cq_render.specs.Report.{report}
 use Rattle.cq_report.specs.Limits.{pool_limit, journal_limit}
 use Rattle.cq_report.specs.declared.numbering.Numbering.{Numbering}
 use Rattle.cq_report.specs.declared.numbering.Numbering.TheVariants.{Plain, Numbered, Json}
 use Rattle.cq_report.specs.declared.stage.Stage.{Stage}
 use Rattle.cq_report.specs.declared.stage.Stage.TheVariants.{Setup, Serving}
 use Rattle.cq_report.specs.Reading.{Reading, Reads, Faulty}
-use Rattle.cq_report.specs.declared.reply.Prepared.{Prepared}
-use Rattle.cq_report.specs.declared.reply.Prepared.TheVariants.{Accepted, Late, Undeclared}
-use Rattle.cq_report.specs.Reply.{Told, Nothing, Prepares, Misread, Happened, told_lines}
-use Rattle.cq_report.specs.Data.{told_data}
-use Rattle.cq_report.specs.declared.refusal.Tally.{Tally}
-use Rattle.cq_report.specs.Refusals.{refusal, no_refusal, tallied}
+use Rattle.cq_report.specs.declared.outcome.Outcome.{Outcome}
+use Rattle.cq_report.specs.declared.outcome.Outcome.TheVariants.{Silent, Accepted, Entered, Published, Shown, Answered, Quit, Refused}
+use Rattle.cq_report.specs.declared.refusal.Refusal.TheVariants.{Text, Late, Catalog}
+use Rattle.cq_report.specs.Reply.{event_outcome, outcome_line, outcome_end, refusal}
+use Rattle.cq_report.specs.Data.{outcome_members}
+use Rattle.cq_report.specs.declared.tally.Tally.{Tally}
+use Rattle.cq_report.specs.Refusals.{no_refusal, tallied}
 
 -- The relations that were declared so far, and the latest limits.
 pub record SetupRecord : Type 0 where
@@ -42,7 +47,7 @@ abbrev pub Staged : Type 0
 Staged = Stage SetupRecord ServingRecord
 
 -- How replies are numbered, and how many lines came before; which form a script is in, once a line was read that is not blank; what serves its lines; how
--- many entries were published before the last publish; and which lines were refused.
+-- many entries were published before the last publish; which lines were refused; and whether no further line is heard.
 pub record State : Type 0 where
   pub numbering : Numbering
   pub lines : ℕ
@@ -50,6 +55,7 @@ pub record State : Type 0 where
   pub stage : Staged
   pub before : ℕ
   pub tally : Tally
+  pub is_over : Bool
 
 -- At first nothing is declared, and the limits are those of a script that names none.
 abbrev pub begin_setup : SetupRecord
@@ -61,7 +67,7 @@ begin_stage = Setup begin_setup
 
 -- Before the first line.
 abbrev pub begin_state : Numbering → State
-begin_state numbering = record { numbering = numbering; lines = 0; heading = None; stage = begin_stage; before = 0; tally = no_refusal }
+begin_state numbering = record { numbering = numbering; lines = 0; heading = None; stage = begin_stage; before = 0; tally = no_refusal; is_over = false }
 
 -- ---- the form
 
@@ -91,27 +97,27 @@ headed None (Reads commands.Show) = Some One
 headed None (Faulty kind offset) = Some One
 
 -- A line that names the form is too late after any other that is not blank.
-abbrev pub board_named : Option Form → Prepared
+abbrev pub board_named : Option Form → Outcome
 board_named None = Accepted
-board_named (Some form) = Late
+board_named (Some form) = Refused Late
 
 -- ---- the setup
 
 -- A relation is declared after the others, or the reason is reported.
-abbrev pub declared : Option CatalogFault → SetupRecord → Declaration → SetupRecord × Prepared
+abbrev pub declared : Option CatalogFault → SetupRecord → Declaration → SetupRecord × Outcome
 declared None setup relation = (record setup { catalog = setup.catalog ++ (relation ∷ []) }, Accepted)
-declared (Some fault) setup relation = (setup, Undeclared fault)
+declared (Some fault) setup relation = (setup, Refused (Catalog fault))
 
 -- The setup after a line of it, where this form was settled before, if any, and what comes of it. The latest limits count.
-abbrev pub set_up : SetupRecord → Option Form → SetupLine (List ℕ) → SetupRecord × Prepared
+abbrev pub set_up : SetupRecord → Option Form → SetupLine (List ℕ) → SetupRecord × Outcome
 set_up setup heading (setups.Relation name arity) = declared (declare_fault setup.catalog name arity) setup (declaration name arity)
 set_up setup heading (setups.Board form) = (setup, board_named heading)
 set_up setup heading (setups.Limits pool journal) = (record setup { limits = record { pool = pool; journal = journal } }, Accepted)
 
 -- After the setup each line of a setup is too late.
-abbrev pub prepare : Staged → Option Form → SetupLine (List ℕ) → Staged × Prepared
+abbrev pub prepare : Staged → Option Form → SetupLine (List ℕ) → Staged × Outcome
 prepare (Setup setup) heading line = (Setup (set_up setup heading line).0, (set_up setup heading line).1)
-prepare (Serving serving) heading line = (Serving serving, Late)
+prepare (Serving serving) heading line = (Serving serving, Refused Late)
 
 -- ---- the floor
 
@@ -132,32 +138,59 @@ after = stepped pool_after why
 abbrev pub shown : ServingRecord → PoolRecord
 shown serving = published_content pool_after serving.opening serving.machine
 
--- What is told of an event: what is shown is the pool that is published then.
-abbrev pub told : ServingRecord → Event Edit → Told
-told serving event = Happened (shown (after serving event)) (answer_to pool_after why serving.opening serving.limit serving.machine event)
+-- What comes of an event.
+abbrev pub outcome : ServingRecord → Event Edit → Outcome
+outcome serving event = event_outcome (answer_to pool_after why serving.opening serving.limit serving.machine event)
 
 -- An event of the one session, whose number is 0.
-abbrev pub happen : Staged → Event Edit → Staged × Told
-happen state event = (Serving (after (serving_of state) event), told (serving_of state) event)
+abbrev pub happen : Staged → Event Edit → Staged × Outcome
+happen state event = (Serving (after (serving_of state) event), outcome (serving_of state) event)
 
 -- ---- lines
 
--- The stage after a line, and what is told of it, where this form was settled before, if any. A blank line and a fault of text change nothing.
-abbrev pub staged : Staged → Option Form → Reading → Staged × Told
-staged stage heading (Reads commands.Blank) = (stage, Nothing)
-staged stage heading (Reads (commands.Setup line)) = ((prepare stage heading line).0, Prepares (prepare stage heading line).1)
+-- The stage after a line, and what comes of it, if this form was settled before, if any. A blank line and a fault of text change nothing.
+abbrev pub staged : Staged → Option Form → Reading → Staged × Outcome
+staged stage heading (Reads commands.Blank) = (stage, Silent)
+staged stage heading (Reads (commands.Setup line)) = prepare stage heading line
 staged stage heading (Reads (commands.Edit edit)) = happen stage (events.Enter 0 edit)
 staged stage heading (Reads commands.Publish) = happen stage events.Publish
 staged stage heading (Reads commands.Show) = happen stage (events.Look 0)
-staged stage heading (Faulty kind offset) = (stage, Misread kind offset)
+staged stage heading (Faulty kind offset) = (stage, Refused (Text kind offset))
 
--- What is told, in words, or as members of a JSON object.
-abbrev pub spoken : Numbering → Told → List ℕ
-spoken Plain told = told_lines told
-spoken Numbered told = told_lines told
-spoken Json told = told_data told
+-- A pool with so many entries before it, as the report has it or as JSON.
+abbrev pub board_page : Numbering → ℕ → PoolRecord → List ℕ
+board_page Plain count pool = report pool
+board_page Numbered count pool = report pool
+board_page Json count pool = print (json_tokens (json_of count pool))
 
--- A reply with the number of its line, where so many lines came before: it stands before it, and a line that has no reply has no number; or both are in a
+-- The page of a reply: a look has the pool that it shows, and no other line has one.
+abbrev pub page_of : Numbering → PoolRecord → Outcome → List ℕ
+page_of numbering pool Silent = []
+page_of numbering pool Accepted = []
+page_of numbering pool (Entered number) = []
+page_of numbering pool (Published count) = []
+page_of numbering pool (Shown count) = board_page numbering count pool
+page_of numbering pool (Answered kind) = []
+page_of numbering pool Quit = []
+page_of numbering pool (Refused why) = []
+
+-- What comes before the page of a reply, and what after it: in words, or as members of a JSON object.
+abbrev pub before_page : Numbering → Outcome → List ℕ
+before_page Plain outcome = outcome_line outcome
+before_page Numbered outcome = outcome_line outcome
+before_page Json outcome = outcome_members outcome
+
+-- As JSON nothing comes after it.
+abbrev pub after_page : Numbering → Outcome → List ℕ
+after_page Plain outcome = outcome_end outcome
+after_page Numbered outcome = outcome_end outcome
+after_page Json outcome = []
+
+-- What comes of a line and its page, as they are written.
+abbrev pub spoken : Numbering → Outcome → List ℕ → List ℕ
+spoken numbering outcome page = before_page numbering outcome ++ (page ++ after_page numbering outcome)
+
+-- A reply with the number of its line, if so many lines came before: it stands before it, and a line that has no reply has no number; or both are in a
 -- JSON object, in a line of its own.
 abbrev pub numbered : Numbering → ℕ → List ℕ → List ℕ
 numbered Plain before bytes = bytes
@@ -183,13 +216,13 @@ abbrev pub next : State → Reading → State
 next state reading =
     record (counted (served state reading)) { tally = tallied state.tally (state.lines + 1) (refusal (staged state.stage state.heading reading).1) }
 
--- The reply to a line, without a number.
-abbrev pub unnumbered : State → Reading → List ℕ
-unnumbered state reading = spoken state.numbering (staged state.stage state.heading reading).1
+-- The reply after a line, without a number: the page is of the pool that is published then.
+abbrev pub spoken_after : Numbering → Staged × Outcome → List ℕ
+spoken_after numbering after = spoken numbering after.1 (page_of numbering (shown (serving_of after.0)) after.1)
 
 -- The reply to a line.
 abbrev pub reply : State → Reading → List ℕ
-reply state reading = numbered state.numbering state.lines (unnumbered state reading)
+reply state reading = numbered state.numbering state.lines (spoken_after state.numbering (staged state.stage state.heading reading))
 
 -- The pool that a look would show in this state: where the setup lasts, the opening pool.
 abbrev pub pool_shown : State → PoolRecord

@@ -5,7 +5,8 @@ use Rattle.cq_text.specs.declared.form.Form.{Form}
 use Rattle.cq_board.specs.Pool.{PoolRecord}
 use Rattle.cq_report.specs.declared.numbering.Numbering.{Numbering}
 use Rattle.cq_report.specs.declared.numbering.Numbering.TheVariants.{Plain}
-use Rattle.cq_report.specs.declared.refusal.Tally.{Tally}
+use Rattle.cq_report.specs.declared.refusal.Refusal.{Refusal}
+use Rattle.cq_report.specs.declared.tally.Tally.{Tally}
 use Rattle.cq_report.specs.Lines.{lines_of}
 use Rattle.cq_report.specs.Reading.{Reading, IsReading}
 use Rattle.cq_report.specs.Refusals.{no_refusal}
@@ -38,7 +39,7 @@ output numbering readings = output_from (begin_state numbering) readings
 
 -- The last of the lines so far was refused, and none before it.
 abbrev pub IsRefusedLast : State → Type 0
-IsRefusedLast state = (why : List ℕ) × (state.tally ≡ record { refused = 1; first = Some (record { line = state.lines; why = why }) })
+IsRefusedLast state = (why : Refusal) × (state.tally ≡ record { refused = 1; first = Some (record { line = state.lines; why = why }) })
 
 -- All lines of a script, or, where it is strict and a line is refused, those down to the first such line: they have readings, and however they are read,
 -- their output was written, and this state is left.

@@ -1,45 +1,12 @@
 -- What a run leaves after (this project's profile).
 use Rattle.std.specs.Prelude.{◌≡◌, ◌≤◌, ℕ, List, ◌++◌, length, Option}
 use Rattle.std.specs.Io.KnownBytes.{Consumes, Appends}
-use Rattle.cq_report.specs.declared.fault.RunFault.{RunFault}
-use Rattle.cq_report.specs.declared.fault.RunFault.TheVariants as faults
 use Rattle.cq_report.specs.declared.numbering.Numbering.{Numbering}
 use Rattle.cq_report.specs.Lines.{lines_of, whole_lines}
 use Rattle.cq_report.specs.Reading.{Reading}
 use Rattle.cq_report.specs.Output.{AreReadings, output}
-use Rattle.cq_devices.specs.declared.fault.WholeFault.{WholeFault}
-use Rattle.cq_devices.specs.declared.fault.WholeFault.TheVariants as reads
 use Rattle.cq_devices.specs.Device.{TakesFront}
 use Rattle.cq_devices.specs.Limits.{max_piece}
-
--- What is known of a fault of reading, by the turn that it tells.
-abbrev pub IfRead : RunFault → (ℕ → Type 0) → Type 0
-IfRead (faults.Read turn) P = P turn
-IfRead faults.Write P = Unit {0}
-IfRead faults.NoMemory P = Unit {0}
-
--- What is known where memory ran out.
-abbrev pub IfMemory : RunFault → Type 0 → Type 0
-IfMemory (faults.Read turn) P = Unit {0}
-IfMemory faults.Write P = Unit {0}
-IfMemory faults.NoMemory P = P
-
--- The fault is that of a read.
-abbrev pub IsOfRead : RunFault → Type 0
-IsOfRead (faults.Read turn) = Unit {0}
-IsOfRead faults.Write = ⊥
-IsOfRead faults.NoMemory = ⊥
-
--- A fault of reading a source whole, as one of a run.
-abbrev pub fault_of_reading : WholeFault → RunFault
-fault_of_reading (reads.Read turn) = faults.Read turn
-fault_of_reading reads.NoMemory = faults.NoMemory
-
--- How much the writer's failures rise with a fault: the fault of writing is answered where the writer failed, and nowhere else.
-abbrev pub failures_of : RunFault → ℕ
-failures_of (faults.Read turn) = 0
-failures_of faults.Write = 1
-failures_of faults.NoMemory = 0
 
 -- Bytes were read; their whole lines have readings, and however they are read, their output was written and nothing else.
 pub record WroteWholeLines (numbering : Numbering) (left left' taken taken' : Option (List ℕ)) : Type 0 where

@@ -1,7 +1,7 @@
 -- Definitions that only private steps are stated with.
 pub mod Replies
 pub mod Lines
-pub mod Saying
+pub mod Turns
 pub mod Happening
 pub mod Written
 pub mod Count

@@ -2,10 +2,11 @@
 use Rattle.std.specs.Prelude.{ℕ, List, [], ◌++◌, ◌-◌, ◌==◌, Option, Some, None, Bool, true, false, if◌then◌else◌, length, codes, decimal}
 use Rattle.cq_board.specs.Named.{matched_names}
 use Rattle.cq_board.specs.Pool.{PoolRecord}
-use Rattle.cq_report.specs.declared.refusal.Refused.{Refused}
-use Rattle.cq_report.specs.declared.refusal.Tally.{Tally}
+use Rattle.cq_report.specs.declared.tally.Refused.{Refused}
+use Rattle.cq_report.specs.declared.tally.Tally.{Tally}
 use Rattle.cq_report.specs.Machine.{ServingRecord, shown}
 use Rattle.cq_report.specs.Output.{Left}
+use Rattle.cq_report.specs.Refusals.{refusal_words}
 
 -- How many edits were entered and are not published.
 abbrev pub unpublished : ServingRecord → ℕ
@@ -18,7 +19,7 @@ so_many n one more = decimal n ++ codes " " ++ (if n == 1 then one else more)
 -- The first refused line, where there is one, and why it was refused.
 abbrev pub first_words : Option Refused → List ℕ
 first_words None = []
-first_words (Some first) = codes ", first line " ++ decimal first.line ++ codes ": " ++ first.why
+first_words (Some first) = codes ", first line " ++ decimal first.line ++ codes ": " ++ refusal_words first.why
 
 -- How many lines were refused, where any were.
 abbrev pub refused_words : Tally → List ℕ

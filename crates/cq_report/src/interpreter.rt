@@ -3,19 +3,15 @@
 ghost use Rattle.std.specs.Prelude.{◌≡◌, string_bytes, OnErr, IfOk};
 ghost use Rattle.cq_ask.specs.Answer.{IsTold};
 ghost use Rattle.cq_ask.specs.Data.{IsMember};
-ghost use Rattle.cq_desk.specs.declared.event.Event.TheVariants.{Enter};
 ghost use Rattle.cq_report.specs.Reading.{Reads};
-ghost use Rattle.cq_report.specs.Reply.{Prepares};
-ghost use Rattle.cq_report.specs.Machine.{begin_stage, serving_of, prepare, happen, staged, spoken};
+ghost use Rattle.cq_report.specs.Machine.{begin_stage, serving_of, prepare, happen, staged};
 ghost use Rattle.cq_report.specs.Steps.Happening.{IsInSetup};
-ghost use Rattle.cq_report.specs.Steps.Saying.{saying};
+ghost use Rattle.cq_report.specs.Steps.Turns.{plain_turn, turn_after};
 
-use crate::data::prepared_data;
 use crate::happening::{BoardFloor, happen, open};
 use crate::numbering::Numbering;
-use crate::refusal::prepared_refusal;
-use crate::reply::{Prepared, ReplyLine, prepared_line};
-use crate::said::Said;
+use crate::outcome::{Outcome, Turn};
+use crate::refusal::Refusal;
 use crate::setup::Setup;
 use crate::stage::Stage;
 use cq_ask::{Ask, tell, tell_data};
@@ -25,16 +21,6 @@ use cq_text::{Command, CommandKind, Form, SetupLine};
 use std::alloc::{AllocError, Allocator};
 use std::marker::Model;
 use std::mem;
-
-/// What is told of a line of a setup.
-fn told_of(numbering: Numbering, prepared: Prepared) -> ReplyLine
-    ensures { result ≡ spoken numbering (Prepares prepared) }
-{
-    match numbering {
-        Numbering::Json => ReplyLine::just(prepared_data(prepared)),
-        Numbering::Plain | Numbering::Numbered => prepared_line(prepared),
-    }
-}
 
 /// The number of the one session that a script has.
 const SESSION: usize = 0;
@@ -73,30 +59,28 @@ impl<A: Allocator + Copy> Interpreter<A> {
         &mut self,
         heading: Option<Form>,
         line: &SetupLine<Name<A>>,
-    ) -> Result<Prepared, AllocError>
-        ensures ok { IfOk result (λ prepared. (self.new, prepared) ≡ prepare self.old heading line.now) }
+    ) -> Result<Outcome, AllocError>
+        ensures ok { IfOk result (λ outcome. (self.new, outcome) ≡ prepare self.old heading line.now) }
         ensures err { OnErr result (self.new ≡ self.old) }
     {
         match &mut self.stage {
             Stage::Setup(setup) => setup.set_up(heading, line),
-            Stage::Serving(_) => Ok(Prepared::Late),
+            Stage::Serving(_) => Ok(Outcome::Refused(Refusal::Late)),
         }
     }
 
-    /// Answers a line of a setup, where this form was settled before it, if any.
-    fn answer(
+    /// Takes a line of a setup, likewise.
+    fn set_up(
         &mut self,
-        numbering: Numbering,
         heading: Option<Form>,
         line: &SetupLine<Name<A>>,
-    ) -> Result<Said<A>, AllocError>
-        ensures state { IfOk result (λ said. self.new ≡ (prepare self.old heading line.now).0) }
-        ensures said { IfOk result (λ said. said ≡ saying numbering (Prepares (prepare self.old heading line.now).1)) }
+    ) -> Result<Turn<A>, AllocError>
+        ensures state { IfOk result (λ turn. self.new ≡ (prepare self.old heading line.now).0) }
+        ensures turn { IfOk result (λ turn. turn ≡ plain_turn (prepare self.old heading line.now).1) }
         ensures err { OnErr result (self.new ≡ self.old) }
     {
-        let prepared = self.prepare(heading, line)?;
-        let line = told_of(numbering, prepared);
-        Ok(Said::of_line(line, prepared_refusal(prepared)))
+        let outcome = self.prepare(heading, line)?;
+        Ok(Turn::plain(self.alloc, outcome))
     }
 
     /// How many entries are published.
@@ -155,10 +139,10 @@ impl<A: Allocator + Copy> Interpreter<A> {
         &mut self,
         numbering: Numbering,
         event: Event<Edit<A>>,
-    ) -> Result<Said<A>, AllocError>
+    ) -> Result<Turn<A>, AllocError>
         requires setup { IsInSetup self.old }
-        ensures state { IfOk result (λ said. self.new ≡ (happen self.old event).0) }
-        ensures said { IfOk result (λ said. said ≡ saying numbering (happen self.old event).1) }
+        ensures state { IfOk result (λ turn. self.new ≡ (happen self.old event).0) }
+        ensures turn { IfOk result (λ turn. turn ≡ turn_after numbering (happen self.old event)) }
         ensures err { OnErr result (self.new ≡ self.old) }
     {
         let Stage::Setup(setup) = &self.stage else {
@@ -166,15 +150,19 @@ impl<A: Allocator + Copy> Interpreter<A> {
         };
         let setup = setup.copy()?;
         let mut floor = open(self.alloc, setup)?;
-        let said = happen(self.alloc, numbering, &mut floor, event)?;
+        let turn = happen(self.alloc, numbering, &mut floor, event)?;
         mem::drop(mem::replace(&mut self.stage, Stage::Serving(floor)));
-        Ok(said)
+        Ok(turn)
     }
 
-    /// Answers an event of the session.
-    fn happen(&mut self, numbering: Numbering, event: Event<Edit<A>>) -> Result<Said<A>, AllocError>
-        ensures state { IfOk result (λ said. self.new ≡ (happen self.old event).0) }
-        ensures said { IfOk result (λ said. said ≡ saying numbering (happen self.old event).1) }
+    /// Takes an event of the session, and gives the reply.
+    fn take_event(
+        &mut self,
+        numbering: Numbering,
+        event: Event<Edit<A>>,
+    ) -> Result<Turn<A>, AllocError>
+        ensures state { IfOk result (λ turn. self.new ≡ (happen self.old event).0) }
+        ensures turn { IfOk result (λ turn. turn ≡ turn_after numbering (happen self.old event)) }
         ensures err { OnErr result (self.new ≡ self.old) }
     {
         match &mut self.stage {
@@ -183,38 +171,26 @@ impl<A: Allocator + Copy> Interpreter<A> {
         }
     }
 
-    /// Answers an edit.
-    fn enter(&mut self, numbering: Numbering, edit: Edit<A>) -> Result<Said<A>, AllocError>
-        ensures state { IfOk result (λ said. self.new ≡ (happen self.old (Enter 0 edit)).0) }
-        ensures said { IfOk result (λ said. said ≡ saying numbering (happen self.old (Enter 0 edit)).1) }
-        ensures err { OnErr result (self.new ≡ self.old) }
-    {
-        self.happen(
-            numbering,
-            Event::Enter {
-                author: SESSION,
-                edit,
-            },
-        )
-    }
-
-    /// Answers a command, where this form was settled before it, if any.
-    pub(crate) fn serve(
+    /// Interprets a command after this form was settled, if any was, and gives the reply.
+    pub(crate) fn interpret(
         &mut self,
         numbering: Numbering,
         heading: Option<Form>,
         command: Command<A>,
-    ) -> Result<Said<A>, AllocError>
-        ensures stage { IfOk result (λ said. self.new ≡ (staged self.old heading (Reads command)).0) }
-        ensures said { IfOk result (λ said. said ≡ saying numbering (staged self.old heading (Reads command)).1) }
+    ) -> Result<Turn<A>, AllocError>
+        ensures stage { IfOk result (λ turn. self.new ≡ (staged self.old heading (Reads command)).0) }
+        ensures turn { IfOk result (λ turn. turn ≡ turn_after numbering (staged self.old heading (Reads command))) }
         ensures err { OnErr result (self.new ≡ self.old) }
     {
         match command {
-            CommandKind::Blank => Ok(Said::nothing()),
-            CommandKind::Setup(line) => self.answer(numbering, heading, &line),
-            CommandKind::Edit(edit) => self.enter(numbering, edit),
-            CommandKind::Publish => self.happen(numbering, Event::Publish),
-            CommandKind::Show => self.happen(numbering, Event::Look { session: SESSION }),
+            CommandKind::Blank => Ok(Turn::plain(self.alloc, Outcome::Silent)),
+            CommandKind::Setup(line) => self.set_up(heading, &line),
+            CommandKind::Edit(edit) => {
+                let author = SESSION;
+                self.take_event(numbering, Event::Enter { author, edit })
+            }
+            CommandKind::Publish => self.take_event(numbering, Event::Publish),
+            CommandKind::Show => self.take_event(numbering, Event::Look { session: SESSION }),
         }
     }
 }

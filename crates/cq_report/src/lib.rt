@@ -8,45 +8,41 @@
 //! exit status and its messages.
 #![tactic(auto)]
 
-mod data;
 mod discard;
-mod fault;
 mod happening;
 mod heading;
-mod hearing;
 mod interpreter;
 mod left;
-mod life;
 mod limits;
 mod line_buffer;
 mod live_line;
+mod live_turns;
 mod living;
-mod machine;
 mod numbering;
+mod outcome;
 mod output;
 mod playing;
 mod refusal;
 mod reply;
 mod running;
-mod said;
+mod script;
 mod setup;
 mod stage;
 mod summary;
+mod tally;
 
-pub use fault::{LiveFault, RunFault};
+pub use cq_devices::Stop as RunFault;
 pub use heading::{form_of, headed};
-pub use hearing::Hearing;
-pub use left::{Played, Ran};
+pub use left::Played;
 pub use limits::{JOURNAL_LIMIT, POOL_LIMIT};
 pub use living::live;
 pub use numbering::Numbering;
+pub use outcome::Outcome;
 pub use playing::read_script;
-pub use refusal::{Refusal, Refused, Tally};
-pub use reply::{
-    Prepared, ReplyLine, fault_line, late_line, prepared_line, published_line, reply_line,
-    show_line,
-};
+pub use refusal::{Place, Refusal, RefusalParts};
 pub use running::{first_line, run};
+pub use script::Script;
 pub use setup::Setup;
 pub use stage::Stage;
 pub use summary::{put_summary, put_warning};
+pub use tally::{Refused, Tally};

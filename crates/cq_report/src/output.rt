@@ -1,16 +1,31 @@
 //! A buffer before a writer.
 
 ghost use Rattle.std.specs.Prelude.{◌≡◌, ◌<◌, ◌+◌, ◌^◌, ℕ, List, ◌++◌, [], OnOk, OnErr};
-ghost use Rattle.cq_report.specs.declared.fault.RunFault.TheVariants.{Write};
+ghost use Rattle.cq_devices.specs.declared.stop.Stop.TheVariants.{Write};
+ghost use Rattle.cq_report.specs.Machine.{numbered};
 ghost use Rattle.cq_report.specs.Steps.Lines.{number_bytes, line_bytes};
+ghost use Rattle.cq_report.specs.Steps.Turns.{turn_bytes};
 ghost use Rattle.cq_report.specs.Steps.Written.{Puts, Breaks};
 
+use crate::numbering::Numbering;
+use crate::outcome::Turn;
+use crate::reply::{ReplyLine, after_page, before_page};
 use cq_devices::{Failed, Sink, write_all};
 use itoa::Buffer;
 use std::alloc::Allocator;
 
 /// How many bytes wait at most.
 pub(crate) const ROOM: usize = 8192;
+
+/// The number, in more bits.
+fn wide(number: Option<u64>) -> Option<u128>
+    ensures { result ≡ number }
+{
+    match number {
+        Some(number) => Some(u128::from(number)),
+        None => None,
+    }
+}
 
 /// A writer, and the bytes that wait before it.
 ///
@@ -75,6 +90,58 @@ impl<'w, W: Sink, A: Allocator> Output<'w, W, A> {
         self.put(words.as_bytes())?;
         self.put_number(number)?;
         self.put(end.as_bytes())
+    }
+
+    /// Puts the line of a reply, or its members.
+    fn put_line(&mut self, line: &ReplyLine) -> Result<(), Failed>
+        requires { W.write_failures self.old.sink.now < 2 ^ 62 }
+        ensures ok { OnOk result (Puts W.taken W.write_failures self.old self.new line.now) }
+        ensures err { OnErr result (Breaks W.taken W.write_failures self.old self.new line.now Write) }
+    {
+        self.put_part(line.front, None, line.word)?;
+        self.put_part(line.before_part, None, line.part)?;
+        self.put_part(line.before_number, wide(line.number), line.end)
+    }
+
+    /// Puts a reply without a number, and a tail after it.
+    fn put_turn(&mut self, numbering: Numbering, turn: &Turn<A>, tail: &str) -> Result<(), Failed>
+        requires { W.write_failures self.old.sink.now < 2 ^ 62 }
+        ensures ok { OnOk result (Puts W.taken W.write_failures self.old self.new (turn_bytes numbering turn.now ++ tail.now)) }
+        ensures err { OnErr result (Breaks W.taken W.write_failures self.old self.new (turn_bytes numbering turn.now ++ tail.now) Write) }
+    {
+        self.put_line(&before_page(numbering, turn.outcome))?;
+        self.put_part(
+            turn.page.as_str(),
+            None,
+            after_page(numbering, turn.outcome),
+        )?;
+        self.put(tail.as_bytes())
+    }
+
+    /// Puts the reply to a line before which so many came. That takes no memory.
+    pub(crate) fn put_reply(
+        &mut self,
+        numbering: Numbering,
+        before: u128,
+        turn: &Turn<A>,
+    ) -> Result<(), Failed>
+        requires before { before < 2 ^ 100 }
+        requires failures { W.write_failures self.old.sink.now < 2 ^ 62 }
+        ensures ok { OnOk result (Puts W.taken W.write_failures self.old self.new (numbered numbering before (turn_bytes numbering turn.now))) }
+        ensures err { OnErr result (Breaks W.taken W.write_failures self.old self.new (numbered numbering before (turn_bytes numbering turn.now)) Write) }
+    {
+        match numbering {
+            Numbering::Plain => self.put_turn(numbering, turn, ""),
+            Numbering::Numbered if turn.is_silent() => self.put(b""),
+            Numbering::Numbered => {
+                self.put_part("", Some(before + 1), ": ")?;
+                self.put_turn(numbering, turn, "")
+            }
+            Numbering::Json => {
+                self.put_part("{\"line\":", Some(before + 1), "")?;
+                self.put_turn(numbering, turn, "}\n")
+            }
+        }
     }
 
     /// Passes on all that waits.

@@ -1,52 +1,37 @@
 //! The board that a script leaves.
 
 ghost use Rattle.std.specs.Prelude.{◌≡◌, ◌<◌, ◌≤◌, ◌+◌, ◌^◌, List, OnOk, IfOk, IfErr, IfSome, MatchResult};
-ghost use Rattle.cq_devices.specs.Device.{FailedAtTurn, IfAtTurn, IsAtTurn};
+ghost use Rattle.cq_devices.specs.Device.{FailedAtTurn, IfAtTurn, IsAtTurn, write_failures_of};
 ghost use Rattle.cq_report.specs.Lines.{lines_of};
 ghost use Rattle.cq_report.specs.Reading.{Reading};
 ghost use Rattle.cq_report.specs.Output.{AreReadings, left_after};
-ghost use Rattle.cq_report.specs.Run.{fault_of_reading, failures_of};
 ghost use Rattle.cq_report.specs.Steps.Playing.{IsPlayed};
 
 use crate::discard::Discard;
-use crate::fault::RunFault;
-use crate::left::{Played, left_of};
-use crate::machine::Machine;
+use crate::left::Played;
 use crate::numbering::Numbering;
 use crate::output::Output;
 use crate::running::replay;
-use cq_devices::{MAX_READS, Source, WholeFault};
+use crate::script::Script;
+use cq_devices::{MAX_READS, Source, Stop};
 use std::alloc::Allocator;
 use std::mem;
 
-/// The fault of a run that did not fail to write, as one of reading.
-fn reading_fault(fault: RunFault) -> WholeFault
-    requires { failures_of fault ≡ 0 }
-    ensures { fault_of_reading result ≡ fault }
-{
-    match fault {
-        RunFault::Read { turn } => WholeFault::Read { turn },
-        RunFault::Write => unreachable!(),
-        RunFault::NoMemory => WholeFault::NoMemory,
-    }
-}
-
 /// What is left of a script that ended so: its floor, which opens where the setup lasts.
 fn left_by<A: Allocator + Copy>(
-    machine: Machine<A>,
-    ended: Result<(), RunFault>,
-) -> Result<Played<A>, WholeFault>
-    requires { IfErr ended (λ fault. failures_of fault ≡ 0) }
-    ensures { IsPlayed ended machine result }
+    script: Script<A>,
+    ended: Result<(), Stop>,
+) -> Result<Played<A>, Stop>
+    ensures { IsPlayed ended script result }
 {
     match ended {
         Ok(()) => {
-            let played = left_of(machine)?;
+            let played = script.into_played()?;
             Ok(played)
         }
         Err(fault) => {
-            mem::drop(machine);
-            Err(reading_fault(fault))
+            mem::drop(script);
+            Err(fault)
         }
     }
 }
@@ -62,7 +47,7 @@ fn left_by<A: Allocator + Copy>(
 pub fn read_script<A: Allocator + Copy, R: Source>(
     alloc: A,
     reader: &mut R,
-) -> Result<Played<A>, WholeFault>
+) -> Result<Played<A>, Stop>
     requires reads { R.reads_made reader.old < 2 ^ 62 }
     requires failures { R.failures_met reader.old < 2 ^ 62 }
 
@@ -76,11 +61,12 @@ pub fn read_script<A: Allocator + Copy, R: Source>(
     ensures turn { IfErr result (λ fault. IfAtTurn fault (λ turn. FailedAtTurn turn (R.reads_made reader.old) (R.reads_made reader.new) (R.failures_met reader.old) (R.failures_met reader.new))) }
     ensures reads { R.reads_made reader.new ≤ R.reads_made reader.old + MAX_READS }
     ensures read_failures { MatchResult result (λ _. R.failures_met reader.new ≡ R.failures_met reader.old) (λ fault. (IsAtTurn fault → ⊥) → R.failures_met reader.new ≡ R.failures_met reader.old) }
+    ensures no_write { IfErr result (λ fault. write_failures_of fault ≡ 0) }
 {
     let mut discard = Discard;
     let mut room = Vec::new(alloc);
     let mut output = Output::new(&mut discard, &mut room);
-    let mut machine = Machine::begin(alloc, Numbering::Plain);
-    let ended = replay(alloc, &mut machine, false, reader, &mut output);
-    left_by(machine, ended)
+    let mut script = Script::begin(alloc, Numbering::Plain);
+    let ended = replay(alloc, &mut script, false, reader, &mut output);
+    left_by(script, ended)
 }

@@ -1,109 +1,105 @@
-//! Why lines are refused, and how many are.
+//! Why lines are refused.
 
-ghost use Rattle.std.specs.Prelude.{◌≡◌, ◌++◌, ◌+◌, ◌<◌, ◌≤◌, ◌^◌, codes, decimal, string_bytes, OnOk, Some};
-ghost use Rattle.cq_report.specs.Reply.{kind_word, fault_words, catalog_word, part_word, why_words};
-ghost use Rattle.cq_report.specs.Refusals.{prepared_refusal, reply_refusal, answer_refusal, no_refusal, first_refused, tallied};
-ghost use Rattle.cq_report.specs.Steps.Lines.{number_bytes};
+ghost use Rattle.std.specs.Prelude.{◌≡◌, ◌++◌, string_bytes, OnOk};
+ghost use Rattle.cq_report.specs.Refusals.{Parts, just, at_atom, kind_word, catalog_word, part_word, why_parts, refusal_parts, refusal_words};
 
-use crate::reply::Prepared;
+use crate::reply::ReplyLine;
 use cq_atom::Part;
 use cq_board::Why;
-use cq_desk::{Answer, Reply};
 use cq_rel::CatalogFault;
 use cq_text::Kind;
 use std::alloc::{AllocError, Allocator};
 use std::marker::Model;
 
-/// Why a line is refused, in the words of its reply, as `Shape at 13`. It takes no memory. Contracts see its bytes.
+/// Why a line is refused.
+#[derive(Clone, Copy, Debug, PartialEq, Eq)]
+pub enum Refusal {
+    /// The line is no command.
+    Text {
+        /// Its first fault.
+        kind: Kind,
+        /// The byte of the line at which that is, from 0.
+        at: usize,
+    },
+    /// A line of a setup comes after it, or a line names the form after another line.
+    Late,
+    /// A relation is not declared.
+    Catalog(CatalogFault),
+    /// The pool refuses an edit.
+    Pool(Why),
+    /// The journal has as many entries as it may hold.
+    JournalFull,
+    /// An allocation failed.
+    Memory,
+}
+
+/// A place that a refusal names. Places count from 0.
+#[derive(Clone, Copy, Debug, PartialEq, Eq)]
+pub enum Place {
+    /// A byte of the line.
+    Byte(u64),
+    /// An atom of the edit.
+    Atom(u64),
+}
+
+/// What a refusal is printed by, in words and as JSON. Contracts see the word and the part as bytes.
 #[derive(Drop)]
-pub struct Refusal {
-    words: &'static str,
-    number: Option<u64>,
+pub struct RefusalParts {
+    /// The word.
+    pub word: &'static str,
+    /// The part of a query that it names, if any.
+    pub part: Option<&'static str>,
+    /// The place that it names, if any.
+    pub place: Option<Place>,
 }
 
-impl Model for Refusal {
-    ghost use Rattle.std.specs.Prelude.{ℕ, List, ◌++◌};
-    ghost use Rattle.cq_report.specs.Steps.Lines.{number_bytes};
+impl Model for RefusalParts {
+    ghost use Rattle.std.specs.Prelude.{option_map};
+    ghost use Rattle.cq_report.specs.Refusals.{Parts};
 
-    ghost Value = { List ℕ };
+    ghost Value = { Parts };
 
-    ghost view = { λ r. r.words.now ++ number_bytes r.number };
+    ghost view = { λ p. record { word = p.word.now; part = option_map (λ part. part.now) p.part; place = p.place } };
 }
 
-impl Refusal {
-    /// Words alone.
-    fn of_words(words: &'static str) -> Refusal
-        ensures { result ≡ words.now }
+impl RefusalParts {
+    /// A word, and nothing else.
+    fn just(word: &'static str) -> RefusalParts
+        ensures { result ≡ just word.now }
     {
-        Refusal {
-            words,
-            number: None,
+        RefusalParts {
+            word,
+            part: None,
+            place: None,
         }
     }
 
-    /// Words, and a number after them.
-    fn of_number(words: &'static str, number: u64) -> Refusal
-        ensures { result ≡ words.now ++ decimal number }
+    /// A word, and the number of an atom.
+    fn at_atom(word: &'static str, place: usize) -> RefusalParts
+        ensures { result ≡ at_atom word.now place }
     {
-        Refusal {
-            words,
-            number: Some(number),
-        }
-    }
-
-    /// The words, and the number after them.
-    pub(crate) fn parts(&self) -> (&'static str, Option<u64>)
-        ensures { result.0.now ++ number_bytes result.1 ≡ self.now }
-    {
-        (self.words, self.number)
-    }
-
-    /// The same once more.
-    fn copy(&self) -> Refusal
-        ensures { result ≡ self.now }
-    {
-        Refusal {
-            words: self.words,
-            number: self.number,
-        }
-    }
-
-    /// Puts the words after a text.
-    ///
-    /// # Errors
-    /// `AllocError` where an allocation failed. A part of them may be put then.
-    pub fn put<A: Allocator>(&self, page: &mut String<A>) -> Result<(), AllocError>
-        ensures { OnOk result (string_bytes page.new ≡ string_bytes page.old ++ self.now) }
-    {
-        let words = self.words;
-        match self.number {
-            None => page.push_str(words),
-            Some(number) => write!(page, "{words}{number}"),
+        RefusalParts {
+            word,
+            part: None,
+            place: Some(Place::Atom(place as u64)),
         }
     }
 }
 
-fn kind_words(kind: Kind) -> &'static str
-    ensures { result.now ≡ kind_word kind ++ codes " at " }
+fn kind_word(kind: Kind) -> &'static str
+    ensures { result.now ≡ kind_word kind }
 {
     match kind {
-        Kind::Token => "Token at ",
-        Kind::Text => "Text at ",
-        Kind::Number => "Number at ",
-        Kind::Shape => "Shape at ",
-        Kind::Limit => "Limit at ",
-        Kind::Unbound => "Unbound at ",
+        Kind::Token => "Token",
+        Kind::Text => "Text",
+        Kind::Number => "Number",
+        Kind::Shape => "Shape",
+        Kind::Limit => "Limit",
+        Kind::Unbound => "Unbound",
     }
 }
 
-/// Why a line is no command.
-pub(crate) fn fault_refusal(kind: Kind, offset: usize) -> Refusal
-    ensures { result ≡ fault_words kind offset }
-{
-    Refusal::of_number(kind_words(kind), offset as u64)
-}
-
-fn catalog_words(fault: CatalogFault) -> &'static str
+fn catalog_word(fault: CatalogFault) -> &'static str
     ensures { result.now ≡ catalog_word fault }
 {
     match fault {
@@ -115,113 +111,61 @@ fn catalog_words(fault: CatalogFault) -> &'static str
     }
 }
 
-/// Why a line of a setup is refused, where it is.
-pub(crate) fn prepared_refusal(prepared: Prepared) -> Option<Refusal>
-    ensures { result ≡ prepared_refusal prepared }
-{
-    match prepared {
-        Prepared::Accepted => None,
-        Prepared::Late => Some(Refusal::of_words("Late")),
-        Prepared::Undeclared(fault) => Some(Refusal::of_words(catalog_words(fault))),
-    }
-}
-
-fn answer_words(part: Part) -> &'static str
-    ensures { result.now ≡ codes "NotAnswer " ++ part_word part ++ codes " " }
+fn part_word(part: Part) -> &'static str
+    ensures { result.now ≡ part_word part }
 {
     match part {
-        Part::Posts => "NotAnswer posts ",
-        Part::Heads => "NotAnswer heads ",
-        Part::Body => "NotAnswer body ",
+        Part::Posts => "posts",
+        Part::Heads => "heads",
+        Part::Body => "body",
     }
 }
 
-/// Why the pool refuses an edit.
-pub(crate) fn why_refusal(reason: Why) -> Refusal
-    ensures { result ≡ why_words reason }
+fn why_parts(why: Why) -> RefusalParts
+    ensures { result ≡ why_parts why }
 {
-    match reason {
-        Why::PoolFull => Refusal::of_words("PoolFull"),
-        Why::NameTaken => Refusal::of_words("NameTaken"),
-        Why::NotAnswer { part, place } => Refusal::of_number(answer_words(part), place as u64),
-        Why::UnknownRelation { place } => Refusal::of_number("UnknownRelation ", place as u64),
-        Why::Arity { place } => Refusal::of_number("Arity ", place as u64),
-        Why::NoSuchName => Refusal::of_words("NoSuchName"),
-        Why::RowPresent => Refusal::of_words("RowPresent"),
-        Why::RowAbsent => Refusal::of_words("RowAbsent"),
+    match why {
+        Why::PoolFull => RefusalParts::just("PoolFull"),
+        Why::NameTaken => RefusalParts::just("NameTaken"),
+        Why::NotAnswer { part, place } => RefusalParts {
+            word: "NotAnswer",
+            part: Some(part_word(part)),
+            place: Some(Place::Atom(place as u64)),
+        },
+        Why::UnknownRelation { place } => RefusalParts::at_atom("UnknownRelation", place),
+        Why::Arity { place } => RefusalParts::at_atom("Arity", place),
+        Why::NoSuchName => RefusalParts::just("NoSuchName"),
+        Why::RowPresent => RefusalParts::just("RowPresent"),
+        Why::RowAbsent => RefusalParts::just("RowAbsent"),
     }
 }
 
-/// Why an edit is refused, where it is.
-fn reply_refusal(reply: &Reply<Why>) -> Option<Refusal>
-    ensures { result ≡ reply_refusal reply.now }
-{
-    match reply {
-        Reply::Entered(_) => None,
-        Reply::JournalFull => Some(Refusal::of_words("JournalFull")),
-        Reply::Not(reason) => Some(why_refusal(*reason)),
-    }
-}
-
-/// Why an event is refused, where it is.
-pub(crate) fn answer_refusal(answer: &Answer<Why>) -> Option<Refusal>
-    ensures { result ≡ answer_refusal answer.now }
-{
-    match answer {
-        Answer::Replied(reply) => reply_refusal(reply),
-        Answer::Published(_) | Answer::Looked(_) | Answer::Heard(_) => None,
-    }
-}
-
-/// A line that was refused.
-#[derive(Drop)]
-pub struct Refused {
-    /// Its number. Lines count from 1.
-    pub line: u128,
-    /// Why it was refused.
-    pub why: Refusal,
-}
-
-/// How many lines were refused, and the first of them.
-#[derive(Drop)]
-pub struct Tally {
-    /// How many.
-    pub refused: u128,
-    /// The first of them, if there is one.
-    pub first: Option<Refused>,
-}
-
-impl Tally {
-    /// Nothing was refused yet.
-    pub(crate) fn begin() -> Tally
-        ensures { result ≡ no_refusal }
+impl Refusal {
+    /// Returns what it is printed by. This does not allocate.
+    pub fn parts(self) -> RefusalParts
+        ensures { result ≡ refusal_parts self }
     {
-        Tally {
-            refused: 0,
-            first: None,
+        match self {
+            Refusal::Text { kind, at } => RefusalParts {
+                word: kind_word(kind),
+                part: None,
+                place: Some(Place::Byte(at as u64)),
+            },
+            Refusal::Late => RefusalParts::just("Late"),
+            Refusal::Catalog(fault) => RefusalParts::just(catalog_word(fault)),
+            Refusal::Pool(why) => why_parts(why),
+            Refusal::JournalFull => RefusalParts::just("JournalFull"),
+            Refusal::Memory => RefusalParts::just("Memory"),
         }
     }
 
-    /// Keeps the first refused line, if it is the first.
-    fn keep_first(&mut self, line: u128, why: &Refusal)
-        ensures { self.new ≡ record self.old { first = Some (first_refused self.old.first (record { line = line; why = why.now })) } }
+    /// Appends it in words, as in `Shape at 13`.
+    ///
+    /// # Errors
+    /// `AllocError` if an allocation fails. A part of the words may be appended then.
+    pub fn put<A: Allocator>(self, page: &mut String<A>) -> Result<(), AllocError>
+        ensures { OnOk result (string_bytes page.new ≡ string_bytes page.old ++ refusal_words self) }
     {
-        if self.first.is_none() {
-            self.first = Some(Refused {
-                line,
-                why: why.copy(),
-            });
-        }
-    }
-
-    /// Adds the line of that number, where it is refused.
-    pub(crate) fn add(&mut self, line: u128, why: &Option<Refusal>)
-        requires { self.old.refused < 2 ^ 100 }
-        ensures { self.new ≡ tallied self.old line why.now }
-    {
-        if let Some(why) = why {
-            self.keep_first(line, why);
-            self.refused += 1;
-        }
+        ReplyLine::of_words("", self, "").put(page)
     }
 }

@@ -1,36 +1,29 @@
-//! Reply lines.
+//! How replies read, piece by piece.
 
-ghost use Rattle.std.specs.Prelude.{◌≡◌, ◌++◌, codes, decimal, None, Some, IfOk, string_bytes};
-ghost use Rattle.cq_report.specs.Reply.{fault_line, late_line, prepared_line, reply_line, refused_line, published_line, show_line, end_line};
-ghost use Rattle.cq_report.specs.Steps.Lines.{reply_bytes};
+ghost use Rattle.std.specs.Prelude.{◌≡◌, ◌++◌, codes, string_bytes, OnOk, option_map};
+ghost use Rattle.cq_report.specs.Refusals.{part_words, place_words, part_member, place_member, refusal_words, refusal_members};
+ghost use Rattle.cq_report.specs.Reply.{outcome_line, outcome_end};
+ghost use Rattle.cq_report.specs.Data.{outcome_members};
+ghost use Rattle.cq_report.specs.Machine.{before_page, after_page};
+ghost use Rattle.cq_report.specs.Steps.Lines.{number_bytes};
 
-use crate::refusal::{Refusal, fault_refusal, prepared_refusal, why_refusal};
-use cq_board::Why;
-use cq_desk::Reply;
-use cq_rel::CatalogFault;
-use cq_text::Kind;
+use crate::numbering::Numbering;
+use crate::outcome::Outcome;
+use crate::refusal::{Place, Refusal};
+use cq_ask::ending;
 use std::alloc::{AllocError, Allocator};
 use std::marker::Model;
 
-/// What comes of a line of a setup.
-#[derive(Clone, Copy, Debug, PartialEq, Eq)]
-pub enum Prepared {
-    /// It is accepted.
-    Accepted,
-    /// It comes after the setup, or names the form after another line.
-    Late,
-    /// Its relation is not declared.
-    Undeclared(CatalogFault),
-}
-
-/// A reply of one line, or members of a JSON object, by its parts: what it begins with, its words, the number after them, where there is one, and what
-/// ends it. Contracts see its bytes. It takes no memory.
+/// The line of a reply, or its members of a JSON object, by pieces. Contracts see its bytes. It takes no memory.
 #[derive(Drop)]
-pub struct ReplyLine {
-    front: &'static str,
-    words: &'static str,
-    number: Option<u64>,
-    end: &'static str,
+pub(crate) struct ReplyLine {
+    pub(crate) front: &'static str,
+    pub(crate) word: &'static str,
+    pub(crate) before_part: &'static str,
+    pub(crate) part: &'static str,
+    pub(crate) before_number: &'static str,
+    pub(crate) number: Option<u64>,
+    pub(crate) end: &'static str,
 }
 
 impl Model for ReplyLine {
@@ -39,142 +32,186 @@ impl Model for ReplyLine {
 
     ghost Value = { List ℕ };
 
-    ghost view = { λ l. reply_bytes l.front.now l.words.now l.number l.end.now };
+    ghost view = { λ l. reply_bytes l.front.now l.word.now l.before_part.now l.part.now l.before_number.now l.number l.end.now };
+}
+
+/// A part of a query in words, with what stands before it.
+fn part_words(part: Option<&'static str>) -> (&'static str, &'static str)
+    ensures { result.0.now ++ result.1.now ≡ part_words (option_map (λ part. part.now) part.entry) }
+{
+    match part {
+        None => ("", ""),
+        Some(part) => (" ", part),
+    }
+}
+
+/// A place in words, with what stands before it.
+fn place_words(place: Option<Place>) -> (&'static str, Option<u64>)
+    ensures { result.0.now ++ number_bytes result.1 ≡ place_words place }
+{
+    match place {
+        None => ("", None),
+        Some(Place::Byte(offset)) => (" at ", Some(offset)),
+        Some(Place::Atom(place)) => (" ", Some(place)),
+    }
+}
+
+/// A part of a query as a member, with what stands before it, which ends the word; the text of the member is ended after it.
+fn part_member(part: Option<&'static str>) -> (&'static str, &'static str)
+    ensures { result.0.now ++ (result.1.now ++ codes "\"") ≡ codes "\"" ++ part_member (option_map (λ part. part.now) part.entry) }
+{
+    match part {
+        None => ("", ""),
+        Some(part) => ("\",\"part\":\"", part),
+    }
+}
+
+/// A place as a member, with what stands before it, which ends a text.
+fn place_member(place: Option<Place>) -> (&'static str, Option<u64>)
+    ensures { result.0.now ++ number_bytes result.1 ≡ codes "\"" ++ place_member place }
+{
+    match place {
+        None => ("\"", None),
+        Some(Place::Byte(offset)) => ("\",\"at\":", Some(offset)),
+        Some(Place::Atom(place)) => ("\",\"place\":", Some(place)),
+    }
 }
 
 impl ReplyLine {
-    /// A line that ends with a number.
-    fn of_number(words: &'static str, number: u64) -> ReplyLine
-        ensures { result ≡ words.now ++ decimal number ++ codes "\n" }
-    {
-        ReplyLine {
-            front: "",
-            words,
-            number: Some(number),
-            end: "\n",
-        }
-    }
-
-    /// The reply to a line that is refused for this reason.
-    pub(crate) fn refused(why: &Refusal) -> ReplyLine
-        ensures { result ≡ refused_line why.now }
-    {
-        let (words, number) = why.parts();
-        ReplyLine {
-            front: "refused ",
-            words,
-            number,
-            end: "\n",
-        }
-    }
-
-    /// These words, and no more.
-    pub(crate) fn just(words: &'static str) -> ReplyLine
+    /// These words, and nothing else.
+    fn just(words: &'static str) -> ReplyLine
         ensures { result ≡ words.now }
     {
-        ReplyLine {
-            front: words,
-            words: "",
-            number: None,
-            end: "",
-        }
+        ReplyLine::counting(words, None, "")
     }
 
-    /// These words, and a number after them.
-    pub(crate) fn counting(words: &'static str, number: u64) -> ReplyLine
-        ensures { result ≡ words.now ++ decimal number }
+    /// Words, a number, if there is one, and what ends them.
+    fn counting(words: &'static str, number: Option<u64>, end: &'static str) -> ReplyLine
+        ensures { result ≡ words.now ++ (number_bytes number ++ end.now) }
     {
         ReplyLine {
             front: "",
-            words,
-            number: Some(number),
+            word: "",
+            before_part: "",
+            part: "",
+            before_number: words,
+            number,
+            end,
+        }
+    }
+
+    /// A refusal in words, with what stands before and after it.
+    pub(crate) fn of_words(front: &'static str, refusal: Refusal, end: &'static str) -> ReplyLine
+        ensures { result ≡ front.now ++ (refusal_words refusal ++ end.now) }
+    {
+        let parts = refusal.parts();
+        let (before_part, part) = part_words(parts.part);
+        let (before_number, number) = place_words(parts.place);
+        ReplyLine {
+            front,
+            word: parts.word,
+            before_part,
+            part,
+            before_number,
+            number,
+            end,
+        }
+    }
+
+    /// A refusal as members.
+    fn of_members(refusal: Refusal) -> ReplyLine
+        ensures { result ≡ refusal_members refusal }
+    {
+        let parts = refusal.parts();
+        let (before_part, part) = part_member(parts.part);
+        let (before_number, number) = place_member(parts.place);
+        ReplyLine {
+            front: ",\"refused\":\"",
+            word: parts.word,
+            before_part,
+            part,
+            before_number,
+            number,
             end: "",
         }
     }
 
-    /// What it begins with, the words, the number, and what ends them.
-    pub(crate) fn into_parts(self) -> (&'static str, &'static str, Option<u64>, &'static str)
-        ensures { reply_bytes result.0.now result.1.now result.2 result.3.now ≡ self }
-    {
-        (self.front, self.words, self.number, self.end)
-    }
-
-    /// The line as a text.
+    /// Appends it to a text.
     ///
     /// # Errors
-    /// `AllocError` where an allocation failed.
-    pub fn to_text<A: Allocator>(self, alloc: A) -> Result<String<A>, AllocError>
-        ensures { IfOk result (λ text. string_bytes text ≡ self) }
+    /// `AllocError` if an allocation fails. A part of it may be appended then.
+    pub(crate) fn put<A: Allocator>(&self, page: &mut String<A>) -> Result<(), AllocError>
+        ensures { OnOk result (string_bytes page.new ≡ string_bytes page.old ++ self.now) }
     {
-        let (front, words) = (self.front, self.words);
-        let mut text = match self.number {
-            None => format!(in alloc; "{front}{words}")?,
-            Some(number) => format!(in alloc; "{front}{words}{number}")?,
-        };
-        text.push_str(self.end)?;
-        Ok(text)
+        let (front, word, before_part, part) = (self.front, self.word, self.before_part, self.part);
+        let (before_number, end) = (self.before_number, self.end);
+        match self.number {
+            None => write!(page, "{front}{word}{before_part}{part}{before_number}{end}"),
+            Some(number) => {
+                write!(
+                    page,
+                    "{front}{word}{before_part}{part}{before_number}{number}{end}"
+                )
+            }
+        }
     }
 }
 
-/// The reply to a line that is no command.
-pub fn fault_line(kind: Kind, offset: usize) -> ReplyLine
-    ensures { result ≡ fault_line kind offset }
+/// The line of a reply in words.
+pub(crate) fn words_of(outcome: Outcome) -> ReplyLine
+    ensures { result ≡ outcome_line outcome }
 {
-    ReplyLine::refused(&fault_refusal(kind, offset))
-}
-
-/// The reply to a line of the setup that comes after it.
-pub fn late_line() -> &'static str
-    ensures { result.now ≡ late_line }
-{
-    "refused Late\n"
-}
-
-/// The reply to a line of a setup.
-pub fn prepared_line(prepared: Prepared) -> ReplyLine
-    ensures { result ≡ prepared_line prepared }
-{
-    match prepared_refusal(prepared) {
-        None => ReplyLine::just("ok\n"),
-        Some(why) => ReplyLine::refused(&why),
+    match outcome {
+        Outcome::Silent | Outcome::Answered(_) | Outcome::Quit => ReplyLine::just(""),
+        Outcome::Accepted => ReplyLine::just("ok\n"),
+        Outcome::Entered(entry) => ReplyLine::counting("ok ", Some(entry), "\n"),
+        Outcome::Published(count) => ReplyLine::counting("published ", Some(count), "\n"),
+        Outcome::Shown(count) => ReplyLine::counting("show ", Some(count), "\n"),
+        Outcome::Refused(refusal) => ReplyLine::of_words("refused ", refusal, "\n"),
     }
 }
 
-/// The reply to an edit: the number of its entry, or why it has none.
-pub fn reply_line(reply: &Reply<Why>) -> ReplyLine
-    ensures { result ≡ reply_line reply.now }
+/// The members of a reply, up to the board that a look shows.
+fn members_of(outcome: Outcome) -> ReplyLine
+    ensures { result ≡ outcome_members outcome }
 {
-    match reply {
-        Reply::Entered(entry) => ReplyLine::of_number("ok ", *entry),
-        Reply::JournalFull => ReplyLine::just("refused JournalFull\n"),
-        Reply::Not(reason) => ReplyLine::refused(&why_refusal(*reason)),
+    match outcome {
+        Outcome::Silent | Outcome::Answered(_) => ReplyLine::just(""),
+        Outcome::Accepted => ReplyLine::just(",\"ok\":true"),
+        Outcome::Entered(entry) => ReplyLine::counting(",\"ok\":", Some(entry), ""),
+        Outcome::Published(count) => ReplyLine::counting(",\"published\":", Some(count), ""),
+        Outcome::Shown(_) => ReplyLine::just(",\"board\":"),
+        Outcome::Quit => ReplyLine::just(",\"quit\":true"),
+        Outcome::Refused(refusal) => ReplyLine::of_members(refusal),
     }
 }
 
-/// The reply to a publish.
-pub fn published_line(count: u64) -> ReplyLine
-    ensures { result ≡ published_line count }
+/// What comes before the page of a reply.
+pub(crate) fn before_page(numbering: Numbering, outcome: Outcome) -> ReplyLine
+    ensures { result ≡ before_page numbering outcome }
 {
-    ReplyLine::of_number("published ", count)
+    match numbering {
+        Numbering::Plain | Numbering::Numbered => words_of(outcome),
+        Numbering::Json => members_of(outcome),
+    }
 }
 
-/// The first line of what is shown.
-pub fn show_line(count: u64) -> ReplyLine
-    ensures { result ≡ show_line count }
+fn end_of(outcome: Outcome) -> &'static str
+    ensures { result.now ≡ outcome_end outcome }
 {
-    ReplyLine::of_number("show ", count)
+    match outcome {
+        Outcome::Shown(_) => "end\n",
+        Outcome::Answered(kind) => ending(kind),
+        _ => "",
+    }
 }
 
-/// The reply to a line at which an allocation failed.
-pub(crate) fn memory_line() -> ReplyLine
-    ensures { result ≡ refused_line (codes "Memory") }
+/// What comes after the page of a reply.
+pub(crate) fn after_page(numbering: Numbering, outcome: Outcome) -> &'static str
+    ensures { result.now ≡ after_page numbering outcome }
 {
-    ReplyLine::just("refused Memory\n")
-}
-
-/// The last line of what is shown.
-pub(crate) fn end_line() -> &'static str
-    ensures { result.now ≡ end_line }
-{
-    "end\n"
+    match numbering {
+        Numbering::Plain | Numbering::Numbered => end_of(outcome),
+        Numbering::Json => "",
+    }
 }

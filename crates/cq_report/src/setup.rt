@@ -5,7 +5,8 @@ ghost use Rattle.cq_rel.specs.Tables.{declaration, declare_fault};
 ghost use Rattle.cq_report.specs.Machine.{begin_setup, board_named, declared, set_up};
 
 use crate::limits::{JOURNAL_LIMIT, POOL_LIMIT};
-use crate::reply::Prepared;
+use crate::outcome::Outcome;
+use crate::refusal::Refusal;
 use cq_atom::Name;
 use cq_board::Limits;
 use cq_rel::{Catalog, CatalogFault};
@@ -14,12 +15,12 @@ use std::alloc::{AllocError, Allocator};
 use std::marker::Model;
 
 /// What comes of a line that names the form, where this one was settled before it, if any.
-fn board_named(heading: Option<Form>) -> Prepared
+fn board_named(heading: Option<Form>) -> Outcome
     ensures { result ≡ board_named heading }
 {
     match heading {
-        None => Prepared::Accepted,
-        Some(_form) => Prepared::Late,
+        None => Outcome::Accepted,
+        Some(_form) => Outcome::Refused(Refusal::Late),
     }
 }
 
@@ -62,14 +63,14 @@ impl<A: Allocator> Setup<A> {
 
 impl<A: Allocator + Clone> Setup<A> {
     /// Declares a relation, after those that are declared, and gives what comes of it.
-    fn declare(&mut self, name: &str, arity: usize) -> Result<Prepared, AllocError>
-        ensures ok { IfOk result (λ prepared. (self.new, prepared) ≡ declared (declare_fault self.old.catalog name.now arity) self.old (declaration name.now arity)) }
+    fn declare(&mut self, name: &str, arity: usize) -> Result<Outcome, AllocError>
+        ensures ok { IfOk result (λ outcome. (self.new, outcome) ≡ declared (declare_fault self.old.catalog name.now arity) self.old (declaration name.now arity)) }
         ensures err { OnErr result (self.new ≡ self.old) }
     {
         match self.catalog.declare(name, arity) {
-            Ok(()) => Ok(Prepared::Accepted),
+            Ok(()) => Ok(Outcome::Accepted),
             Err(CatalogFault::NoMemory) => Err(AllocError),
-            Err(fault) => Ok(Prepared::Undeclared(fault)),
+            Err(fault) => Ok(Outcome::Refused(Refusal::Catalog(fault))),
         }
     }
 
@@ -94,8 +95,8 @@ impl<A: Allocator + Clone> Setup<A> {
         &mut self,
         heading: Option<Form>,
         line: &SetupLine<Name<A>>,
-    ) -> Result<Prepared, AllocError>
-        ensures ok { IfOk result (λ prepared. (self.new, prepared) ≡ set_up self.old heading line.now) }
+    ) -> Result<Outcome, AllocError>
+        ensures ok { IfOk result (λ outcome. (self.new, outcome) ≡ set_up self.old heading line.now) }
         ensures err { OnErr result (self.new ≡ self.old) }
     {
         match line {
@@ -106,7 +107,7 @@ impl<A: Allocator + Clone> Setup<A> {
                     pool: *pool,
                     journal: *journal,
                 };
-                Ok(Prepared::Accepted)
+                Ok(Outcome::Accepted)
             }
         }
     }

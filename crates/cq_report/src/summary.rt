@@ -4,7 +4,7 @@ ghost use Rattle.std.specs.Prelude.{◌≡◌, ◌++◌, ◌==◌, codes, decima
 ghost use Rattle.cq_report.specs.Summary.{so_many, first_words, refused_words, unpublished_words, warning_of, warning, pool_words, summary};
 
 use crate::left::Played;
-use crate::refusal::{Refused, Tally};
+use crate::tally::{Refused, Tally};
 use cq_board::Board;
 use std::alloc::{AllocError, Allocator};
 
@@ -22,8 +22,8 @@ fn put_so_many<A: Allocator>(
 }
 
 /// Puts the first refused line, if there is one, and why it was refused.
-fn put_first<A: Allocator>(page: &mut String<A>, first: &Option<Refused>) -> Result<(), AllocError>
-    ensures { OnOk result (string_bytes page.new ≡ string_bytes page.old ++ first_words first.now) }
+fn put_first<A: Allocator>(page: &mut String<A>, first: Option<Refused>) -> Result<(), AllocError>
+    ensures { OnOk result (string_bytes page.new ≡ string_bytes page.old ++ first_words first) }
 {
     let Some(first) = first else {
         return Ok(());
@@ -38,7 +38,7 @@ fn put_refused<A: Allocator>(page: &mut String<A>, tally: &Tally) -> Result<(), 
     ensures { OnOk result (string_bytes page.new ≡ string_bytes page.old ++ refused_words tally.now) }
 {
     put_so_many(page, tally.refused, "line refused", "lines refused")?;
-    put_first(page, &tally.first)
+    put_first(page, tally.first)
 }
 
 /// Puts how many edits are not published.
@@ -108,7 +108,7 @@ fn put_lines<A: Allocator + Copy>(
     let refused = tally.refused;
     put_so_many(page, played.lines(), "line, ", "lines, ")?;
     write!(page, "{refused} refused")?;
-    put_first(page, &tally.first)
+    put_first(page, tally.first)
 }
 
 /// Sums up a script, as `12 lines, 2 refused, first line 9: Shape at 13; 4 queries pending, 3 matched; 3 edits not published`. The queries are those of

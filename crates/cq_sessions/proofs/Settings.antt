@@ -1,5 +1,5 @@
 -- Lines of a setup, one after another.
-use Rattle.std.proofs.Common.{◌≡◌, ℕ, ◌<◌, List, [], ◌∷◌, ◌++◌, true, false, length, map, refl, sym, ap, subst, ◌∙◌, append_assoc}
+use Rattle.std.proofs.Common.{◌≡◌, ℕ, ◌<◌, List, [], ◌∷◌, ◌++◌, true, false, length, map, refl, sym, ap, subst, ◌∙◌, append_assoc, append-nil}
 use Rattle.std.specs.Prelude.{Bool, not, Option, None, Some, MatchBool, if◌then◌else◌}
 use Rattle.cq_rel.specs.declared.fault.CatalogFault.{CatalogFault}
 use Rattle.cq_rel.specs.declared.fault.CatalogFault.TheVariants.{BadName, BadArity, Declared, CatalogFull, NoMemory}
@@ -16,9 +16,12 @@ use Rattle.cq_report.specs.Reading.{Reading, Reads, Faulty, IsReading, AreReadIn
 use Rattle.cq_report.specs.declared.numbering.Numbering.{Numbering}
 use Rattle.cq_report.specs.declared.numbering.Numbering.TheVariants.{Plain}
 use Rattle.cq_report.specs.declared.stage.Stage.TheVariants as stages
-use Rattle.cq_report.specs.Machine.{State, SetupRecord, Staged, begin_state, begin_setup, form_of, form_in, headed, declared, set_up, staged, spoken, numbered, next, reply}
-use Rattle.cq_report.specs.declared.reply.Prepared.{Prepared}
-use Rattle.cq_report.specs.Reply.{prepared_line, told_lines}
+use Rattle.cq_report.specs.Machine.{State, SetupRecord, Staged, begin_state, begin_setup, form_of, form_in, headed, declared, set_up, staged, shown, serving_of, spoken_after, spoken, page_of, numbered, next, reply}
+use Rattle.cq_report.specs.declared.outcome.Outcome.{Outcome}
+use Rattle.cq_report.specs.declared.outcome.Outcome.TheVariants as outcomes
+use Rattle.cq_report.specs.declared.refusal.Refusal.TheVariants as refusals
+use Rattle.cq_board.specs.Pool.{PoolRecord}
+use Rattle.cq_report.specs.Reply.{outcome_line}
 use Rattle.cq_report.specs.Output.{AreReadFrom, state_after}
 use Rattle.cq_sessions.specs.Script.{Sheet}
 use Rattle.cq_sessions.specs.Sessions.{is_of_setup, IsInSetup, IsSetBy, BeginsBoard, setup_sheet, told_or_none}
@@ -44,11 +47,33 @@ set_state state (r ∷ front) heading setup set = set_state (next state r) front
 stage_in : (state : State) (heading : Option Form) (setup : SetupRecord) (reading : Reading) → IsInSetup state heading setup → (staged state.stage state.heading reading).0 ≡ (staged (stages.Setup setup) heading reading).0
 stage_in state heading setup reading set = ap (λ (h : Option Form). (staged state.stage h reading).0) set.settled ∙ ap (λ (stage : Staged). (staged stage heading reading).0) set.stage
 
-reply_in : (state : State) (heading : Option Form) (setup : SetupRecord) (reading : Reading) → IsInSetup state heading setup → reply state reading ≡ told_lines (staged (stages.Setup setup) heading reading).1
-reply_in state heading setup reading set =
-    ap (λ (n : Numbering). numbered n state.lines (spoken n (staged state.stage state.heading reading).1)) set.unnumbered
-    ∙ ap (λ (h : Option Form). told_lines (staged state.stage h reading).1) set.settled
-    ∙ ap (λ (stage : Staged). told_lines (staged stage heading reading).1) set.stage
+-- a reply without a page that has nothing after its line
+line_alone : (line : List ℕ) → line ++ ([] ++ []) ≡ line
+line_alone line = append-nil line
+
+declared_alone : (fault : Option CatalogFault) (setup : SetupRecord) (relation : Declaration) (pool : PoolRecord) → spoken Plain (declared fault setup relation).1 (page_of Plain pool (declared fault setup relation).1) ≡ outcome_line (declared fault setup relation).1
+declared_alone None setup relation pool = line_alone (outcome_line outcomes.Accepted)
+declared_alone (Some fault) setup relation pool = line_alone (outcome_line (outcomes.Refused (refusals.Catalog fault)))
+
+-- so is each reply to a line of a setup
+setup_alone : (setup : SetupRecord) (heading : Option Form) (reading : Reading) (pool : PoolRecord) → is_of_setup reading ≡ true
+    → spoken Plain (staged (stages.Setup setup) heading reading).1 (page_of Plain pool (staged (stages.Setup setup) heading reading).1) ≡ outcome_line (staged (stages.Setup setup) heading reading).1
+setup_alone setup heading (Faulty kind offset) pool of = line_alone (outcome_line (outcomes.Refused (refusals.Text kind offset)))
+setup_alone setup heading (Reads commands.Blank) pool of = refl
+setup_alone setup heading (Reads (commands.Setup (Relation name arity))) pool of = declared_alone (declare_fault setup.catalog name arity) setup (declaration name arity) pool
+setup_alone setup None (Reads (commands.Setup (Board form))) pool of = line_alone (outcome_line outcomes.Accepted)
+setup_alone setup (Some other) (Reads (commands.Setup (Board form))) pool of = line_alone (outcome_line (outcomes.Refused refusals.Late))
+setup_alone setup heading (Reads (commands.Setup (Limits most journal))) pool of = line_alone (outcome_line outcomes.Accepted)
+setup_alone setup heading (Reads (commands.Edit edit)) pool of = cc
+setup_alone setup heading (Reads commands.Publish) pool of = cc
+setup_alone setup heading (Reads commands.Show) pool of = cc
+
+reply_in : (state : State) (heading : Option Form) (setup : SetupRecord) (reading : Reading) → is_of_setup reading ≡ true → IsInSetup state heading setup → reply state reading ≡ outcome_line (staged (stages.Setup setup) heading reading).1
+reply_in state heading setup reading of set =
+    ap (λ (n : Numbering). numbered n state.lines (spoken_after n (staged state.stage state.heading reading))) set.unnumbered
+    ∙ ap (λ (h : Option Form). spoken_after Plain (staged state.stage h reading)) set.settled
+    ∙ ap (λ (stage : Staged). spoken_after Plain (staged stage heading reading)) set.stage
+    ∙ setup_alone setup heading reading (shown (serving_of (staged (stages.Setup setup) heading reading).0)) of
 
 IsSetBy-snoc : (state : State) (front : List Reading) (heading heading' : Option Form) (setup setup' : SetupRecord) (reading : Reading) → IsSetBy state front heading setup → is_of_setup reading ≡ true → heading' ≡ headed heading reading
     → (staged (stages.Setup setup) heading reading).0 ≡ stages.Setup setup' → IsSetBy state (front ++ reading ∷ []) heading' setup'
@@ -62,17 +87,17 @@ IsSetBy-snoc state [] heading heading' setup setup' reading set of settles moves
 )
 IsSetBy-snoc state (r ∷ front) heading heading' setup setup' reading set of settles moves = (set.0, IsSetBy-snoc (next state r) front heading heading' setup setup' reading set.1 of settles moves)
 
-setup_sheet-snoc : (state : State) (front : List Reading) (heading : Option Form) (setup : SetupRecord) (reading : Reading) → IsSetBy state front heading setup
-    → setup_sheet state (front ++ reading ∷ []) ≡ setup_sheet state front ++ told_or_none (told_lines (staged (stages.Setup setup) heading reading).1) ∷ []
-setup_sheet-snoc state [] heading setup reading set = ap (λ (told : List ℕ). told_or_none told ∷ []) (reply_in state heading setup reading set)
-setup_sheet-snoc state (r ∷ front) heading setup reading set = ap (λ (z : Sheet). told_or_none (reply state r) ∷ z) (setup_sheet-snoc (next state r) front heading setup reading set.1)
+setup_sheet-snoc : (state : State) (front : List Reading) (heading : Option Form) (setup : SetupRecord) (reading : Reading) → is_of_setup reading ≡ true → IsSetBy state front heading setup
+    → setup_sheet state (front ++ reading ∷ []) ≡ setup_sheet state front ++ told_or_none (outcome_line (staged (stages.Setup setup) heading reading).1) ∷ []
+setup_sheet-snoc state [] heading setup reading of set = ap (λ (told : List ℕ). told_or_none told ∷ []) (reply_in state heading setup reading of set)
+setup_sheet-snoc state (r ∷ front) heading setup reading of set = ap (λ (z : Sheet). told_or_none (reply state r) ∷ z) (setup_sheet-snoc (next state r) front heading setup reading of set.1)
 
 pub set_begin : (bytes : List ℕ) (heading : Option Form) (setup : SetupRecord) (sheet : SheetRecord) → heading ≡ None → setup ≡ begin_setup → sheet ≡ blank → SetTo bytes bytes heading setup sheet
 set_begin bytes heading setup sheet fresh is empty = record { lines = []; cut = refl; front = []; are = tt; set = record { unnumbered = refl; settled = sym fresh; stage = ap stages.Setup (sym is) }; told = empty }
 
 set_on : (bytes rest rest' line : List ℕ) (heading heading' : Option Form) (setup setup' : SetupRecord) (sheet sheet' : SheetRecord) → lines_of rest ≡ line ∷ lines_of rest' → SetTo bytes rest heading setup sheet → SetsLine heading setup sheet heading' setup' sheet' line → SetTo bytes rest' heading' setup' sheet'
 set_on bytes rest rest' line heading heading' setup setup' sheet sheet' cut so l =
-    let reply = told_or_none (told_lines (staged (stages.Setup setup) heading l.reading).1) in
+    let reply = told_or_none (outcome_line (staged (stages.Setup setup) heading l.reading).1) in
     record {
       lines = so.lines ++ line ∷ [];
       cut = so.cut ∙ ap (λ (z : List (List ℕ)). so.lines ++ z) cut ∙ sym (append_assoc so.lines (line ∷ []) (lines_of rest'));
@@ -81,7 +106,7 @@ set_on bytes rest rest' line heading heading' setup setup' sheet sheet' cut so l
       set = IsSetBy-snoc (begin_state Plain) so.front heading heading' setup setup' l.reading so.set l.sets.of_setup l.settles l.sets.stage;
       told = l.sets.told ∙ ap (λ (z : SheetRecord). record z { batch = z.batch ++ Told reply ∷ [] }) so.told
           ∙ ap (λ (z : List (Line (List ℕ))). record blank { batch = z })
-          (sym (map-snoc Told (setup_sheet (begin_state Plain) so.front) reply) ∙ ap (map Told) (sym (setup_sheet-snoc (begin_state Plain) so.front heading setup l.reading so.set)));
+          (sym (map-snoc Told (setup_sheet (begin_state Plain) so.front) reply) ∙ ap (map Told) (sym (setup_sheet-snoc (begin_state Plain) so.front heading setup l.reading l.sets.of_setup so.set)));
     }
 
 pub set_line : (bytes rest line behind : List ℕ) (heading heading' : Option Form) (setup setup' : SetupRecord) (sheet sheet' : SheetRecord) → rest ≡ line ++ (10 ∷ behind) → HasNoEnd line → SetTo bytes rest heading setup sheet → SetsLine heading setup sheet heading' setup' sheet' line
@@ -141,7 +166,7 @@ fault_known true true free (Some n) e = cc
 fault_known true true true None e = cc
 fault_known true true false None e = cc
 
-told_declared : (fault : Option CatalogFault) (setup : SetupRecord) (relation : Declaration) → (fault ≡ Some NoMemory → ⊥) → told_or_none (prepared_line (declared fault setup relation).1) ≡ Some (prepared_line (declared fault setup relation).1)
+told_declared : (fault : Option CatalogFault) (setup : SetupRecord) (relation : Declaration) → (fault ≡ Some NoMemory → ⊥) → told_or_none (outcome_line (declared fault setup relation).1) ≡ Some (outcome_line (declared fault setup relation).1)
 told_declared None setup relation known = refl
 told_declared (Some BadName) setup relation known = refl
 told_declared (Some BadArity) setup relation known = refl
@@ -150,17 +175,17 @@ told_declared (Some CatalogFull) setup relation known = refl
 told_declared (Some NoMemory) setup relation known = absurd (known refl)
 
 -- each line of a setup has a reply
-told_set_up : (setup : SetupRecord) (heading : Option Form) (line : SetupLine (List ℕ)) → told_or_none (prepared_line (set_up setup heading line).1) ≡ Some (prepared_line (set_up setup heading line).1)
+told_set_up : (setup : SetupRecord) (heading : Option Form) (line : SetupLine (List ℕ)) → told_or_none (outcome_line (set_up setup heading line).1) ≡ Some (outcome_line (set_up setup heading line).1)
 told_set_up setup heading (Relation name arity) =
     told_declared (declare_fault setup.catalog name arity) setup (declaration name arity) (fault_known _ _ _ _)
 told_set_up setup None (Board form) = refl
 told_set_up setup (Some other) (Board form) = refl
 told_set_up setup heading (Limits pool journal) = refl
 
-pub sets_up : (heading : Option Form) (setup setup' : SetupRecord) (sheet sheet' : SheetRecord) (line : SetupLine (List ℕ)) (prepared : Prepared) → (setup', prepared) ≡ set_up setup heading line
-    → sheet' ≡ record sheet { batch = sheet.batch ++ Told (Some (prepared_line prepared)) ∷ [] } → Sets heading setup sheet setup' sheet' (Reads (commands.Setup line))
-sets_up heading setup setup' sheet sheet' line prepared is now = record {
+pub sets_up : (heading : Option Form) (setup setup' : SetupRecord) (sheet sheet' : SheetRecord) (line : SetupLine (List ℕ)) (outcome : Outcome) → (setup', outcome) ≡ set_up setup heading line
+    → sheet' ≡ record sheet { batch = sheet.batch ++ Told (Some (outcome_line outcome)) ∷ [] } → Sets heading setup sheet setup' sheet' (Reads (commands.Setup line))
+sets_up heading setup setup' sheet sheet' line outcome is now = record {
   of_setup = refl;
-  stage = ap (λ (p : SetupRecord × Prepared). stages.Setup p.0) (sym is);
-  told = now ∙ ap (λ (reply : Option (List ℕ)). record sheet { batch = sheet.batch ++ Told reply ∷ [] }) (ap (λ (p : SetupRecord × Prepared). Some (prepared_line p.1)) is ∙ sym (told_set_up setup heading line));
+  stage = ap (λ (p : SetupRecord × Outcome). stages.Setup p.0) (sym is);
+  told = now ∙ ap (λ (reply : Option (List ℕ)). record sheet { batch = sheet.batch ++ Told reply ∷ [] }) (ap (λ (p : SetupRecord × Outcome). Some (outcome_line p.1)) is ∙ sym (told_set_up setup heading line));
 }

@@ -12,7 +12,8 @@ use Rattle.cq_text.specs.declared.form.Form.{Form}
 use Rattle.cq_report.specs.Lines.{lines_of}
 use Rattle.cq_report.specs.Reading.{Reading, Reads, AreReadIn}
 use Rattle.cq_sessions.specs.Script.{Sheet}
-use Rattle.cq_report.specs.Reply.{published_line, reply_line}
+use Rattle.cq_report.specs.declared.outcome.Outcome.TheVariants as outcomes
+use Rattle.cq_report.specs.Reply.{reply_outcome, outcome_line}
 use Rattle.cq_sessions.specs.Sessions.{Served, entered}
 use Rattle.cq_report.specs.Lines.{HasNoEnd}
 use Rattle.cq_sessions.specs.Steps.Sheets.{SheetRecord, blank, numbers_of, told_in, asks, filled, whole, IsEven, Onward, LineServed, BytesServed, ServedTo}
@@ -27,14 +28,14 @@ filled-told : (batch : List (Line (List ℕ))) (told : Option (List ℕ)) (rs : 
 filled-told [] told rs = refl
 filled-told (Told reply ∷ batch) told rs = ap (λ (sheet : Sheet). reply ∷ sheet) (filled-told batch told rs)
 filled-told (Asks ∷ batch) told [] = ap (λ (sheet : Sheet). None ∷ sheet) (filled-told batch told [])
-filled-told (Asks ∷ batch) told (r ∷ rs) = ap (λ (sheet : Sheet). Some (reply_line r) ∷ sheet) (filled-told batch told rs)
+filled-told (Asks ∷ batch) told (r ∷ rs) = ap (λ (sheet : Sheet). Some (outcome_line (reply_outcome r)) ∷ sheet) (filled-told batch told rs)
 
-filled-asks : (batch : List (Line (List ℕ))) (rs : List (Reply Why)) (r : Reply Why) → asks batch ≡ length rs → filled (batch ++ Asks ∷ []) (rs ++ r ∷ []) ≡ filled batch rs ++ Some (reply_line r) ∷ []
+filled-asks : (batch : List (Line (List ℕ))) (rs : List (Reply Why)) (r : Reply Why) → asks batch ≡ length rs → filled (batch ++ Asks ∷ []) (rs ++ r ∷ []) ≡ filled batch rs ++ Some (outcome_line (reply_outcome r)) ∷ []
 filled-asks [] [] r e = refl
 filled-asks [] (s ∷ rs) r e = absurd (omega (arith, e))
 filled-asks (Told reply ∷ batch) rs r e = ap (λ (sheet : Sheet). reply ∷ sheet) (filled-asks batch rs r e)
 filled-asks (Asks ∷ batch) [] r e = absurd (omega (arith, e))
-filled-asks (Asks ∷ batch) (s ∷ rs) r e = ap (λ (sheet : Sheet). Some (reply_line s) ∷ sheet) (filled-asks batch rs r (omega (arith, e)))
+filled-asks (Asks ∷ batch) (s ∷ rs) r e = ap (λ (sheet : Sheet). Some (outcome_line (reply_outcome s)) ∷ sheet) (filled-asks batch rs r (omega (arith, e)))
 
 asks-told : (batch : List (Line (List ℕ))) (told : Option (List ℕ)) → asks (batch ++ Told told ∷ []) ≡ asks batch
 asks-told [] told = refl
@@ -125,7 +126,7 @@ module _ (opening : PoolRecord) (limit : ℕ) where
 
   -- a line whose edit waits
   gather_at : (known : List Edit) (sheet : SheetRecord) (line : Reading) (edit : Edit)
-      → ((rs : List (Reply Why)) (r : Reply Why) (lines : List Reading) (own : List (ℕ × Edit)) (behind : Sheet) (last : List Edit) → Served opening limit lines known (sheet.asked ++ edit ∷ []) (rs ++ r ∷ []) own behind last → Served opening limit (line ∷ lines) known sheet.asked rs own (Some (reply_line r) ∷ behind) last)
+      → ((rs : List (Reply Why)) (r : Reply Why) (lines : List Reading) (own : List (ℕ × Edit)) (behind : Sheet) (last : List Edit) → Served opening limit lines known (sheet.asked ++ edit ∷ []) (rs ++ r ∷ []) own behind last → Served opening limit (line ∷ lines) known sheet.asked rs own (Some (outcome_line (reply_outcome r)) ∷ behind) last)
       → IsEven sheet → Onward opening limit known sheet known (record sheet { batch = sheet.batch ++ Asks ∷ []; asked = sheet.asked ++ edit ∷ [] }) line
   gather_at known sheet line edit serves even =
       let longer : length (sheet.asked ++ edit ∷ []) ≡ length sheet.asked + 1 = omega (arith, length-append sheet.asked (edit ∷ [])) in
@@ -137,16 +138,16 @@ module _ (opening : PoolRecord) (limit : ℕ) where
               l.front,
               m,
               own,
-              Some (reply_line l.last),
+              Some (outcome_line (reply_outcome l.last)),
               serves l.front l.last lines own behind last (subst (λ (z : List (Reply Why)). Served opening limit lines known (sheet.asked ++ edit ∷ []) z own behind last) l.is served),
-              append_assoc sheet.replies (filled sheet.batch l.front) (Some (reply_line l.last) ∷ [])
+              append_assoc sheet.replies (filled sheet.batch l.front) (Some (outcome_line (reply_outcome l.last)) ∷ [])
                   ∙ ap (λ (z : Sheet). sheet.replies ++ z) (sym (filled-asks sheet.batch l.front l.last (even ∙ sym m)) ∙ ap (filled (sheet.batch ++ Asks ∷ [])) (sym l.is)),
               refl,
             );
       }
 
   pub gather_onward : (known : List Edit) (sheet sheet' : SheetRecord) (line : Reading) (edit : Edit)
-      → ((rs : List (Reply Why)) (r : Reply Why) (lines : List Reading) (own : List (ℕ × Edit)) (behind : Sheet) (last : List Edit) → Served opening limit lines known (sheet.asked ++ edit ∷ []) (rs ++ r ∷ []) own behind last → Served opening limit (line ∷ lines) known sheet.asked rs own (Some (reply_line r) ∷ behind) last)
+      → ((rs : List (Reply Why)) (r : Reply Why) (lines : List Reading) (own : List (ℕ × Edit)) (behind : Sheet) (last : List Edit) → Served opening limit lines known (sheet.asked ++ edit ∷ []) (rs ++ r ∷ []) own behind last → Served opening limit (line ∷ lines) known sheet.asked rs own (Some (outcome_line (reply_outcome r)) ∷ behind) last)
       → IsEven sheet → sheet' ≡ record sheet { batch = sheet.batch ++ Asks ∷ []; asked = sheet.asked ++ edit ∷ [] } → Onward opening limit known sheet known sheet' line
   gather_onward known sheet sheet' line edit serves even is =
       subst (λ (s : SheetRecord). Onward opening limit known sheet known s line) (sym is) (gather_at known sheet line edit serves even)
@@ -156,26 +157,26 @@ module _ (opening : PoolRecord) (limit : ℕ) where
   submitted_sheet sheet rs = record { replies = whole sheet rs; batch = []; asked = []; numbers = sheet.numbers ++ told_in rs }
 
   publish_at : (known known' : List Edit) (sheet : SheetRecord) (rs : List (Reply Why)) (s : Submits opening limit known sheet known' (submitted_sheet sheet rs) (length known')) → rs ≡ s.rs
-      → Onward opening limit known sheet known' (record (submitted_sheet sheet rs) { batch = Told (Some (published_line (length known'))) ∷ [] }) (Reads commands.Publish)
+      → Onward opening limit known sheet known' (record (submitted_sheet sheet rs) { batch = Told (Some (outcome_line (outcomes.Published (length known')))) ∷ [] }) (Reads commands.Publish)
   publish_at known known' sheet rs s is = record {
     even = refl;
     carries = λ none n lines own behind last served. (
       s.rs,
       s.tried,
       entered sheet.asked s.rs ++ own,
-      Some (published_line (length known')),
+      Some (outcome_line (outcomes.Published (length known'))),
       (known', own, s.submitted, refl, refl, subst (λ (z : List (Reply Why)). Served opening limit lines known' [] z own behind last) (no_replies none n) served),
-      ap (λ (z : List (Reply Why)). whole sheet z ++ Some (published_line (length known')) ∷ []) (sym is),
+      ap (λ (z : List (Reply Why)). whole sheet z ++ Some (outcome_line (outcomes.Published (length known'))) ∷ []) (sym is),
       numbers-on sheet.numbers sheet.asked s.rs own s.tried ∙ ap (λ (z : List (Reply Why)). (sheet.numbers ++ told_in z) ++ numbers_of own) (sym is),
     );
   }
 
   pub publish_onward : (known known' : List Edit) (sheet sheet1 sheet' : SheetRecord) (published : ℕ) → Submits opening limit known sheet known' sheet1 published
-      → sheet' ≡ record sheet1 { batch = sheet1.batch ++ Told (Some (published_line published)) ∷ [] } → Onward opening limit known sheet known' sheet' (Reads commands.Publish)
+      → sheet' ≡ record sheet1 { batch = sheet1.batch ++ Told (Some (outcome_line (outcomes.Published published))) ∷ [] } → Onward opening limit known sheet known' sheet' (Reads commands.Publish)
   publish_onward known known' sheet sheet1 sheet' published s is =
-      let now : sheet' ≡ record (submitted_sheet sheet s.rs) { batch = Told (Some (published_line (length known'))) ∷ [] } =
-      is ∙ ap (λ (z : SheetRecord). record z { batch = z.batch ++ Told (Some (published_line published)) ∷ [] }) s.after
-      ∙ ap (λ (z : ℕ). record (submitted_sheet sheet s.rs) { batch = Told (Some (published_line z)) ∷ [] }) s.count in
+      let now : sheet' ≡ record (submitted_sheet sheet s.rs) { batch = Told (Some (outcome_line (outcomes.Published (length known')))) ∷ [] } =
+      is ∙ ap (λ (z : SheetRecord). record z { batch = z.batch ++ Told (Some (outcome_line (outcomes.Published published))) ∷ [] }) s.after
+      ∙ ap (λ (z : ℕ). record (submitted_sheet sheet s.rs) { batch = Told (Some (outcome_line (outcomes.Published z))) ∷ [] }) s.count in
       subst (λ (z : SheetRecord). Onward opening limit known sheet known' z (Reads commands.Publish)) (sym now)
       (publish_at known known' sheet s.rs (record { rs = s.rs; tried = s.tried; submitted = s.submitted; count = refl; after = refl }) refl)
 

@@ -19,7 +19,9 @@ use Rattle.cq_report.specs.Reading.{Reading, Reads, Faulty, AreReadIn}
 use Rattle.cq_report.specs.declared.numbering.Numbering.TheVariants.{Plain}
 use Rattle.cq_report.specs.Machine.{SetupRecord, State, begin_state, form_of, next, reply}
 use Rattle.cq_report.specs.Output.{AreReadings}
-use Rattle.cq_report.specs.Reply.{reply_line, published_line, show_line, fault_line, late_line}
+use Rattle.cq_report.specs.declared.outcome.Outcome.TheVariants as outcomes
+use Rattle.cq_report.specs.declared.refusal.Refusal.TheVariants as refusals
+use Rattle.cq_report.specs.Reply.{reply_outcome, outcome_line}
 use Rattle.cq_sessions.specs.declared.fault.SessionsFault.{SessionsFault}
 use Rattle.cq_sessions.specs.declared.fault.SessionsFault.TheVariants as faults
 use Rattle.cq_sessions.specs.Script.{Sheet, script_of}
@@ -53,15 +55,15 @@ abbrev pub Served : PoolRecord → ℕ → List Reading → (known asked : List 
 Served opening limit [] known asked rs own [] known' = (own ≡ entered asked rs) × EndsFile opening limit known asked rs known'
 Served opening limit [] known asked rs own (told ∷ sheet) known' = ⊥
 Served opening limit (line ∷ lines) known asked rs own [] known' = ⊥
-Served opening limit (Faulty kind offset ∷ lines) known asked rs own (told ∷ sheet) known' = (told ≡ Some (fault_line kind offset)) × Served opening limit lines known asked rs own sheet known'
+Served opening limit (Faulty kind offset ∷ lines) known asked rs own (told ∷ sheet) known' = (told ≡ Some (outcome_line (outcomes.Refused (refusals.Text kind offset)))) × Served opening limit lines known asked rs own sheet known'
 Served opening limit (Reads commands.Blank ∷ lines) known asked rs own (told ∷ sheet) known' = (told ≡ None) × Served opening limit lines known asked rs own sheet known'
-Served opening limit (Reads (commands.Setup setup) ∷ lines) known asked rs own (told ∷ sheet) known' = (told ≡ Some late_line) × Served opening limit lines known asked rs own sheet known'
+Served opening limit (Reads (commands.Setup setup) ∷ lines) known asked rs own (told ∷ sheet) known' = (told ≡ Some (outcome_line (outcomes.Refused refusals.Late))) × Served opening limit lines known asked rs own sheet known'
 Served opening limit (Reads (commands.Edit edit) ∷ lines) known asked rs own (told ∷ sheet) known' =
-    (r : Reply Why) × (told ≡ Some (reply_line r)) × Served opening limit lines known (asked ++ edit ∷ []) (rs ++ r ∷ []) own sheet known'
+    (r : Reply Why) × (told ≡ Some (outcome_line (reply_outcome r))) × Served opening limit lines known (asked ++ edit ∷ []) (rs ++ r ∷ []) own sheet known'
 Served opening limit (Reads commands.Publish ∷ lines) known asked rs own (told ∷ sheet) known' =
-    (now : List Edit) × (behind : List (ℕ × Edit)) × Submitted opening limit known now asked rs × (own ≡ entered asked rs ++ behind) × (told ≡ Some (published_line (length now))) × Served opening limit lines now [] [] behind sheet known'
+    (now : List Edit) × (behind : List (ℕ × Edit)) × Submitted opening limit known now asked rs × (own ≡ entered asked rs ++ behind) × (told ≡ Some (outcome_line (outcomes.Published (length now)))) × Served opening limit lines now [] [] behind sheet known'
 Served opening limit (Reads commands.Show ∷ lines) known asked rs own (told ∷ sheet) known' =
-    (seen : List Edit) × IsPrefix known seen × (told ≡ Some (show_line (length seen))) × Served opening limit lines seen asked rs own sheet known'
+    (seen : List Edit) × IsPrefix known seen × (told ≡ Some (outcome_line (outcomes.Shown (length seen)))) × Served opening limit lines seen asked rs own sheet known'
 
 -- A file's bytes are served line by line.
 pub record FileServed (form : Form) (opening : PoolRecord) (limit : ℕ) (known : List Edit) (file : List ℕ) (own : List (ℕ × Edit)) (sheet : Sheet) (known' : List Edit) : Type 0 where

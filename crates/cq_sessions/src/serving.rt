@@ -3,7 +3,6 @@
 ghost use Rattle.std.specs.Prelude.{◌≡◌, ◌∷◌, ◌++◌, ℕ, List, [], length, IfOk, OnOk, None, Some, option_map, string_bytes, decimal};
 ghost use mathlib.Core.List.{IsPrefix};
 ghost use Rattle.cq_report.specs.Reading.{Reads};
-ghost use Rattle.cq_report.specs.Reply.{late_line, show_line};
 ghost use Rattle.cq_sessions.specs.Steps.Sheets.{IsEven, Onward, LineServed, ServedTo, BytesServed};
 ghost use Rattle.cq_sessions.specs.Steps.Clients.{Ends};
 ghost use Rattle.cq_sessions.specs.declared.sheet.Line.TheVariants.{Told};
@@ -12,7 +11,7 @@ ghost use Rattle.cq_text.specs.declared.command.CommandKind.TheVariants.{Publish
 use crate::client::Client;
 use crate::fault::ServeFault;
 use crate::sheet::Sheet;
-use cq_report::{fault_line, first_line, late_line, published_line, show_line};
+use cq_report::{Outcome, Refusal, first_line};
 use cq_text::{Command, CommandKind, Form, TextFault, read_command};
 use std::alloc::{AllocError, Allocator};
 
@@ -26,13 +25,6 @@ fn tell<A: Allocator + Copy>(
     sheet.tell(Some(text?))
 }
 
-/// The reply to a line of a setup.
-fn late<A: Allocator>(alloc: A) -> Result<String<A>, AllocError>
-    ensures { IfOk result (λ text. string_bytes text ≡ late_line) }
-{
-    String::from_str(alloc, late_line())
-}
-
 /// Answers a publish.
 fn publish<A: Allocator + Copy, C: Client<A>>(
     alloc: A,
@@ -43,7 +35,7 @@ fn publish<A: Allocator + Copy, C: Client<A>>(
     ensures { OnOk result (Onward C.opening C.limit (C.known client.old) sheet.old (C.known client.new) sheet.new (Reads Publish)) }
 {
     let published = client.submit(sheet)?;
-    tell(sheet, published_line(published).to_text(alloc))
+    tell(sheet, Outcome::Published(published).to_line(alloc))
 }
 
 /// Answers a look.
@@ -56,7 +48,7 @@ fn show<A: Allocator + Copy, C: Client<A>>(
     ensures { OnOk result (Onward C.opening C.limit (C.known client.old) sheet.old (C.known client.new) sheet.new (Reads Show)) }
 {
     let count = client.look()?;
-    tell(sheet, show_line(count).to_text(alloc))
+    tell(sheet, Outcome::Shown(count).to_line(alloc))
 }
 
 /// Answers a command.
@@ -71,7 +63,7 @@ fn serve_command<A: Allocator + Copy, C: Client<A>>(
 {
     match command {
         CommandKind::Blank => sheet.tell(None),
-        CommandKind::Setup(_line) => tell(sheet, late(alloc)),
+        CommandKind::Setup(_line) => tell(sheet, Outcome::Refused(Refusal::Late).to_line(alloc)),
         CommandKind::Edit(edit) => sheet.gather(edit),
         CommandKind::Publish => publish(alloc, client, sheet),
         CommandKind::Show => show(alloc, client, sheet),
@@ -91,7 +83,10 @@ fn serve_line<A: Allocator + Copy, C: Client<A>>(
 {
     match read_command(alloc, line, form) {
         Ok(command) => serve_command(alloc, client, sheet, command),
-        Err(TextFault::At { kind, offset }) => tell(sheet, fault_line(kind, offset).to_text(alloc)),
+        Err(TextFault::At { kind, offset }) => {
+            let outcome = Outcome::Refused(Refusal::Text { kind, at: offset });
+            tell(sheet, outcome.to_line(alloc))
+        }
         Err(TextFault::NoMemory) => Err(ServeFault::NoMemory),
     }
 }

@@ -3,7 +3,9 @@
 ghost use Rattle.std.specs.Prelude.{◌≡◌, ◌∷◌, ◌++◌, [], true, None, Some, IfOk, OnOk, MatchBool};
 ghost use Rattle.cq_report.specs.Machine.{begin_setup, form_of, headed};
 ghost use Rattle.cq_report.specs.Reading.{Reads, Faulty};
-ghost use Rattle.cq_report.specs.Reply.{fault_line};
+ghost use Rattle.cq_report.specs.declared.outcome.Outcome.TheVariants.{Refused};
+ghost use Rattle.cq_report.specs.declared.refusal.Refusal.TheVariants.{Text};
+ghost use Rattle.cq_report.specs.Reply.{outcome_line};
 ghost use Rattle.cq_sessions.specs.declared.sheet.Line.TheVariants.{Told};
 ghost use Rattle.cq_text.specs.declared.command.CommandKind.TheVariants as commands;
 ghost use Rattle.cq_sessions.specs.Steps.Sheets.{blank};
@@ -12,7 +14,7 @@ ghost use Rattle.cq_sessions.specs.Steps.Settings.{Sets, Stays, SetsLine, IsBehi
 use crate::fault::ServeFault;
 use crate::sheet::Sheet;
 use cq_atom::Name;
-use cq_report::{Setup, fault_line, first_line, form_of, headed, prepared_line};
+use cq_report::{Outcome, Refusal, Setup, first_line, form_of, headed};
 use cq_text::{Command, CommandKind, Form, Kind, SetupLine, TextFault, read_command};
 use std::alloc::Allocator;
 
@@ -35,8 +37,8 @@ fn set_up<A: Allocator + Copy>(
 ) -> Result<(), ServeFault>
     ensures { OnOk result (Sets heading setup.old sheet.old setup.new sheet.new (Reads (commands.Setup line.now))) }
 {
-    let prepared = setup.set_up(heading, line)?;
-    sheet.tell(Some(prepared_line(prepared).to_text(alloc)?))
+    let outcome = setup.set_up(heading, line)?;
+    sheet.tell(Some(outcome.to_line(alloc)?))
 }
 
 /// Answers a command of the setup, and says whether it was one; another command ends the setup.
@@ -86,9 +88,10 @@ fn set_fault<A: Allocator + Copy>(
 ) -> Result<bool, ServeFault>
     ensures set { IfOk result (λ is_set. is_set ≡ true) }
     ensures settles { OnOk result (heading.new ≡ headed heading.old (Faulty kind offset)) }
-    ensures told { OnOk result (sheet.new ≡ record sheet.old { batch = sheet.old.batch ++ Told (Some (fault_line kind offset)) ∷ [] }) }
+    ensures told { OnOk result (sheet.new ≡ record sheet.old { batch = sheet.old.batch ++ Told (Some (outcome_line (Refused (Text kind offset)))) ∷ [] }) }
 {
-    sheet.tell(Some(fault_line(kind, offset).to_text(alloc)?))?;
+    let outcome = Outcome::Refused(Refusal::Text { kind, at: offset });
+    sheet.tell(Some(outcome.to_line(alloc)?))?;
     *heading = Some(form_of(*heading));
     Ok(true)
 }

@@ -7,7 +7,7 @@ use crate::fault::ServeFault;
 use cq_atom::Edit;
 use cq_board::Why;
 use cq_desk::Reply;
-use cq_report::reply_line;
+use cq_report::Outcome;
 use std::alloc::{AllocError, Allocator};
 use std::marker::Model;
 use std::mem;
@@ -56,7 +56,7 @@ fn fill<A: Allocator>(
     match line {
         Line::Told(reply) => Ok((reply, told)),
         Line::Asks => match replies.get(told) {
-            Some(reply) => Ok((Some(reply_line(reply).to_text(alloc)?), told + 1)),
+            Some(reply) => Ok((Some(Outcome::of_reply(reply).to_line(alloc)?), told + 1)),
             None => Ok((None, told)),
         },
     }

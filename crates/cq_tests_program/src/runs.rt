@@ -1,8 +1,8 @@
 //! Runs of one script over devices, and scripts that are read whole.
 
 use crate::devices::{Expecting, Pieces};
-use cq_devices::{Counted, WholeFault, read_whole};
-use cq_report::{Numbering, Ran, RunFault, run};
+use cq_devices::{Counted, Stop, read_whole};
+use cq_report::{Numbering, RunFault, Script, run};
 use std::alloc::{Allocator, Global};
 use std::fmt::Display;
 use std::io::{Read, Write};
@@ -22,7 +22,7 @@ pub fn ran<A: Allocator + Copy, D: Read + Drop, W: Write + Drop>(
 }
 
 /// How the run ended.
-fn end_of<A: Allocator + Copy>(ended: Result<Ran<A>, RunFault>) -> Result<(), RunFault> {
+fn end_of<A: Allocator + Copy>(ended: Result<Script<A>, RunFault>) -> Result<(), RunFault> {
     match ended {
         Ok(ran) => {
             mem::drop(ran);
@@ -73,7 +73,7 @@ pub fn is_whole<A: Allocator, D: Read + Drop>(
     alloc: A,
     device: D,
     expected: &[u8],
-) -> Result<bool, WholeFault> {
+) -> Result<bool, Stop> {
     let bytes = read_whole(alloc, &mut Counted::new(device))?;
     Ok(bytes.as_slice() == expected)
 }

@@ -1,7 +1,7 @@
 //! Texts that are written of the boards which scripts leave: each once, and with each of its allocations refused in turn.
 
 use cq_board::{Board, Limits};
-use cq_devices::{Counted, WholeFault};
+use cq_devices::{Counted, Stop};
 use cq_going::boxed_graph;
 use cq_refusing::{Outcome, Tried, refusals};
 use cq_rel::Catalog;
@@ -148,7 +148,7 @@ fn written<A: Allocator + Copy>(alloc: A, board: &Board<A>, view: View, wanted: 
 }
 
 /// The script read.
-fn played<A: Allocator + Copy>(alloc: A, script: &[u8]) -> Result<Played<A>, WholeFault> {
+fn played<A: Allocator + Copy>(alloc: A, script: &[u8]) -> Result<Played<A>, Stop> {
     read_script(alloc, &mut Counted::new(script))
 }
 
@@ -207,7 +207,7 @@ fn failed_allocation_in_boxed_graph(rt: HostRuntime) {
 }
 
 /// Whether the script leaves the board of that report.
-fn is_left<A: Allocator + Copy>(alloc: A) -> Result<bool, WholeFault> {
+fn is_left<A: Allocator + Copy>(alloc: A) -> Result<bool, Stop> {
     let played = played(alloc, SUPPLIED)?;
     Ok(is_text(alloc, played.board(), View::Report, REPORT)?)
 }
@@ -220,7 +220,7 @@ impl Tried for Playing {
         match is_left(alloc) {
             Ok(right) => Outcome::done_if(right),
             Err(fault) => {
-                Outcome::refused_if(fault == WholeFault::NoMemory && is_left(alloc) == Ok(true))
+                Outcome::refused_if(fault == Stop::NoMemory && is_left(alloc) == Ok(true))
             }
         }
     }

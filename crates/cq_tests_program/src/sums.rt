@@ -1,7 +1,7 @@
 //! What is told of a script beside its replies, with each allocation refused in turn.
 
 use crate::devices::Expecting;
-use cq_devices::{Counted, WholeFault};
+use cq_devices::{Counted, Stop};
 use cq_refusing::{Outcome, Tried, refusals};
 use cq_report::{Numbering, Played, RunFault, put_summary, put_warning, read_script, run};
 use std::alloc::{AllocError, Allocator};
@@ -63,7 +63,7 @@ fn told<A: Allocator + Copy>(alloc: A, played: &Played<A>, words: Words) -> Outc
     }
 }
 
-fn played<A: Allocator + Copy>(alloc: A) -> Result<Played<A>, WholeFault> {
+fn played<A: Allocator + Copy>(alloc: A) -> Result<Played<A>, Stop> {
     read_script(alloc, &mut Counted::new(SCRIPT))
 }
 

@@ -1,7 +1,7 @@
 //! Each allocation of a call refused in turn.
 
 use cq_atom::{Query, Row};
-use cq_devices::{Counted, WholeFault, read_whole};
+use cq_devices::{Counted, Stop, read_whole};
 use cq_refusing::{Outcome, Tried, refusals};
 use cq_text::{
     Form, TextFault, print_atom, print_query, print_row, print_values, push_escaped, read_command,
@@ -181,7 +181,7 @@ impl Read for Letters {
 /// A source read whole.
 struct ReadingWhole;
 
-fn reads_whole<A: Allocator + Copy>(alloc: A) -> Result<bool, WholeFault> {
+fn reads_whole<A: Allocator + Copy>(alloc: A) -> Result<bool, Stop> {
     let bytes = read_whole(alloc, &mut Counted::new(Letters(40)))?;
     Ok(bytes.len() == 40 && bytes.iter().all(|byte| *byte == b'a'))
 }
@@ -191,7 +191,7 @@ impl Tried for ReadingWhole {
         match reads_whole(alloc) {
             Ok(right) => Outcome::done_if(right),
             Err(fault) => Outcome::refused_if(
-                fault == WholeFault::NoMemory && reads_whole(alloc) == Ok(true),
+                fault == Stop::NoMemory && reads_whole(alloc) == Ok(true),
             ),
         }
     }

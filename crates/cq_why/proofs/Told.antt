@@ -5,7 +5,8 @@ use Rattle.cq_rel.specs.Tables.{Declaration}
 use Rattle.cq_board.specs.declared.limits.Limits.{Limits}
 use Rattle.cq_report.specs.Lines.{lines_of, HasNoEnd}
 use Rattle.cq_report.specs.Reading.{Reading, IsReading}
-use Rattle.cq_report.specs.Refusals.{refusal}
+use Rattle.cq_report.specs.declared.refusal.Refusal.{Refusal}
+use Rattle.cq_report.specs.Reply.{refusal}
 use Rattle.cq_report.specs.Machine.{State, form_in, next, staged}
 use Rattle.cq_report.proofs.CallerLemmas.{lines_of_ended, lines_of_open}
 use Rattle.cq_why.specs.Why.{IsWhy, AreWhys}
@@ -16,7 +17,7 @@ module _ (origin : List ℕ) (limits : Limits) (catalog : List Declaration) wher
   IsToldAt state line reading piece = IsWhy origin (state.lines + 1) limits catalog (form_in state) line (refusal (staged state.stage state.heading reading).1) reading piece
 
   -- a line that was heard, and what is told of it
-  pub told_at : (state after : State) (number : ℕ) (form : Form) (line : List ℕ) (refused : Option (List ℕ)) (before page : List ℕ) → form ≡ form_in state
+  pub told_at : (state after : State) (number : ℕ) (form : Form) (line : List ℕ) (refused : Option Refusal) (before page : List ℕ) → form ≡ form_in state
       → ((reading : Reading) → IsReading (form_in state) line reading → (after ≡ next state reading) × (refused ≡ refusal (staged state.stage state.heading reading).1))
       → (reading : Reading) × IsReading form line reading × (piece : List ℕ) × IsWhy origin number limits catalog form line refused reading piece × (page ≡ before ++ piece)
       → (reading : Reading) × IsReading (form_in state) line reading × (after ≡ next state reading)
@@ -25,7 +26,7 @@ module _ (origin : List ℕ) (limits : Limits) (catalog : List Declaration) wher
       let reading = told.0 in
       let is : IsReading (form_in state) line reading = subst (λ (f : Form). IsReading f line reading) same told.1 in
       let why : IsWhy origin number limits catalog (form_in state) line refused reading told.2 = subst (λ (f : Form). IsWhy origin number limits catalog f line refused reading told.2) same told.3 in
-      (reading, is, (heard reading is).0, told.2, subst (λ (r : Option (List ℕ)). IsWhy origin number limits catalog (form_in state) line r reading told.2) (heard reading is).1 why, told.4)
+      (reading, is, (heard reading is).0, told.2, subst (λ (r : Option Refusal). IsWhy origin number limits catalog (form_in state) line r reading told.2) (heard reading is).1 why, told.4)
 
   -- one more line
   pub told_more : (state after : State) (line rest behind : List ℕ) (n k : ℕ) (reading : Reading) (piece text : List ℕ) → rest ≡ line ++ (10 ∷ behind) → HasNoEnd line → suc k ≡ n

@@ -14,9 +14,16 @@ use Rattle.cq_text.specs.declared.form.Form.{Form}
 use Rattle.cq_text.specs.declared.form.Form.TheVariants.{One, Two}
 use Rattle.cq_near.specs.Alike.{distance}
 use Rattle.cq_render.specs.Explain.{ArePieces}
+use Rattle.cq_board.specs.declared.edit.Why.{Why}
+use Rattle.cq_board.specs.declared.edit.Why.TheVariants as whys
 use Rattle.cq_board.specs.declared.limits.Limits.{Limits}
+use Rattle.cq_rel.specs.declared.fault.CatalogFault.{CatalogFault}
+use Rattle.cq_rel.specs.declared.fault.CatalogFault.TheVariants as catalogs
 use Rattle.cq_report.specs.Reading.{Reading, Reads, Faulty, IsReading}
-use Rattle.cq_report.specs.Refusals.{refusal}
+use Rattle.cq_report.specs.declared.refusal.Refusal.{Refusal}
+use Rattle.cq_report.specs.declared.refusal.Refusal.TheVariants.{Text, Late, Catalog, Pool, JournalFull, Memory}
+use Rattle.cq_report.specs.Refusals.{refusal_words}
+use Rattle.cq_report.specs.Reply.{refusal}
 use Rattle.cq_report.specs.Machine.{State, form_in, next, staged}
 
 -- ---- what was expected
@@ -226,14 +233,6 @@ abbrev pub misuse_words : List Declaration → Use → Option ℕ → List ℕ
 misuse_words catalog used None = used.0 ++ (codes ": no such relation" ++ meant (closest used.0 (map relation_of catalog)))
 misuse_words catalog used (Some count) = used.0 ++ (codes " has " ++ (decimal count ++ (columns count ++ (decimal used.1 ++ codes " given"))))
 
--- Why a line of a setup is refused, by the words of its reply, in plainer ones, where there are any.
-abbrev pub plain_of_setup : List ℕ → List ℕ
-plain_of_setup why =
-    if bytes_eq why (codes "Late") then codes "the setup is over, or the form is settled"
-    else (if bytes_eq why (codes "Declared") then codes "the relation is declared already"
-    else (if bytes_eq why (codes "CatalogFull") then codes "64 relations are declared, which is the most"
-    else why))
-
 -- One query, or several; one entry, or several.
 abbrev pub queries_word : ℕ → List ℕ
 queries_word count = if count == 1 then codes "query is" else codes "queries are"
@@ -250,39 +249,67 @@ pool_full most = decimal most ++ (codes " " ++ (queries_word most ++ codes " pen
 abbrev pub journal_full : ℕ → List ℕ
 journal_full most = codes "the journal has " ++ (decimal most ++ (codes " " ++ (entries_word most ++ codes ", which is the limit; see limits")))
 
--- Why a command is refused, likewise; where a limit is in the way, under these limits.
-abbrev pub plain_command : List ℕ → List ℕ
-plain_command why =
-    if bytes_eq why (codes "NameTaken") then codes "a query of this name is pending"
-    else (if bytes_eq why (codes "NoSuchName") then codes "no query of this name is pending"
-    else (if bytes_eq why (codes "RowPresent") then codes "the row is there already"
-    else (if bytes_eq why (codes "RowAbsent") then codes "there is no such row"
-    else (if bytes_eq (take 9 why) (codes "NotAnswer") then codes "heads and postconditions name no relation of the database"
-    else plain_of_setup why))))
+-- Why a relation is not declared, in plainer words than those of the reply, if there are any.
+abbrev pub plain_catalog : CatalogFault → List ℕ
+plain_catalog catalogs.BadName = refusal_words (Catalog catalogs.BadName)
+plain_catalog catalogs.BadArity = refusal_words (Catalog catalogs.BadArity)
+plain_catalog catalogs.Declared = codes "the relation is declared already"
+plain_catalog catalogs.CatalogFull = codes "64 relations are declared, which is the most"
+plain_catalog catalogs.NoMemory = refusal_words (Catalog catalogs.NoMemory)
 
--- Why a command is refused, in plainer words, where there are any; where a limit is in the way, under these limits.
-abbrev pub plain : Limits → List ℕ → List ℕ
-plain limits why =
-    if bytes_eq why (codes "PoolFull") then pool_full limits.pool
-    else (if bytes_eq why (codes "JournalFull") then journal_full limits.journal else plain_command why)
+-- Why the pool refuses an edit, likewise, under these limits.
+abbrev pub plain_pool : Limits → Why → List ℕ
+plain_pool limits whys.PoolFull = pool_full limits.pool
+plain_pool limits whys.NameTaken = codes "a query of this name is pending"
+plain_pool limits (whys.NotAnswer part place) = codes "heads and postconditions name no relation of the database"
+plain_pool limits (whys.UnknownRelation place) = refusal_words (Pool (whys.UnknownRelation place))
+plain_pool limits (whys.Arity place) = refusal_words (Pool (whys.Arity place))
+plain_pool limits whys.NoSuchName = codes "no query of this name is pending"
+plain_pool limits whys.RowPresent = codes "the row is there already"
+plain_pool limits whys.RowAbsent = codes "there is no such row"
 
--- The reply says that a relation is not declared, or has another number of columns.
-abbrev pub is_of_relation : List ℕ → Bool
-is_of_relation why = bytes_eq (take 15 why) (codes "UnknownRelation") || bytes_eq (take 5 why) (codes "Arity")
+-- Why a command is refused, likewise.
+abbrev pub plain : Limits → Refusal → List ℕ
+plain limits (Text kind offset) = refusal_words (Text kind offset)
+plain limits Late = codes "the setup is over, or the form is settled"
+plain limits (Catalog fault) = plain_catalog fault
+plain limits (Pool why) = plain_pool limits why
+plain limits JournalFull = journal_full limits.journal
+plain limits Memory = refusal_words Memory
+
+-- The pool refuses an edit since a relation is not declared, or has another number of columns.
+abbrev pub is_misuse : Why → Bool
+is_misuse whys.PoolFull = false
+is_misuse whys.NameTaken = false
+is_misuse (whys.NotAnswer part place) = false
+is_misuse (whys.UnknownRelation place) = true
+is_misuse (whys.Arity place) = true
+is_misuse whys.NoSuchName = false
+is_misuse whys.RowPresent = false
+is_misuse whys.RowAbsent = false
+
+-- The same of a refusal.
+abbrev pub is_of_relation : Refusal → Bool
+is_of_relation (Text kind offset) = false
+is_of_relation Late = false
+is_of_relation (Catalog fault) = false
+is_of_relation (Pool why) = is_misuse why
+is_of_relation JournalFull = false
+is_of_relation Memory = false
 
 -- Why a command is refused: for its first misused relation, or in the words of its reply.
-abbrev pub command_words : Limits → List Declaration → Option Use → List ℕ → List ℕ
+abbrev pub command_words : Limits → List Declaration → Option Use → Refusal → List ℕ
 command_words limits catalog None why = plain limits why
 command_words limits catalog (Some used) why = if is_of_relation why then misuse_words catalog used (arity_in catalog used.0) else plain limits why
 
 -- The line that tells of a command, if it is refused.
-abbrev pub command_line : List ℕ → ℕ → Limits → List Declaration → Option Use → List ℕ → Option (List ℕ) → List ℕ
+abbrev pub command_line : List ℕ → ℕ → Limits → List Declaration → Option Use → List ℕ → Option Refusal → List ℕ
 command_line origin number limits catalog used line None = []
 command_line origin number limits catalog used line (Some why) =
     codes "board: " ++ (origin ++ (codes "line " ++ (decimal number ++ (codes ": " ++ (command_words limits catalog used why ++ (codes ": " ++ (shown (take 40 line) ++ codes "\n")))))))
 
 -- What is told of a line, by its reading, and why it is refused, where it is.
-abbrev pub IsWhy : List ℕ → ℕ → Limits → List Declaration → Form → List ℕ → Option (List ℕ) → Reading → List ℕ → Type 0
+abbrev pub IsWhy : List ℕ → ℕ → Limits → List Declaration → Form → List ℕ → Option Refusal → Reading → List ℕ → Type 0
 IsWhy origin number limits catalog form line refused (Reads command) text = text ≡ command_line origin number limits catalog (misused catalog (uses_of command)) line refused
 IsWhy origin number limits catalog form line refused (Faulty kind offset) text =
     (words : List ℕ) × IsHint form kind (take offset line) (drop offset line) words × (text ≡ why_line origin number words (take offset line) (drop offset line))

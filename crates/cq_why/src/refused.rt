@@ -1,49 +1,14 @@
 //! Commands that are refused.
 
-ghost use Rattle.std.specs.Prelude.{◌≡◌, ◌++◌, ◌||◌, codes, string_bytes, OnOk, option_map};
-ghost use Rattle.std.specs.Str.{bytes_eq};
-ghost use Rattle.cq_why.specs.Why.{queries_word, entries_word, pool_full, journal_full, plain, plain_command, plain_of_setup, is_of_relation, command_words, command_line};
+ghost use Rattle.std.specs.Prelude.{◌≡◌, ◌++◌, string_bytes, OnOk, option_map};
+ghost use Rattle.cq_why.specs.Why.{queries_word, entries_word, pool_full, journal_full, plain, plain_catalog, plain_pool, is_of_relation, command_words, command_line};
 
-use crate::found::{first_bytes, put_shown, shortened};
+use crate::found::{put_shown, shortened};
 use crate::misuse::{Use, put_words};
-use cq_board::Limits;
-use cq_rel::Catalog;
+use cq_board::{Limits, Why};
+use cq_rel::{Catalog, CatalogFault};
 use cq_report::Refusal;
 use std::alloc::{AllocError, Allocator};
-
-/// Why a line of a setup is refused, in plainer words than those of its reply, where there are any.
-fn plain_of_setup(why: &str) -> &str
-    ensures { result.now ≡ plain_of_setup why.now }
-{
-    if why == "Late" {
-        "the setup is over, or the form is settled"
-    } else if why == "Declared" {
-        "the relation is declared already"
-    } else if why == "CatalogFull" {
-        "64 relations are declared, which is the most"
-    } else {
-        why
-    }
-}
-
-/// Why a command is refused, likewise, where no limit is told.
-fn plain(why: &str) -> &str
-    ensures { result.now ≡ plain_command why.now }
-{
-    if why == "NameTaken" {
-        "a query of this name is pending"
-    } else if why == "NoSuchName" {
-        "no query of this name is pending"
-    } else if why == "RowPresent" {
-        "the row is there already"
-    } else if why == "RowAbsent" {
-        "there is no such row"
-    } else if first_bytes(why.as_bytes(), 9) == b"NotAnswer".as_slice() {
-        "heads and postconditions name no relation of the database"
-    } else {
-        plain_of_setup(why)
-    }
-}
 
 fn queries_word(count: usize) -> &'static str
     ensures { result.now ≡ queries_word count }
@@ -83,49 +48,70 @@ fn put_journal_full<A: Allocator>(most: usize, page: &mut String<A>) -> Result<(
     )
 }
 
-/// Puts why a command is refused, in plainer words than those of its reply, where there are any.
+/// Puts why a relation is not declared, in plainer words than those of its reply, if there are any.
+fn put_plain_catalog<A: Allocator>(
+    fault: CatalogFault,
+    page: &mut String<A>,
+) -> Result<(), AllocError>
+    ensures { OnOk result (string_bytes page.new ≡ string_bytes page.old ++ plain_catalog fault) }
+{
+    match fault {
+        CatalogFault::Declared => page.push_str("the relation is declared already"),
+        CatalogFault::CatalogFull => {
+            page.push_str("64 relations are declared, which is the most")
+        }
+        CatalogFault::BadName | CatalogFault::BadArity | CatalogFault::NoMemory => {
+            Refusal::Catalog(fault).put(page)
+        }
+    }
+}
+
+/// Puts why the pool refuses an edit, likewise.
+fn put_plain_pool<A: Allocator>(
+    limits: Limits,
+    why: Why,
+    page: &mut String<A>,
+) -> Result<(), AllocError>
+    ensures { OnOk result (string_bytes page.new ≡ string_bytes page.old ++ plain_pool limits why) }
+{
+    match why {
+        Why::PoolFull => put_pool_full(limits.pool, page),
+        Why::NameTaken => page.push_str("a query of this name is pending"),
+        Why::NotAnswer { .. } => {
+            page.push_str("heads and postconditions name no relation of the database")
+        }
+        Why::UnknownRelation { .. } | Why::Arity { .. } => Refusal::Pool(why).put(page),
+        Why::NoSuchName => page.push_str("no query of this name is pending"),
+        Why::RowPresent => page.push_str("the row is there already"),
+        Why::RowAbsent => page.push_str("there is no such row"),
+    }
+}
+
+/// Puts why a command is refused, likewise.
 fn put_plain<A: Allocator>(
     limits: Limits,
-    why: &str,
+    why: Refusal,
     page: &mut String<A>,
 ) -> Result<(), AllocError>
-    ensures { OnOk result (string_bytes page.new ≡ string_bytes page.old ++ plain limits why.now) }
+    ensures { OnOk result (string_bytes page.new ≡ string_bytes page.old ++ plain limits why) }
 {
-    if why == "PoolFull" {
-        put_pool_full(limits.pool, page)
-    } else if why == "JournalFull" {
-        put_journal_full(limits.journal, page)
-    } else {
-        page.push_str(plain(why))
+    match why {
+        Refusal::Late => page.push_str("the setup is over, or the form is settled"),
+        Refusal::Catalog(fault) => put_plain_catalog(fault, page),
+        Refusal::Pool(why) => put_plain_pool(limits, why, page),
+        Refusal::JournalFull => put_journal_full(limits.journal, page),
+        Refusal::Text { .. } | Refusal::Memory => why.put(page),
     }
 }
 
-/// Whether the reply says that a relation is not declared, or has another number of columns.
-fn is_of_relation(why: &str) -> bool
-    ensures { result ≡ is_of_relation why.now }
+/// Returns true if a relation is not declared, or has another number of columns.
+fn is_of_relation(why: Refusal) -> bool
+    ensures { result ≡ is_of_relation why }
 {
-    let why = why.as_bytes();
-    first_bytes(why, 15) == b"UnknownRelation".as_slice()
-        || first_bytes(why, 5) == b"Arity".as_slice()
-}
-
-/// Puts why a command is refused, whose reply says so.
-fn put_words_of<A: Allocator + Copy>(
-    alloc: A,
-    limits: Limits,
-    catalog: &Catalog<A>,
-    used: Option<Use<'_>>,
-    why: &str,
-    page: &mut String<A>,
-) -> Result<(), AllocError>
-    ensures { OnOk result (string_bytes page.new ≡ string_bytes page.old ++ command_words limits catalog.now (option_map (λ used. (used.relation.now, used.count)) used.entry) why.now) }
-{
-    match used {
-        Some(used) if is_of_relation(why) => {
-            put_words(alloc, catalog, used.relation, used.count, page)
-        }
-        _ => put_plain(limits, why, page),
-    }
+    matches!(
+        why,
+        Refusal::Pool(Why::UnknownRelation { .. } | Why::Arity { .. })
+    )
 }
 
 /// Puts why a command is refused.
@@ -134,14 +120,17 @@ fn put_command_words<A: Allocator + Copy>(
     limits: Limits,
     catalog: &Catalog<A>,
     used: Option<Use<'_>>,
-    why: &Refusal,
+    why: Refusal,
     page: &mut String<A>,
 ) -> Result<(), AllocError>
-    ensures { OnOk result (string_bytes page.new ≡ string_bytes page.old ++ command_words limits catalog.now (option_map (λ used. (used.relation.now, used.count)) used.entry) why.now) }
+    ensures { OnOk result (string_bytes page.new ≡ string_bytes page.old ++ command_words limits catalog.now (option_map (λ used. (used.relation.now, used.count)) used.entry) why) }
 {
-    let mut words = String::new(alloc);
-    why.put(&mut words)?;
-    put_words_of(alloc, limits, catalog, used, words.as_str(), page)
+    match used {
+        Some(used) if is_of_relation(why) => {
+            put_words(alloc, catalog, used.relation, used.count, page)
+        }
+        _ => put_plain(limits, why, page),
+    }
 }
 
 /// Puts the line that tells of a command, if it is refused.
@@ -162,7 +151,7 @@ pub(crate) fn put_refused<A: Allocator + Copy>(
         return Ok(());
     };
     write!(page, "board: {origin}line {number}: ")?;
-    put_command_words(alloc, limits, catalog, used, &why, page)?;
+    put_command_words(alloc, limits, catalog, used, why, page)?;
     page.push_str(": ")?;
     put_shown(page, shortened(line))?;
     page.push_str("\n")

@@ -6,7 +6,8 @@ ghost use Rattle.cq_board.specs.declared.limits.Limits.{Limits};
 ghost use Rattle.cq_report.specs.Lines.{lines_of, HasNoEnd};
 ghost use Rattle.cq_report.specs.declared.numbering.Numbering.TheVariants.{Plain};
 ghost use Rattle.cq_report.specs.Reading.{Reading, Reads, Faulty, IsReading};
-ghost use Rattle.cq_report.specs.Refusals.{refusal};
+ghost use Rattle.cq_report.specs.Reply.{refusal};
+ghost use Rattle.cq_report.specs.declared.refusal.Refusal as refusals;
 ghost use Rattle.cq_report.specs.Machine.{begin_state, form_in, next, staged};
 ghost use Rattle.cq_why.specs.Why.{IsHint, IsWhy, AreWhys, why_line};
 
@@ -16,7 +17,7 @@ use crate::misuse::misused;
 use crate::refused::put_refused;
 use cq_board::Limits;
 use cq_rel::Catalog;
-use cq_report::{Hearing, Refusal, first_line};
+use cq_report::{Numbering, Refusal, Script, first_line};
 use cq_text::{Form, Kind, TextFault, read_command};
 use std::alloc::{AllocError, Allocator};
 
@@ -63,7 +64,7 @@ fn put_faulty<A: Allocator + Copy>(
     offset: usize,
     page: &mut String<A>,
 ) -> Result<(), AllocError>
-    ensures { OnOk result ((limits : Limits) (catalog : List Declaration) (refused : Option (List ℕ)) → (piece : List ℕ) × IsWhy origin.now number limits catalog form line.now refused (Faulty kind offset) piece × (string_bytes page.new ≡ string_bytes page.old ++ piece)) }
+    ensures { OnOk result ((limits : Limits) (catalog : List Declaration) (refused : Option refusals.Refusal) → (piece : List ℕ) × IsWhy origin.now number limits catalog form line.now refused (Faulty kind offset) piece × (string_bytes page.new ≡ string_bytes page.old ++ piece)) }
 {
     let (front, rest) = parted(line, offset);
     put_why(alloc, origin, number, form, kind, front, rest, page)
@@ -104,15 +105,15 @@ fn put_line<A: Allocator + Copy>(
     number: u64,
     limits: Limits,
     catalog: &Catalog<A>,
-    hearing: &mut Hearing<A>,
+    heard: &mut Script<A>,
     line: &[u8],
     page: &mut String<A>,
 ) -> Result<(), AllocError>
-    requires { hearing.old.lines + 1 ≡ number }
-    ensures { OnOk result ((reading : Reading) × IsReading (form_in hearing.old) line.now reading × (hearing.new ≡ next hearing.old reading) × (piece : List ℕ) × IsWhy origin.now number limits catalog.now (form_in hearing.old) line.now (refusal (staged hearing.old.stage hearing.old.heading reading).1) reading piece × (string_bytes page.new ≡ string_bytes page.old ++ piece)) }
+    requires { heard.old.lines + 1 ≡ number }
+    ensures { OnOk result ((reading : Reading) × IsReading (form_in heard.old) line.now reading × (heard.new ≡ next heard.old reading) × (piece : List ℕ) × IsWhy origin.now number limits catalog.now (form_in heard.old) line.now (refusal (staged heard.old.stage heard.old.heading reading).1) reading piece × (string_bytes page.new ≡ string_bytes page.old ++ piece)) }
 {
-    let form = hearing.form();
-    let refused = hearing.hear(line)?;
+    let form = heard.form();
+    let refused = heard.hear(line)?;
     put_refusal(
         alloc, origin, number, limits, catalog, form, line, refused, page,
     )
@@ -125,18 +126,18 @@ fn put_last<A: Allocator + Copy>(
     number: u64,
     limits: Limits,
     catalog: &Catalog<A>,
-    hearing: &mut Hearing<A>,
+    heard: &mut Script<A>,
     line: &[u8],
     page: &mut String<A>,
 ) -> Result<(), AllocError>
     requires end { HasNoEnd line.now }
-    requires number { hearing.old.lines + 1 ≡ number }
-    ensures { OnOk result ((text : List ℕ) × AreWhys origin.now limits catalog.now hearing.old (lines_of line.now) text × (string_bytes page.new ≡ string_bytes page.old ++ text)) }
+    requires number { heard.old.lines + 1 ≡ number }
+    ensures { OnOk result ((text : List ℕ) × AreWhys origin.now limits catalog.now heard.old (lines_of line.now) text × (string_bytes page.new ≡ string_bytes page.old ++ text)) }
 {
     if line.is_empty() {
         return Ok(());
     }
-    put_line(alloc, origin, number, limits, catalog, hearing, line, page)
+    put_line(alloc, origin, number, limits, catalog, heard, line, page)
 }
 
 /// Puts a line for each line of a script that is refused, with its number and what is wrong with it, on an empty page: behind `board: ` and the words
@@ -159,7 +160,7 @@ pub fn put_whys<A: Allocator + Copy>(
 ) -> Result<(), AllocError>
     ensures { string_bytes page.old ≡ [] → OnOk result (AreWhys origin.now limits catalog.now (begin_state Plain) (take most (lines_of script.now)) (string_bytes page.new)) }
 {
-    let mut hearing = Hearing::begin(alloc);
+    let mut heard = Script::begin(alloc, Numbering::Plain);
     let mut rest = script;
     for number in 0..most {
         let Some((line, behind)) = first_line(rest) else {
@@ -169,7 +170,7 @@ pub fn put_whys<A: Allocator + Copy>(
                 number + 1,
                 limits,
                 catalog,
-                &mut hearing,
+                &mut heard,
                 rest,
                 page,
             );
@@ -180,7 +181,7 @@ pub fn put_whys<A: Allocator + Copy>(
             number + 1,
             limits,
             catalog,
-            &mut hearing,
+            &mut heard,
             line,
             page,
         )?;

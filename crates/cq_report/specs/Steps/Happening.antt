@@ -14,12 +14,6 @@ abbrev pub IsNoLook : Event Edit → Type 0
 IsNoLook (events.Look session) = ⊥
 IsNoLook _ = ⊤
 
--- The reply to the answer is not one line.
-abbrev pub HasNoLine : Answer Why → Type 0
-HasNoLine (answers.Looked count) = ⊤
-HasNoLine (answers.Heard count) = ⊤
-HasNoLine _ = ⊥
-
 -- The answer is no board.
 abbrev pub IsNoBoard : Answer Why → Type 0
 IsNoBoard (answers.Looked count) = ⊥

@@ -3,7 +3,7 @@ use Rattle.std.specs.Prelude.{◌≡◌, ◌≤◌, ◌⊎◌, ℕ, Bool, true, 
 use Rattle.std.specs.Io.KnownBytes.{Consumes, IsAtEnd}
 use Rattle.cq_devices.specs.Limits.{max_piece}
 use Rattle.cq_report.specs.declared.output.Output.{Output}
-use Rattle.cq_report.specs.declared.fault.RunFault.{RunFault}
+use Rattle.cq_devices.specs.declared.stop.Stop.{Stop}
 use Rattle.cq_report.specs.Machine.{State}
 use Rattle.cq_report.specs.Output.{IsRefusedLast}
 use Rattle.cq_report.specs.Refusals.{no_refusal}
@@ -38,7 +38,7 @@ pub record BrokeOff {W A : Type 0} (taken : W → Option (List ℕ)) (failures :
   pub held : now.held.now.items ≡ []
 
 -- Bytes were read, and a fault came while they were served.
-pub record Ended {W A : Type 0} (taken : W → Option (List ℕ)) (failures : W → ℕ) (opening : State) (left left' : Option (List ℕ)) (first now : Output W A) (fault : RunFault) : Type 0 where
+pub record Ended {W A : Type 0} (taken : W → Option (List ℕ)) (failures : W → ℕ) (opening : State) (left left' : Option (List ℕ)) (first now : Output W A) (fault : Stop) : Type 0 where
   pub bytes : List ℕ
   pub read : Consumes left left' bytes
   pub stopped : Stopped taken failures first opening now bytes fault

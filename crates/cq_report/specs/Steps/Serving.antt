@@ -1,7 +1,7 @@
 -- How far the lines of a script have been answered.
 use Rattle.std.specs.Prelude.{◌≡◌, ℕ, Bool, true, false, List, [], ◌∷◌, ◌++◌, Option}
 use Rattle.cq_report.specs.declared.output.Output.{Output}
-use Rattle.cq_report.specs.declared.fault.RunFault.{RunFault}
+use Rattle.cq_devices.specs.declared.stop.Stop.{Stop}
 use Rattle.cq_report.specs.Lines.{lines_of, HasNoEnd}
 use Rattle.cq_report.specs.Reading.{Reading}
 use Rattle.cq_report.specs.Machine.{State}
@@ -42,7 +42,7 @@ pub record Finished {W A : Type 0} (taken : W → Option (List ℕ)) (failures :
   pub all : Answered taken failures first opening (lines_of bytes) now state
 
 -- A fault came while the bytes were served: a front of their output is written.
-abbrev pub Stopped : {W A : Type 0} → (W → Option (List ℕ)) → (W → ℕ) → Output W A → State → Output W A → List ℕ → RunFault → Type 0
+abbrev pub Stopped : {W A : Type 0} → (W → Option (List ℕ)) → (W → ℕ) → Output W A → State → Output W A → List ℕ → Stop → Type 0
 Stopped taken failures first opening now bytes fault = (rs : List Reading) → AreReadFrom opening.heading (lines_of bytes) rs → Breaks taken failures first now (output_from opening rs) fault
 
 -- Some bytes more were served, whatever was served before them.
@@ -64,7 +64,7 @@ FeedsOn is_strict false taken failures old new state state' line line' piece = S
 FeedsOn is_strict true taken failures old new state state' line line' piece = HaltsOn taken failures old new state state' line line' piece × (is_strict ≡ true)
 
 -- A fault came while some bytes more were served, whatever was served before them.
-abbrev pub StopsOn : {W A : Type 0} → (W → Option (List ℕ)) → (W → ℕ) → (old new : Output W A) → State → (line piece : List ℕ) → RunFault → Type 0
+abbrev pub StopsOn : {W A : Type 0} → (W → Option (List ℕ)) → (W → ℕ) → (old new : Output W A) → State → (line piece : List ℕ) → Stop → Type 0
 StopsOn {W} {A} taken failures old new state line piece fault =
     (first : Output W A) (opening : State) (bytes : List ℕ) → Served taken failures first opening old state line bytes → Stopped taken failures first opening new (bytes ++ piece) fault
 

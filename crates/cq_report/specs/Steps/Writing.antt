@@ -3,10 +3,9 @@ use Rattle.std.proofs.Common.{◌≡◌, ℕ, ◌+◌, List, [], ◌++◌, Optio
 use Rattle.std.specs.Io.KnownBytes.{Appends}
 use Rattle.std.proofs.KnownBytes.{Appends-trans, Appends-nil}
 use Rattle.cq_report.specs.declared.output.Output.{Output}
-use Rattle.cq_report.specs.declared.fault.RunFault.{RunFault}
-use Rattle.cq_report.specs.declared.fault.RunFault.TheVariants as faults
-use Rattle.cq_devices.specs.Device.{TakesFront}
-use Rattle.cq_report.specs.Run.{failures_of}
+use Rattle.cq_devices.specs.declared.stop.Stop.{Stop}
+use Rattle.cq_devices.specs.declared.stop.Stop.TheVariants as faults
+use Rattle.cq_devices.specs.Device.{TakesFront, write_failures_of}
 use Rattle.cq_report.specs.Steps.Written.{Passes, Puts, Breaks}
 
 pub Passes-nothing : (taken : Option (List ℕ)) (held : List ℕ) → Passes taken taken held [] held
@@ -60,14 +59,14 @@ module _ {W A : Type 0} (taken : W → Option (List ℕ)) (failures : W → ℕ)
     passed = Passes-then _ _ _ _ _ _ x y p.passed q.passed;
   }
 
-  pub Puts-breaks : (a b c : Output W A) (x y : List ℕ) (fault : RunFault) → Puts taken failures a b x → Breaks taken failures b c y fault → Breaks taken failures a c (x ++ y) fault
+  pub Puts-breaks : (a b c : Output W A) (x y : List ℕ) (fault : Stop) → Puts taken failures a b x → Breaks taken failures b c y fault → Breaks taken failures a c (x ++ y) fault
   Puts-breaks a b c x y fault p q = record {
     writer = q.writer ∙ p.writer;
-    failed = q.failed ∙ ap (λ (n : ℕ). n + failures_of fault) p.failed;
+    failed = q.failed ∙ ap (λ (n : ℕ). n + write_failures_of fault) p.failed;
     took = Passes-front _ _ _ _ _ x y p.passed q.took;
   }
 
-  pub Breaks-more : (a b : Output W A) (x y : List ℕ) (fault : RunFault) → Breaks taken failures a b x fault → Breaks taken failures a b (x ++ y) fault
+  pub Breaks-more : (a b : Output W A) (x y : List ℕ) (fault : Stop) → Breaks taken failures a b x fault → Breaks taken failures a b (x ++ y) fault
   Breaks-more a b x y fault p = record {
     writer = p.writer;
     failed = p.failed;
@@ -75,7 +74,7 @@ module _ {W A : Type 0} (taken : W → Option (List ℕ)) (failures : W → ℕ)
   }
 
   -- a fault that is none of the writer's, after some bytes had been put
-  pub Puts-cut : (a b : Output W A) (x y : List ℕ) (fault : RunFault) → failures_of fault ≡ 0 → Puts taken failures a b x → Breaks taken failures a b (x ++ y) fault
+  pub Puts-cut : (a b : Output W A) (x y : List ℕ) (fault : Stop) → write_failures_of fault ≡ 0 → Puts taken failures a b x → Breaks taken failures a b (x ++ y) fault
   Puts-cut a b x y fault none p = record {
     writer = p.writer;
     failed = p.failed ∙ omega (arith, none);

@@ -7,7 +7,7 @@ use Rattle.cq_report.specs.Lines.{lines_of}
 use Rattle.cq_report.specs.Reading.{Reading, IsReading, AreReadIn}
 use Rattle.cq_report.specs.declared.numbering.Numbering.TheVariants.{Plain}
 use Rattle.cq_report.specs.Machine.{SetupRecord, begin_state, form_of, headed, staged}
-use Rattle.cq_report.specs.Reply.{told_lines}
+use Rattle.cq_report.specs.Reply.{outcome_line}
 use Rattle.cq_report.specs.Output.{AreReadings}
 use Rattle.cq_sessions.specs.Sessions.{is_of_setup, IsSetBy, BeginsBoard, setup_sheet, told_or_none}
 use Rattle.cq_sessions.specs.Steps.Sheets.{SheetRecord, blank}
@@ -16,7 +16,7 @@ use Rattle.cq_sessions.specs.Steps.Sheets.{SheetRecord, blank}
 pub record Sets (heading : Option Form) (setup : SetupRecord) (sheet : SheetRecord) (setup' : SetupRecord) (sheet' : SheetRecord) (reading : Reading) : Type 0 where
   pub of_setup : is_of_setup reading ≡ true
   pub stage : (staged (stages.Setup setup) heading reading).0 ≡ stages.Setup setup'
-  pub told : sheet' ≡ record sheet { batch = sheet.batch ++ Told (told_or_none (told_lines (staged (stages.Setup setup) heading reading).1)) ∷ [] }
+  pub told : sheet' ≡ record sheet { batch = sheet.batch ++ Told (told_or_none (outcome_line (staged (stages.Setup setup) heading reading).1)) ∷ [] }
 
 -- The command is none of a setup, and nothing was done.
 pub record Stays (setup : SetupRecord) (sheet : SheetRecord) (setup' : SetupRecord) (sheet' : SheetRecord) (reading : Reading) : Type 0 where

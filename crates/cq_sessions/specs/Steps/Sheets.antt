@@ -11,7 +11,7 @@ use Rattle.cq_text.specs.declared.form.Form.{Form}
 use Rattle.cq_report.specs.Lines.{lines_of}
 use Rattle.cq_report.specs.Reading.{Reading, IsReading, AreReadIn}
 use Rattle.cq_sessions.specs.Script.{Sheet}
-use Rattle.cq_report.specs.Reply.{reply_line}
+use Rattle.cq_report.specs.Reply.{reply_outcome, outcome_line}
 use Rattle.cq_sessions.specs.Sessions.{Served}
 
 -- The replies to the lines before the batch, the lines of the batch, the edits of the batch that wait, and the numbers that edits before the batch were told.
@@ -52,7 +52,7 @@ abbrev pub filled : List (Line (List ℕ)) → List (Reply Why) → Sheet
 filled [] rs = []
 filled (Told reply ∷ lines) rs = reply ∷ filled lines rs
 filled (Asks ∷ lines) [] = None ∷ filled lines []
-filled (Asks ∷ lines) (r ∷ rs) = Some (reply_line r) ∷ filled lines rs
+filled (Asks ∷ lines) (r ∷ rs) = Some (outcome_line (reply_outcome r)) ∷ filled lines rs
 
 -- The replies to all lines so far, where the edits that wait have these.
 abbrev pub whole : SheetRecord → List (Reply Why) → Sheet

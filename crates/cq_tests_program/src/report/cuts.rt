@@ -3,7 +3,7 @@
 use crate::devices::{Endless, Expecting, Failing, Pieces};
 use crate::report::worked::{answers, script};
 use crate::runs::{Told, WELL, is_whole, told, told_of};
-use cq_devices::WholeFault;
+use cq_devices::Stop;
 use cq_report::{Numbering, RunFault};
 use std::alloc::{AllocError, Global};
 use std::test::Fail;
@@ -59,7 +59,7 @@ fn kramer_and_jerry(rt: HostRuntime) -> Result<(), Fail> {
 /// Whether the read after so many good ones of three bytes is reported to have failed, and the whole lines before it are answered.
 fn is_failure_told(alloc: Global, script: &[u8], good: u32) -> Result<bool, AllocError> {
     let expected = answers(alloc, (good as usize).saturating_mul(3), false)?;
-    let turn = good.saturating_add(1);
+    let turn = u64::from(good).saturating_add(1);
     let writer = Expecting::new(expected.as_bytes(), usize::MAX);
     let told = told(
         alloc,
@@ -68,7 +68,7 @@ fn is_failure_told(alloc: Global, script: &[u8], good: u32) -> Result<bool, Allo
         writer,
     );
     let whole = is_whole(alloc, Failing::new(script, 3, good), &[]);
-    Ok(told == (Err(RunFault::Read { turn }), 0, 0) && whole == Err(WholeFault::Read { turn }))
+    Ok(told == (Err(RunFault::Read { turn }), 0, 0) && whole == Err(Stop::Read { turn }))
 }
 
 /// How many good reads come before a failure that is reported otherwise. After the last of them the script is at its end.
@@ -116,5 +116,5 @@ fn endless_reader(rt: HostRuntime) {
     let writer = Expecting::new(b"", usize::MAX);
     let told = told(rt.alloc(), Numbering::Plain, Endless, writer);
     assert!(rt; told == (Err(RunFault::Read { turn }), 0, 0));
-    assert!(rt; is_whole(rt.alloc(), Endless, b"") == Err(WholeFault::Read { turn }));
+    assert!(rt; is_whole(rt.alloc(), Endless, b"") == Err(Stop::Read { turn }));
 }

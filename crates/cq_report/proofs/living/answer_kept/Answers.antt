@@ -12,4 +12,4 @@ returns-in-Some-clause-ok g c =
 pub returns-in-Some-clause-err : goal.returns-in-Some-clause-err
 returns-in-Some-clause-err g c =
     let is : c.args.line.now ≡ Some c.in-Some.bytes.now = sym c.in-Some.ensures in
-    on_err_weaker c.answer.result (λ breaks pending keeps. TurnBreaks-kept _ _ _ _ _ c.args.life.now c.in-Some.bytes.now pending (subst (λ (line : Option (List ℕ)). Keeps line pending) is keeps) breaks) c.answer.ensures.err
+    on_err_weaker c.answer.result (λ breaks pending keeps. TurnBreaks-kept _ _ _ _ _ c.args.script.now c.in-Some.bytes.now pending (subst (λ (line : Option (List ℕ)). Keeps line pending) is keeps) breaks) c.answer.ensures.err

@@ -20,7 +20,7 @@ returns-in_err-answer_end-clause-err g c =
     let i = c.loop-last.invariant in
     let after = c.in-Some.after.now in
     rw p.1
-    (subst (λ (k : List ℕ). BreaksOn g.W.Sink.taken g.W.Sink.write_failures c.args.output.now c.answer_end.new.output c.args.life.now c.args.line.now k)
+    (subst (λ (k : List ℕ). BreaksOn g.W.Sink.taken g.W.Sink.write_failures c.args.output.now c.answer_end.new.output c.args.script.now c.args.line.now k)
     (cut_on i.done c.loop-last.rest.now c.in-Some.last.now after c.args.piece.now i.cut c.in-Some.ensures.cut)
     (BreaksOn-then _ _ _ _ _ _ _ _ _ i.done _ i.on (c.in_err-answer_end.ensures.err after)))
 
@@ -51,5 +51,5 @@ loop-last-preserved g c =
 pub returns-clause-ok : goal.returns-clause-ok
 returns-clause-ok g c =
     let i = c.loop-last.invariant in
-    subst (λ (k : List ℕ). LivesOn g.W.Sink.taken g.W.Sink.write_failures c.args.output.now c.loop-last.output c.args.life.now c.loop-last.life c.args.line.now c.extend.new.self k) i.cut
+    subst (λ (k : List ℕ). LivesOn g.W.Sink.taken g.W.Sink.write_failures c.args.output.now c.loop-last.output c.args.script.now c.loop-last.script c.args.line.now c.extend.new.self k) i.cut
     (LivesOn-then _ _ _ _ _ _ _ _ _ _ _ i.done c.loop-last.rest.now i.on (LivesOn-front _ _ _ _ _ _ c.loop-last.rest.now c.in_default.ensures.none c.extend.ensures))

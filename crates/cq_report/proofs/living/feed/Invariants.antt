@@ -9,8 +9,8 @@ abbrev pub invariant-loop-last : goal.invariant-loop-last
 invariant-loop-last g l = record {
   done : List ℕ;
   cut : done ++ l.rest ≡ l.piece;
-  on : LivesOn g.W.Sink.taken g.W.Sink.write_failures l.fn.output l.output l.fn.life l.life l.fn.line l.line done;
-  counted : lines_before l.life.state + length l.rest ≤ lines_before l.fn.life.state + length l.piece;
+  on : LivesOn g.W.Sink.taken g.W.Sink.write_failures l.fn.output l.output l.fn.script l.script l.fn.line l.line done;
+  counted : lines_before l.script + length l.rest ≤ lines_before l.fn.script + length l.piece;
   sound : IsSound g.W.Sink.write_failures l.fn.output l.output;
 }
 

@@ -29,7 +29,7 @@ returns-in_default-clause-err g c =
     record {
       bytes = i.bytes;
       read = Consumes-kept _ _ _ _ i.read c.in_default.ensures.bytes;
-      state = c.loop-i.life;
+      state = c.loop-i.script;
       line = c.loop-i.line;
       lived = i.lived;
       held = i.held;
@@ -134,7 +134,7 @@ returns-clause-err g c =
     record {
       bytes = i.bytes;
       read = i.read;
-      state = c.loop-i.life;
+      state = c.loop-i.script;
       line = c.loop-i.line;
       lived = i.lived;
       held = i.held;

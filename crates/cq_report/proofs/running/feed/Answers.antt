@@ -1,7 +1,6 @@
 use Rattle.std.proofs.Common.{◌∷◌, ◌++◌, ◌∙◌, [], ℕ, List, length, refl, ap, sym, subst, length-append, arith}
 use Rattle.std.proofs.lemmas.Result.{err_from_is_err_and}
-use Rattle.cq_report.specs.declared.fault.RunFault.TheVariants.{NoMemory}
-use Rattle.cq_report.specs.Steps.Replies.{fault_of_reply}
+use Rattle.cq_devices.specs.declared.stop.Stop.TheVariants.{NoMemory}
 use Rattle.cq_report.specs.Steps.Serving.{ServesOn, StopsOn}
 use Rattle.cq_report.proofs.Served.{cut_on, cut_past, ServesOn-nothing, ServesOn-then, ServesOn-front, StopsOn-then, StopsOn-starved, IsSound-nothing, IsSound-then}
 use Rattle.cq_report.specs.Steps.Writing.{Puts-nothing}
@@ -26,7 +25,7 @@ returns-in_err-serve_line-clause-err g c =
     let i = c.loop-last.invariant in
     let behind = c.in-Some.behind.now in
     rw (p.1, p.2)
-    (subst (λ (k : List ℕ). StopsOn g.W.Sink.taken g.W.Sink.write_failures c.args.output.now c.serve_line.new.output c.args.machine.now c.args.line.now k (fault_of_reply c.in_err-serve_line.field-0.0))
+    (subst (λ (k : List ℕ). StopsOn g.W.Sink.taken g.W.Sink.write_failures c.args.output.now c.serve_line.new.output c.args.script.now c.args.line.now k c.in_err-serve_line.field-0.0)
     (cut_on i.done c.loop-last.rest.now c.in-Some.last.now behind c.args.piece.now i.cut c.in-Some.ensures.cut)
     (StopsOn-then _ _ _ _ _ _ _ _ _ i.done _ _ i.on (c.in_err-serve_line.ensures.err behind)))
 
@@ -47,7 +46,7 @@ loop-last-preserved g c =
       on = ServesOn-then _ _ _ _ _ _ _ _ _ _ _ i.done (c.in-Some.last.now ++ 10 ∷ []) i.on c.in_ok-serve_line.ensures.ok;
       counted = omega (arith, parts, both, i.counted, c.in_ok-serve_line.ensures.lines);
       clean = λ strict. elim c.else-is_strict.branch [
-        | else-is_strict-via-then-is_strict+else-has_refused w ↦ still_clean c.loop-last.machine c.serve_line.new.machine c.in_ok-serve_line.ensures.tally (i.clean strict) (sym w.has_refused.ensures ∙ w.if-has_refused.false)
+        | else-is_strict-via-then-is_strict+else-has_refused w ↦ still_clean c.loop-last.script c.serve_line.new.script c.in_ok-serve_line.ensures.tally (i.clean strict) (sym w.has_refused.ensures ∙ w.if-has_refused.false)
         | else-is_strict-via-else-is_strict w ↦ absurd (let never = w.if-is_strict.false in cc)
       ];
       sound = IsSound-then g.W.Sink.taken _ _ _ _ i.sound c.in_ok-serve_line.ensures.sound;
@@ -58,13 +57,13 @@ returns-in_err-extend-clause-err g c =
     let p = err_from_is_err_and c.from_residual-in_err-extend.result c.from_residual-in_err-extend.ensures.1 in
     let i = c.loop-last.invariant in
     rw (p.1, p.2)
-    (subst (λ (k : List ℕ). StopsOn g.W.Sink.taken g.W.Sink.write_failures c.args.output.now c.loop-last.output c.args.machine.now c.args.line.now k NoMemory) i.cut
+    (subst (λ (k : List ℕ). StopsOn g.W.Sink.taken g.W.Sink.write_failures c.args.output.now c.loop-last.output c.args.script.now c.args.line.now k NoMemory) i.cut
     (StopsOn-then _ _ _ _ _ _ _ _ _ i.done c.loop-last.rest.now _ i.on (StopsOn-starved _ _ _ _ _ c.loop-last.rest.now)))
 
 pub returns-clause-ok : goal.returns-clause-ok
 returns-clause-ok g c =
     let i = c.loop-last.invariant in (
-      subst (λ (k : List ℕ). ServesOn g.W.Sink.taken g.W.Sink.write_failures c.args.output.now c.loop-last.output c.args.machine.now c.loop-last.machine c.args.line.now c.extend.new.self k) i.cut
+      subst (λ (k : List ℕ). ServesOn g.W.Sink.taken g.W.Sink.write_failures c.args.output.now c.loop-last.output c.args.script.now c.loop-last.script c.args.line.now c.extend.new.self k) i.cut
           (ServesOn-then _ _ _ _ _ _ _ _ _ _ _ i.done c.loop-last.rest.now i.on (ServesOn-front _ _ _ _ _ _ c.loop-last.rest.now c.in_default.ensures.none c.in_ok-extend.ensures.ok)),
       i.clean,
     )
@@ -89,7 +88,7 @@ returns-then-has_refused-clause-ok g c =
         rest = c.in-Some.behind.now;
         cut = cut_past i.done c.loop-last.rest.now c.in-Some.last.now c.in-Some.behind.now c.args.piece.now i.cut c.in-Some.ensures.cut;
         on = ServesOn-then _ _ _ _ _ _ _ _ _ _ _ i.done (c.in-Some.last.now ++ 10 ∷ []) i.on c.in_ok-serve_line.ensures.ok;
-        refused = refused_last c.loop-last.machine c.serve_line.new.machine c.in_ok-serve_line.ensures.tally (i.clean c.if-is_strict.true) (sym c.has_refused.ensures ∙ c.if-has_refused.true);
+        refused = refused_last c.loop-last.script c.serve_line.new.script c.in_ok-serve_line.ensures.tally (i.clean c.if-is_strict.true) (sym c.has_refused.ensures ∙ c.if-has_refused.true);
       },
       c.if-is_strict.true,
     )

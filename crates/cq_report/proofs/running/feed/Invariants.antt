@@ -9,9 +9,9 @@ abbrev pub invariant-loop-last : goal.invariant-loop-last
 invariant-loop-last g l = record {
   done : List ℕ;
   cut : done ++ l.rest ≡ l.piece;
-  on : ServesOn g.W.Sink.taken g.W.Sink.write_failures l.fn.output l.output l.fn.machine l.machine l.fn.line l.line done;
-  counted : lines_before l.machine + length l.rest ≤ lines_before l.fn.machine + length l.piece;
-  clean : l.is_strict ≡ true → l.machine.tally ≡ no_refusal;
+  on : ServesOn g.W.Sink.taken g.W.Sink.write_failures l.fn.output l.output l.fn.script l.script l.fn.line l.line done;
+  counted : lines_before l.script + length l.rest ≤ lines_before l.fn.script + length l.piece;
+  clean : l.is_strict ≡ true → l.script.tally ≡ no_refusal;
   sound : IsSound g.W.Sink.write_failures l.fn.output l.output;
 }
 

@@ -13,17 +13,17 @@ returns-then-is_empty-clause-ok g c =
     let none : length c.args.line.now ≡ 0 = grind arith in
     λ first opening bytes s. Finished-passed _ _ first opening _ _ _ bytes (Finished-whole _ _ first opening _ _ _ bytes s none) c.in_ok-finish.ensures.ok
 
-pub returns-in_err-answer-clause-err : goal.returns-in_err-answer-clause-err
-returns-in_err-answer-clause-err g c =
-    let p = err_from_is_err_and c.from_residual-in_err-answer.result c.from_residual-in_err-answer.ensures.1 in
-    let breaks = rw c.as_bytes.ensures at c.in_err-answer.ensures.err in
+pub returns-in_err-serve-clause-err : goal.returns-in_err-serve-clause-err
+returns-in_err-serve-clause-err g c =
+    let p = err_from_is_err_and c.from_residual-in_err-serve.result c.from_residual-in_err-serve.ensures.1 in
+    let breaks = rw c.as_bytes.ensures at c.in_err-serve.ensures.err in
     let some : 0 < length c.args.line.now = grind arith in
     rw (p.1, p.2) (λ first opening bytes s. rw (append-nil bytes) (Stopped-last _ _ first opening _ _ _ _ bytes _ s some breaks))
 
 pub returns-in_err-finish-2-clause-err : goal.returns-in_err-finish-2-clause-err
 returns-in_err-finish-2-clause-err g c =
     let p = err_from_is_err_and c.from_residual-in_err-finish-2.result c.from_residual-in_err-finish-2.ensures.1 in
-    let e = c.in_ok-answer.ensures in
+    let e = c.in_ok-serve.ensures in
     let read = rw c.as_bytes.ensures at e.read in
     let ok = rw c.as_bytes.ensures at e.ok in
     let some : 0 < length c.args.line.now = grind arith in
@@ -31,7 +31,7 @@ returns-in_err-finish-2-clause-err g c =
 
 pub returns-clause-ok : goal.returns-clause-ok
 returns-clause-ok g c =
-    let e = c.in_ok-answer.ensures in
+    let e = c.in_ok-serve.ensures in
     let read = rw c.as_bytes.ensures at e.read in
     let ok = rw c.as_bytes.ensures at e.ok in
     let some : 0 < length c.args.line.now = grind arith in

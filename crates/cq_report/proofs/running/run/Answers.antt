@@ -1,6 +1,6 @@
 use Rattle.std.proofs.Common.{rules, ap}
 use Rattle.std.proofs.lemmas.Result.{err_from_is_err_and, on_ok_weaker, IfErr-weaker}
-use Rattle.cq_report.proofs.Ending.{Replayed-heard, BrokeOff-wrote, Ended-wrote, IfRead-weaker}
+use Rattle.cq_report.proofs.Ending.{Replayed-heard, BrokeOff-wrote, Ended-wrote, IfAtTurn-weaker}
 use Rattle.cq_report.proofs.Runs.{ran-state, ran-err, ran-match, run_rises}
 use Rattle.cq_report.proofs.Starving.{IfMemory-weaker, RanOut-wrote, WroteFirstLines-none}
 use Rattle.cq_report.proofs.running.run.Goals as goal
@@ -8,17 +8,17 @@ use Rattle.cq_report.proofs.running.run.Goals as goal
 pub returns-clause-heard : goal.returns-clause-heard
 returns-clause-heard g c =
     ran-state _ c.replay-ended.result _ _ c.run_of.ensures
-    (on_ok_weaker c.replay-ended.result (λ r. Replayed-heard g.W.Sink.taken g.W.Sink.write_failures _ _ _ _ _ _ _ _ _ _ c.begin-machine.ensures.state c.new-output.ensures.held (ap g.W.Sink.taken c.new-output.ensures.same) (search rules) r) c.replay-ended.ensures.ok)
+    (on_ok_weaker c.replay-ended.result (λ r. Replayed-heard g.W.Sink.taken g.W.Sink.write_failures _ _ _ _ _ _ _ _ _ _ c.begin-script.ensures.state c.new-output.ensures.held (ap g.W.Sink.taken c.new-output.ensures.same) (search rules) r) c.replay-ended.ensures.ok)
 
 pub returns-clause-whole_lines : goal.returns-clause-whole_lines
 returns-clause-whole_lines g c =
     ran-err _ c.replay-ended.result _ _ c.run_of.ensures
-    (IfErr-weaker c.replay-ended.result _ _ (λ fault h. IfRead-weaker fault _ _ (λ turn b. BrokeOff-wrote g.W.Sink.taken g.W.Sink.write_failures _ _ _ _ _ _ _ _ c.begin-machine.ensures.state c.new-output.ensures.held (ap g.W.Sink.taken c.new-output.ensures.same) (search rules) b) h) c.replay-ended.ensures.read)
+    (IfErr-weaker c.replay-ended.result _ _ (λ fault h. IfAtTurn-weaker fault _ _ (λ turn b. BrokeOff-wrote g.W.Sink.taken g.W.Sink.write_failures _ _ _ _ _ _ _ _ c.begin-script.ensures.state c.new-output.ensures.held (ap g.W.Sink.taken c.new-output.ensures.same) (search rules) b) h) c.replay-ended.ensures.read)
 
 pub returns-clause-first_lines : goal.returns-clause-first_lines
 returns-clause-first_lines g c =
     ran-err _ c.replay-ended.result _ _ c.run_of.ensures
-    (IfErr-weaker c.replay-ended.result _ _ (λ fault h. IfMemory-weaker fault _ _ (λ r. RanOut-wrote g.W.Sink.taken g.W.Sink.write_failures _ _ _ _ _ _ _ _ c.begin-machine.ensures.state c.new-output.ensures.held (ap g.W.Sink.taken c.new-output.ensures.same) (search rules) r.0 r.1) h) c.replay-ended.ensures.memory)
+    (IfErr-weaker c.replay-ended.result _ _ (λ fault h. IfMemory-weaker fault _ _ (λ r. RanOut-wrote g.W.Sink.taken g.W.Sink.write_failures _ _ _ _ _ _ _ _ c.begin-script.ensures.state c.new-output.ensures.held (ap g.W.Sink.taken c.new-output.ensures.same) (search rules) r.0 r.1) h) c.replay-ended.ensures.memory)
 
 pub returns-in_err-room-clause-first_lines : goal.returns-in_err-room-clause-first_lines
 returns-in_err-room-clause-first_lines g c =
@@ -28,7 +28,7 @@ returns-in_err-room-clause-first_lines g c =
 pub returns-clause-front : goal.returns-clause-front
 returns-clause-front g c =
     ran-err _ c.replay-ended.result _ _ c.run_of.ensures
-    (IfErr-weaker c.replay-ended.result _ _ (λ fault h. Ended-wrote g.W.Sink.taken g.W.Sink.write_failures _ _ _ _ _ _ _ _ fault c.begin-machine.ensures.state c.new-output.ensures.held (ap g.W.Sink.taken c.new-output.ensures.same) (search rules) h) c.replay-ended.ensures.err)
+    (IfErr-weaker c.replay-ended.result _ _ (λ fault h. Ended-wrote g.W.Sink.taken g.W.Sink.write_failures _ _ _ _ _ _ _ _ fault c.begin-script.ensures.state c.new-output.ensures.held (ap g.W.Sink.taken c.new-output.ensures.same) (search rules) h) c.replay-ended.ensures.err)
 
 pub returns-clause-turn : goal.returns-clause-turn
 returns-clause-turn g c = ran-err _ c.replay-ended.result _ _ c.run_of.ensures c.replay-ended.ensures.turn

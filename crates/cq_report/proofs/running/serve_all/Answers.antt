@@ -1,7 +1,7 @@
 use Rattle.cq_devices.specs.declared.limits.TheConstants.{MAX_PIECE}
 use Rattle.std.proofs.Common.{◌≡◌, ◌++◌, [], ◌∙◌, arith, take, refl, sym, subst, inl, inr, append-nil}
 use Rattle.cq_report.specs.Steps.Serving.{Served}
-use Rattle.cq_report.proofs.Ending.{Consumes-none, reply_read}
+use Rattle.cq_report.proofs.Ending.{Consumes-none, unread}
 use Rattle.std.proofs.KnownBytes.{Consumes-nil, Consumes-trans, Consumes-kept}
 use Rattle.std.proofs.lemmas.List.{length-take}
 use Rattle.std.proofs.lemmas.Result.{err_from_is_err_and}
@@ -119,7 +119,7 @@ returns-in_err-finish-clause-memory g c =
     let p = err_from_is_err_and c.from_residual.result c.from_residual.ensures.1 in
     let i = c.loop-i.invariant in
     let none = rw c.if-len-eq0.true at c.in-Ok.ensures.bytes.0 in
-    let kept = subst (Served g.W.Sink.taken g.W.Sink.write_failures c.args.output.now c.args.machine.now c.loop-i.output c.loop-i.machine c.loop-i.line) (sym (append-nil i.bytes)) i.served in
+    let kept = subst (Served g.W.Sink.taken g.W.Sink.write_failures c.args.output.now c.args.script.now c.loop-i.output c.loop-i.script c.loop-i.line) (sym (append-nil i.bytes)) i.served in
     rw (p.1, p.2) (IfMemory-weaker _ _ _ (RanOut-behind _ _ _ _ _ _ _ _ _ _ i.bytes [] [] [] refl (Consumes-trans _ _ _ i.bytes [] i.read none) (omega arith) kept) c.in_err-finish.ensures.nothing)
 
 pub returns-in_err-halted-clause-memory : goal.returns-in_err-halted-clause-memory
@@ -138,22 +138,22 @@ returns-in_err-write_out-clause-memory g c =
 pub returns-in_err-finish-clause-read : goal.returns-in_err-finish-clause-read
 returns-in_err-finish-clause-read g c =
     let p = err_from_is_err_and c.from_residual.result c.from_residual.ensures.1 in
-    rw (p.1, p.2) (reply_read c.in_err-finish.field-0.0 _)
+    rw (p.1, p.2) (unread c.in_err-finish.field-0.0 _ c.in_err-finish.ensures.no_read)
 
 pub returns-in_err-finish-clause-turn : goal.returns-in_err-finish-clause-turn
 returns-in_err-finish-clause-turn g c =
     let p = err_from_is_err_and c.from_residual.result c.from_residual.ensures.1 in
-    rw (p.1, p.2) (reply_read c.in_err-finish.field-0.0 _)
+    rw (p.1, p.2) (unread c.in_err-finish.field-0.0 _ c.in_err-finish.ensures.no_read)
 
 pub returns-in_err-halted-clause-read : goal.returns-in_err-halted-clause-read
 returns-in_err-halted-clause-read g c =
     let p = err_from_is_err_and c.from_residual-in_err-halted.result c.from_residual-in_err-halted.ensures.1 in
-    rw (p.1, p.2) (reply_read c.in_err-halted.field-0.0 _)
+    rw (p.1, p.2) (unread c.in_err-halted.field-0.0 _ c.in_err-halted.ensures.no_read)
 
 pub returns-in_err-halted-clause-turn : goal.returns-in_err-halted-clause-turn
 returns-in_err-halted-clause-turn g c =
     let p = err_from_is_err_and c.from_residual-in_err-halted.result c.from_residual-in_err-halted.ensures.1 in
-    rw (p.1, p.2) (reply_read c.in_err-halted.field-0.0 _)
+    rw (p.1, p.2) (unread c.in_err-halted.field-0.0 _ c.in_err-halted.ensures.no_read)
 
 pub returns-in_err-finish-2-clause-err : goal.returns-in_err-finish-2-clause-err
 returns-in_err-finish-2-clause-err g c =

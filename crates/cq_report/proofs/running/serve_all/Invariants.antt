@@ -11,10 +11,10 @@ abbrev pub invariant-loop-i : goal.invariant-loop-i
 invariant-loop-i g l = record {
   bytes : List ℕ;
   read : Consumes (g.R.Source.left l.fn.reader) (g.R.Source.left l.reader) bytes;
-  served : Served g.W.Sink.taken g.W.Sink.write_failures l.fn.output l.fn.machine l.output l.machine l.line bytes;
-  lines : lines_before l.machine ≤ l.i * 4096;
+  served : Served g.W.Sink.taken g.W.Sink.write_failures l.fn.output l.fn.script l.output l.script l.line bytes;
+  lines : lines_before l.script ≤ l.i * 4096;
   sound : IsSound g.W.Sink.write_failures l.fn.output l.output;
-  clean : l.is_strict ≡ true → l.machine.tally ≡ no_refusal;
+  clean : l.is_strict ≡ true → l.script.tally ≡ no_refusal;
   held : l.output.held.now.items ≡ [];
   reads : g.R.Source.reads_made l.reader ≡ g.R.Source.reads_made l.fn.reader + l.i;
   failures : g.R.Source.failures_met l.reader ≡ g.R.Source.failures_met l.fn.reader;

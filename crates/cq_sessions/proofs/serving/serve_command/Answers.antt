@@ -4,7 +4,9 @@ use Rattle.std.proofs.lemmas.Result.{on_ok_weaker}
 use Rattle.cq_text.specs.declared.command.CommandKind.TheVariants as commands
 use Rattle.cq_text.specs.Grammar.{CommandContent}
 use Rattle.cq_report.specs.Reading.{Reads}
-use Rattle.cq_report.specs.Reply.{late_line}
+use Rattle.cq_report.specs.declared.outcome.Outcome.TheVariants as outcomes
+use Rattle.cq_report.specs.declared.refusal.Refusal.TheVariants as refusals
+use Rattle.cq_report.specs.Reply.{outcome_line}
 use Rattle.cq_sessions.specs.Steps.Sheets.{Onward}
 use Rattle.cq_sessions.proofs.Sheets.{told_onward, gather_onward}
 use Rattle.cq_sessions.proofs.serving.serve_command.Goals as goal
@@ -17,7 +19,7 @@ returns-in-Blank g c =
 pub returns-in-Setup : goal.returns-in-Setup
 returns-in-Setup g c =
     subst (λ (command : CommandContent). OnOk c.tell-in-Setup.result (Onward g.C.Client.opening g.C.Client.limit (g.C.Client.known c.args.client.now) c.args.sheet.now (g.C.Client.known c.args.client.now) c.tell-in-Setup.new.sheet (Reads command))) (sym c.in-Setup.is)
-    (on_ok_weaker c.tell-in-Setup.result (told_onward g.C.Client.opening g.C.Client.limit _ _ c.args.sheet.now c.tell-in-Setup.new.sheet (Reads (commands.Setup c.in-Setup._line)) (Some late_line) (λ rs lines own behind last s. (refl, s)) c.requires) (c.tell-in-Setup.ensures late_line c.late.ensures))
+    (on_ok_weaker c.tell-in-Setup.result (told_onward g.C.Client.opening g.C.Client.limit _ _ c.args.sheet.now c.tell-in-Setup.new.sheet (Reads (commands.Setup c.in-Setup._line)) (Some (outcome_line (outcomes.Refused refusals.Late))) (λ rs lines own behind last s. (refl, s)) c.requires) (c.tell-in-Setup.ensures (outcome_line (outcomes.Refused refusals.Late)) c.to_line.ensures))
 
 pub returns-in-Edit : goal.returns-in-Edit
 returns-in-Edit g c =

@@ -1,7 +1,9 @@
 use Rattle.std.proofs.Common.{refl, Some}
 use Rattle.std.proofs.lemmas.Result.{on_ok_weaker}
 use Rattle.cq_report.specs.Reading.{Reads, Faulty}
-use Rattle.cq_report.specs.Reply.{fault_line}
+use Rattle.cq_report.specs.declared.outcome.Outcome.TheVariants as outcomes
+use Rattle.cq_report.specs.declared.refusal.Refusal.TheVariants as refusals
+use Rattle.cq_report.specs.Reply.{outcome_line}
 use Rattle.cq_report.proofs.CallerLemmas.{the_fault}
 use Rattle.cq_sessions.proofs.Sheets.{told_onward}
 use Rattle.cq_sessions.proofs.serving.serve_line.Goals as goal
@@ -16,5 +18,5 @@ returns-in-Err-At g c =
     (λ is. record {
       reading = Faulty kind offset;
       is = the_fault c.args.form c.args.line.now _ kind offset c.in-Err-At.field-0-is c.in-Err-At.ensures.fault;
-      onward = told_onward g.C.Client.opening g.C.Client.limit _ _ c.args.sheet.now c.tell.new.sheet (Faulty kind offset) (Some (fault_line kind offset)) (λ rs lines own behind last s. (refl, s)) c.requires is;
-    }) (c.tell.ensures (fault_line kind offset) (rw c.fault_line.ensures at c.to_text.ensures))
+      onward = told_onward g.C.Client.opening g.C.Client.limit _ _ c.args.sheet.now c.tell.new.sheet (Faulty kind offset) (Some (outcome_line (outcomes.Refused (refusals.Text kind offset)))) (λ rs lines own behind last s. (refl, s)) c.requires is;
+    }) (c.tell.ensures (outcome_line (outcomes.Refused (refusals.Text kind offset))) c.to_line.ensures)

@@ -5,11 +5,12 @@ use Rattle.cq_text.specs.declared.fault.Kind.{Kind}
 use Rattle.cq_text.specs.declared.form.Form.{Form}
 use Rattle.cq_rel.specs.Tables.{Declaration}
 use Rattle.cq_board.specs.declared.limits.Limits.{Limits}
+use Rattle.cq_report.specs.declared.refusal.Refusal.{Refusal}
 use Rattle.cq_report.specs.Reading.{Faulty}
 use Rattle.cq_why.specs.Why.{IsHint, IsWhy, why_line}
 use Rattle.cq_why.proofs.whys.put_faulty.Goals as goal
 
-told_of : (limits : Limits) (catalog : List Declaration) (refused : Option (List ℕ)) (form : Form) (kind : Kind) (offset : ℕ) (line origin : List ℕ) (number : ℕ) (front rest before after : List ℕ) → front ≡ take offset line → rest ≡ drop offset line
+told_of : (limits : Limits) (catalog : List Declaration) (refused : Option Refusal) (form : Form) (kind : Kind) (offset : ℕ) (line origin : List ℕ) (number : ℕ) (front rest before after : List ℕ) → front ≡ take offset line → rest ≡ drop offset line
     → (words : List ℕ) × IsHint form kind front rest words × (after ≡ before ++ why_line origin number words front rest)
     → (piece : List ℕ) × IsWhy origin number limits catalog form line refused (Faulty kind offset) piece × (after ≡ before ++ piece)
 told_of limits catalog refused form kind offset line origin number front rest before after p q told =

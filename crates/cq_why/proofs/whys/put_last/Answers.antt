@@ -1,6 +1,6 @@
 use Rattle.std.proofs.Common.{◌∙◌, ℕ, sym, subst}
 use Rattle.std.proofs.lemmas.Result.{on_ok_weaker}
-use Rattle.cq_report.specs.Refusals.{refusal}
+use Rattle.cq_report.specs.Reply.{refusal}
 use Rattle.cq_report.specs.Machine.{form_in, staged}
 use Rattle.cq_report.proofs.CallerLemmas.{some_of}
 use Rattle.cq_why.specs.Why.{IsWhy}
@@ -9,7 +9,7 @@ use Rattle.cq_why.proofs.whys.put_last.Goals as goal
 
 pub returns : goal.returns
 returns g c =
-    let state = c.args.hearing.now in
+    let state = c.args.heard.now in
     let line = c.args.line.now in
     on_ok_weaker c.put_line.result
     (λ told. (

@@ -5,13 +5,14 @@ use Rattle.cq_rel.specs.Tables.{Declaration}
 use Rattle.cq_board.specs.declared.limits.Limits.{Limits}
 use Rattle.cq_text.specs.Grammar.{CommandContent}
 use Rattle.cq_text.specs.declared.form.Form.{Form}
+use Rattle.cq_report.specs.declared.refusal.Refusal.{Refusal}
 use Rattle.cq_report.specs.Reading.{Reading, Reads, Faulty, IsReading}
 use Rattle.cq_report.proofs.CallerLemmas.{the_fault}
 use Rattle.cq_why.specs.Why.{Use, IsWhy, command_line, misused, uses_of}
 use Rattle.cq_why.proofs.whys.put_refusal.Goals as goal
 
 -- what is told of a command, by its first misused relation
-told_of : (limits : Limits) (catalog : List Declaration) (form : Form) (refused : Option (List ℕ)) (line origin : List ℕ) (number : ℕ) (command : CommandContent) (used : Option Use) (before page : List ℕ) → used ≡ misused catalog (uses_of command) → IsReading form line (Reads command)
+told_of : (limits : Limits) (catalog : List Declaration) (form : Form) (refused : Option Refusal) (line origin : List ℕ) (number : ℕ) (command : CommandContent) (used : Option Use) (before page : List ℕ) → used ≡ misused catalog (uses_of command) → IsReading form line (Reads command)
     → page ≡ before ++ command_line origin number limits catalog used line refused
     → (reading : Reading) × IsReading form line reading × (piece : List ℕ) × IsWhy origin number limits catalog form line refused reading piece × (page ≡ before ++ piece)
 told_of limits catalog form refused line origin number command used before page same is told =

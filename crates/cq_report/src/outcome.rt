@@ -1,0 +1,124 @@
+//! What comes of a line.
+
+ghost use Rattle.std.specs.Prelude.{◌≡◌, string_bytes, IfOk};
+ghost use Rattle.cq_report.specs.Reply.{reply_outcome, answer_outcome, refusal, outcome_line};
+ghost use Rattle.cq_report.specs.Steps.Turns.{plain_turn, is_silent};
+
+use crate::refusal::Refusal;
+use crate::reply::words_of;
+use cq_ask::{AskKind, ending};
+use cq_board::Why;
+use cq_desk::{Answer, Reply};
+use std::alloc::{AllocError, Allocator};
+use std::marker::Model;
+
+/// What comes of a line of a script, or of one that asks.
+#[derive(Clone, Copy, Debug, PartialEq, Eq)]
+pub enum Outcome {
+    /// Nothing: the line is blank.
+    Silent,
+    /// A line of a setup is accepted.
+    Accepted,
+    /// An edit is accepted, as the entry of this number, from 1.
+    Entered(u64),
+    /// So many entries are published.
+    Published(u64),
+    /// The board is shown, which so many published entries leave.
+    Shown(u64),
+    /// A line that asks is answered.
+    Answered(AskKind),
+    /// No further line is read.
+    Quit,
+    /// The line is refused.
+    Refused(Refusal),
+}
+
+impl Outcome {
+    /// Returns what comes of an edit.
+    pub fn of_reply(reply: &Reply<Why>) -> Outcome
+        ensures { result ≡ reply_outcome reply.now }
+    {
+        match reply {
+            Reply::Entered(entry) => Outcome::Entered(*entry),
+            Reply::JournalFull => Outcome::Refused(Refusal::JournalFull),
+            Reply::Not(why) => Outcome::Refused(Refusal::Pool(*why)),
+        }
+    }
+
+    /// Returns what comes of an event, by its answer.
+    pub(crate) fn of_answer(answer: &Answer<Why>) -> Outcome
+        ensures { result ≡ answer_outcome answer.now }
+    {
+        match answer {
+            Answer::Replied(reply) => Outcome::of_reply(reply),
+            Answer::Published(count) => Outcome::Published(*count),
+            Answer::Looked(count) => Outcome::Shown(*count),
+            Answer::Heard(_) => Outcome::Silent,
+        }
+    }
+
+    /// Returns why the line is refused, if it is.
+    pub fn refusal(self) -> Option<Refusal>
+        ensures { result ≡ refusal self }
+    {
+        match self {
+            Outcome::Refused(why) => Some(why),
+            _ => None,
+        }
+    }
+
+    /// Returns the line of the reply in words, with its LF; of `Shown` the line before the report.
+    ///
+    /// # Errors
+    /// `AllocError` if an allocation fails.
+    pub fn to_line<A: Allocator>(self, alloc: A) -> Result<String<A>, AllocError>
+        ensures { IfOk result (λ text. string_bytes text ≡ outcome_line self) }
+    {
+        let mut text = String::new(alloc);
+        words_of(self).put(&mut text)?;
+        Ok(text)
+    }
+}
+
+/// The reply to a line before it is written: what comes of the line, and the page that goes with it, which is empty except for a look and an answer.
+#[derive(Drop)]
+pub(crate) struct Turn<A: Allocator> {
+    pub(crate) outcome: Outcome,
+    pub(crate) page: String<A>,
+}
+
+impl<A: Allocator> Model for Turn<A> {
+    ghost use Rattle.std.specs.Prelude.{string_bytes};
+    ghost use Rattle.cq_report.specs.Steps.Turns.{TurnRecord};
+
+    ghost Value = { TurnRecord };
+
+    ghost view = { λ t. record { outcome = t.outcome; page = string_bytes t.page } };
+}
+
+impl<A: Allocator> Turn<A> {
+    /// A reply without a page. It does not allocate.
+    pub(crate) fn plain(alloc: A, outcome: Outcome) -> Turn<A>
+        ensures { result ≡ plain_turn outcome }
+    {
+        Turn {
+            outcome,
+            page: String::new(alloc),
+        }
+    }
+
+    /// Returns true if nothing is written in words.
+    pub(crate) fn is_silent(&self) -> bool
+        ensures { result ≡ is_silent self.now }
+    {
+        match self.outcome {
+            Outcome::Silent | Outcome::Quit => self.page.is_empty(),
+            Outcome::Answered(kind) => self.page.is_empty() && ending(kind).is_empty(),
+            Outcome::Accepted
+            | Outcome::Entered(_)
+            | Outcome::Published(_)
+            | Outcome::Shown(_)
+            | Outcome::Refused(_) => false,
+        }
+    }
+}
