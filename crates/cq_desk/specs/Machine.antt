@@ -9,7 +9,7 @@ use Rattle.cq_desk.specs.declared.event.Answer.TheVariants.{Replied, Published, 
 use Rattle.cq_desk.specs.declared.event.StepFault.{StepFault}
 use Rattle.cq_desk.specs.declared.event.StepFault.TheVariants.{NoSession, Ahead}
 use Rattle.cq_desk.specs.Replies.{journal_edits, reply_at}
-use Rattle.cq_desk.specs.declared.reply.Reply.TheVariants.{Entered, JournalFull, Not}
+use Rattle.cq_desk.specs.declared.reply.Reply.TheVariants.{JournalFull, Not}
 
 -- The journal, how many of its entries are published, and how many of them each session has seen or heard of.
 pub record MachineRecord (E : Type 0) : Type 0 where

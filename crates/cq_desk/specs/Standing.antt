@@ -1,10 +1,11 @@
 -- What contracts see of a floor, and what its type says. (this project's profile)
 use Rattle.std.specs.Prelude.{◌≡◌, ℕ, List, [], ◌∷◌, nat_le, ◌&&◌, if◌then◌else◌, Option, Some, None, ⊤, Result, Ok, Err}
 use Rattle.cq_desk.specs.declared.event.Answer.{Answer}
-use Rattle.cq_desk.specs.declared.event.Answer.TheVariants.{Replied, Published, Looked, Heard}
+use Rattle.cq_desk.specs.declared.event.Answer.TheVariants.{Replied}
 use Rattle.cq_desk.specs.declared.event.StepFault.{StepFault}
-use Rattle.cq_desk.specs.declared.event.StepFault.TheVariants.{NoSession, Ahead, NoMemory}
-use Rattle.cq_desk.specs.declared.reply.Reply.TheVariants.{Entered, JournalFull, Not}
+use Rattle.cq_desk.specs.declared.event.StepFault.TheVariants.{NoMemory}
+use Rattle.cq_desk.specs.declared.reply.Reply.{Reply}
+use Rattle.cq_desk.specs.declared.reply.Reply.TheVariants.{Entered, Not}
 use Rattle.cq_desk.specs.declared.floor.FloorFault.{FloorFault}
 use Rattle.cq_desk.specs.declared.floor.FloorFault.TheVariants.{Sessions}
 use Rattle.cq_desk.specs.declared.event.Event.{Event}
@@ -33,6 +34,11 @@ abbrev pub MayWant : {W : Type 0} → Result (Answer W) StepFault → Type 0
 MayWant (Ok (Replied (Entered number))) = ⊤
 MayWant (Ok (Replied (Not reason))) = ⊤
 MayWant _ = ⊥
+
+-- The answer to an event that enters an edit, by the reply to the edit.
+abbrev pub replied : {W : Type 0} → Result (Reply W) StepFault → Result (Answer W) StepFault
+replied (Ok reply) = Ok (Replied reply)
+replied (Err fault) = Err fault
 
 -- What is answered is what the machine answers, or out of memory.
 abbrev pub IsTold : {W : Type 0} → Result (Answer W) StepFault → Result (Answer W) StepFault → Type 0

@@ -1,15 +1,17 @@
 //! A floor: a desk that several sessions look at, each with what it has seen.
 
-ghost use Rattle.std.specs.Prelude.{◌≡◌, ◌≤◌, ◌<◌, ◌⊎◌, [], length, fold, replicate, take, drop, OnOk, OnErr, IfOk, IfErr, IfNone, IfSome, MatchOption, slice_get};
+ghost use Rattle.std.specs.Prelude.{◌≡◌, ◌≤◌, ◌<◌, ◌⊎◌, [], length, fold, replicate, take, drop, Ok, OnOk, OnErr, IfOk, IfErr, IfNone, IfSome, MatchOption, slice_get};
 ghost use Rattle.cq_desk.specs.declared.floor.FloorFault.TheVariants as faults;
 ghost use Rattle.cq_desk.specs.Machine.{opening_machine, answer_to, machine_after, machine_run, answers_to, moved, seen_by, working_content, published_content};
 ghost use Rattle.cq_desk.specs.declared.event.Event.TheVariants.{Enter, Publish, Look, Hear};
+ghost use Rattle.cq_desk.specs.declared.event.Answer.TheVariants.{Published};
 ghost use Rattle.cq_atom.specs.Answer.{Answers};
-ghost use Rattle.cq_desk.specs.Standing.{IsTold, MayWant, StopsAt, sessions_fault, stepped, played};
+ghost use Rattle.cq_desk.specs.Standing.{IsTold, MayWant, StopsAt, replied, sessions_fault, stepped, played};
 
 use crate::event::{Answer, Event, StepFault};
 use crate::journal::Entry;
 use crate::live::{Live, NoMemory};
+use crate::reply::Reply;
 use crate::turns::Turns;
 use std::alloc::{AllocError, Allocator, Global};
 use std::marker::Model;
@@ -100,6 +102,13 @@ impl<L: Live, A: Allocator + Copy> Floor<L, A> {
         Ok(Floor { turns, seen })
     }
 
+    /// The state before the first event.
+    pub fn opening(&self) -> &L
+        ensures { L.content result.now ≡ self.now.opening }
+    {
+        self.turns.opening()
+    }
+
     /// The published state.
     pub fn board(&self) -> &L
         ensures { L.content result.now ≡ published_content L.after self.now.opening self.now.machine }
@@ -137,27 +146,33 @@ impl<L: Live, A: Allocator + Copy> Floor<L, A> {
         self.turns.published()
     }
 
-    fn enter(&mut self, author: usize, edit: L::Edit) -> Told<L::Why>
-        ensures answer { IsTold (answer_to L.after L.why self.old.opening self.old.limit self.old.machine (Enter author edit)) result }
+    /// Enters the edit under the author's name unless it is refused, and returns its reply. A refused edit
+    /// changes nothing.
+    ///
+    /// # Errors
+    /// `NoSession` if there is no session of that number; `NoMemory` if an allocation fails, which may take
+    /// the place of the reply that the edit is entered or that the state refuses it. Nothing has changed then.
+    pub fn enter(&mut self, author: usize, edit: L::Edit) -> Result<Reply<L::Why>, StepFault>
+        ensures answer { IsTold (answer_to L.after L.why self.old.opening self.old.limit self.old.machine (Enter author edit)) (replied result) }
         ensures ok { OnOk result (self.new ≡ stepped L.after L.why self.old (Enter author edit)) }
         ensures err { OnErr result (self.new ≡ self.old) }
     {
         if author >= self.seen.len() {
             return Err(StepFault::NoSession);
         }
-        match self.turns.enter(author, edit) {
-            Ok(reply) => Ok(Answer::Replied(reply)),
+        match self.turns.append(author, edit) {
+            Ok(reply) => Ok(reply),
             Err(NoMemory) => Err(StepFault::NoMemory),
         }
     }
 
-    fn publish(&mut self) -> Told<L::Why>
-        ensures answer { IsTold (answer_to L.after L.why self.old.opening self.old.limit self.old.machine Publish) result }
-        ensures ok { OnOk result (self.new ≡ record self.old { machine = moved self.old.machine Publish }) }
-        ensures err { OnErr result (self.new ≡ self.old) }
+    /// Publishes all that was entered, and returns how many entries are published. It does not allocate.
+    pub fn publish(&mut self) -> u64
+        ensures answer { answer_to L.after L.why self.old.opening self.old.limit self.old.machine Publish ≡ Ok (Published result) }
+        ensures after { self.new ≡ record self.old { machine = moved self.old.machine Publish } }
     {
         let _known = self.turns.published();
-        Ok(Answer::Published(self.turns.publish()))
+        self.turns.publish()
     }
 
     /// A look of the session: how many entries are published, which is never below what the session
@@ -206,8 +221,11 @@ impl<L: Live, A: Allocator + Copy> Floor<L, A> {
         ensures err { OnErr result (self.new ≡ self.old) }
     {
         match event {
-            Event::Enter { author, edit } => self.enter(author, edit),
-            Event::Publish => self.publish(),
+            Event::Enter { author, edit } => match self.enter(author, edit) {
+                Ok(reply) => Ok(Answer::Replied(reply)),
+                Err(fault) => Err(fault),
+            },
+            Event::Publish => Ok(Answer::Published(self.publish())),
             Event::Look { session } => match self.look(session) {
                 Some(count) => Ok(Answer::Looked(count)),
                 None => Err(StepFault::NoSession),

@@ -76,6 +76,13 @@ impl<L: Live, A: Allocator + Copy> Turns<L, A> {
         })
     }
 
+    /// The state before the first edit.
+    pub(crate) fn opening(&self) -> &L
+        ensures { L.content result.now ≡ self.now.opening }
+    {
+        &self.opening
+    }
+
     /// The state that the published entries leave.
     pub(crate) fn shown(&self) -> &L
         ensures { L.content result.now ≡ fold L.after self.now.opening (journal_edits (take self.now.published self.now.journal)) }
@@ -110,8 +117,8 @@ impl<L: Live, A: Allocator + Copy> Turns<L, A> {
         self.published as u64
     }
 
-    /// Enters the edit under the author's name where it is not refused, and answers what became of it.
-    pub(crate) fn enter(&mut self, author: usize, edit: L::Edit) -> Result<Reply<L::Why>, NoMemory>
+    /// Puts the edit behind the journal under the author's name unless it is refused, and returns its reply.
+    pub(crate) fn append(&mut self, author: usize, edit: L::Edit) -> Result<Reply<L::Why>, NoMemory>
         ensures reply { IfOk result (λ reply. reply ≡ reply_at L.after L.why self.old.opening self.old.limit (journal_edits self.old.journal) edit) }
         ensures after { IfOk result (λ reply. self.new ≡ replied author edit reply self.old) }
         ensures err { OnErr result (self.new ≡ self.old) }

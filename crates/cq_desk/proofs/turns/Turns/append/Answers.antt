@@ -7,7 +7,7 @@ use Rattle.cq_desk.specs.declared.journal.Entry.{Entry}
 use Rattle.cq_desk.specs.declared.reply.Reply.TheVariants.{Entered, JournalFull, Not}
 use Rattle.cq_desk.proofs.Admitting.{on_error, reply_full, reply_not, reply_entered}
 use Rattle.cq_desk.proofs.Turning.{seen_as, seen_same, seen_more, caught_up, working_is, took_in}
-use Rattle.cq_desk.proofs.turns.Turns.enter.Goals as goal
+use Rattle.cq_desk.proofs.turns.Turns.append.Goals as goal
 
 pub returns-then-len-self-clause-reply : goal.returns-then-len-self-clause-reply
 returns-then-len-self-clause-reply g c = let d = c.self.inside in let full = c.if-len-self.true in let is = c.len.ensures in let len = d.journal.ok.0 in
