@@ -6,7 +6,7 @@ ghost use Rattle.cq_atom.specs.declared.edit.EditKind.TheVariants.{Post, Withdra
 ghost use Rattle.cq_board.specs.Pool.{IsPool, opening_pool};
 ghost use Rattle.cq_board.specs.Edits.{why, edited, pool_after};
 ghost use Rattle.cq_board.specs.Board.{name_at};
-ghost use Rattle.cq_board.specs.Work.{candidates, changes_made, changes_of, lost, named, raised, tests_made, tests_of, visits_made, visits_of};
+ghost use Rattle.cq_board.specs.Work.{changes_of, lost, named, raised, tests_of, visits_of};
 ghost use Rattle.cq_board.specs.Steps.Stores.{pending_of, AreStores};
 ghost use Rattle.cq_board.specs.Views.{Admits};
 
@@ -27,8 +27,8 @@ use std::mem;
 pub struct Board<A: Allocator = Global> {
     alloc: A,
     limits: Limits,
-    tables: Tables<A>,
-    stores: Stores<A>,
+    pub(crate) tables: Tables<A>,
+    pub(crate) stores: Stores<A>,
 }
 
 impl<A: Allocator> Model for Board<A> {
@@ -108,32 +108,13 @@ impl<A: Allocator + Copy> Board<A> {
         if let Some(why) = self.why(edit) {
             return Ok(Some(why));
         }
-        self.accept(edit, work)?;
-        Ok(None)
-    }
-
-    /// Does the edit, where nothing speaks against it.
-    fn accept(&mut self, edit: &Edit<A>, work: &mut Work) -> Result<(), AllocError>
-        requires { why self.old edit.now ≡ None }
-        ensures ok { OnOk result (self.new ≡ edited self.old edit.now) }
-        ensures err { OnErr result (self.new ≡ self.old) }
-        ensures tests { OnOk result (work.new.tests ≡ raised work.old.tests (tests_made self.old.pending edit.now)) }
-        ensures visits { OnOk result (work.new.visits ≡ raised work.old.visits (visits_made self.old.pending edit.now)) }
-        ensures changes { OnOk result (work.new.changes ≡ raised work.old.changes (changes_made self.old edit.now)) }
-    {
-        work.rests();
         match edit {
-            EditKind::Post { name, query } => self.post(name, query, work),
-            EditKind::Withdraw { name } => {
-                self.withdraw(name, work);
-                Ok(())
-            }
-            EditKind::Insert { row } => self.insert(row, work),
-            EditKind::Delete { row } => {
-                self.delete(row, work);
-                Ok(())
-            }
+            EditKind::Post { name, query } => self.stores.post(&self.tables, name, query, work)?,
+            EditKind::Withdraw { name } => self.withdraw(name, work),
+            EditKind::Insert { row } => self.insert(row, work)?,
+            EditKind::Delete { row } => self.delete(row, work),
         }
+        Ok(None)
     }
 
     /// The allocator on which the board grows.
@@ -156,23 +137,6 @@ impl<A: Allocator + Copy> Board<A> {
             tables,
             stores,
         })
-    }
-
-    /// Makes a copy of the query pending, where nothing speaks against it.
-    pub(crate) fn post(
-        &mut self,
-        name: &Name<A>,
-        query: &Query<A>,
-        work: &mut Work,
-    ) -> Result<(), AllocError>
-        requires { why self.old (Post name.now query.now) ≡ None }
-        ensures ok { OnOk result (self.new ≡ edited self.old (Post name.now query.now)) }
-        ensures err { OnErr result (self.new ≡ self.old) }
-        ensures tests { OnOk result (work.new.tests ≡ raised work.old.tests (candidates self.old.pending query.now)) }
-        ensures visits { OnOk result (work.new.visits ≡ raised work.old.visits 1) }
-        ensures changes { work.new.changes ≡ work.old.changes }
-    {
-        self.stores.post(&self.tables, name, query, work)
     }
 
     /// Takes the query of that name out.

@@ -5,6 +5,7 @@ ghost use Rattle.cq_board.specs.Steps.Laws.{refused_keeps};
 
 use crate::board::Board;
 use crate::edit::Why;
+use crate::work::Work;
 use cq_atom::Edit;
 use cq_desk::{Live, NoMemory};
 use std::alloc::Allocator;
@@ -23,7 +24,7 @@ impl<A: Allocator + Copy> Live for Board<A> {
     ghost after = { pool_after };
 
     fn admit(&mut self, edit: &Edit<A>) -> Result<Option<Why>, NoMemory> {
-        Ok(Board::admit(self, edit)?)
+        Ok(self.admit_counted(edit, &mut Work::new())?)
     }
 
     fn copy(&self) -> Result<Board<A>, NoMemory> {

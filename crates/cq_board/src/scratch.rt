@@ -62,7 +62,8 @@ impl<A: Allocator + Copy> Board<A> {
         if let Some(why) = self.post_why(name, query) {
             return Err(ScratchFault::Refused(why));
         }
-        self.post(name, query, &mut Work::new())?;
+        self.stores
+            .post(&self.tables, name, query, &mut Work::new())?;
         Ok(())
     }
 

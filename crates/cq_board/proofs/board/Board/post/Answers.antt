@@ -1,7 +1,0 @@
-use Rattle.cq_board.proofs.KeptIn.{posted_in}
-use Rattle.cq_board.proofs.board.Board.post.Goals as goal
-
-pub invariant_of-self : goal.invariant_of-self
-invariant_of-self g c =
-    posted_in c.self.inside.limits c.self.inside.tables c.self.inside.stores c.post.new.self c.self.invariant c.args.name.now
-    c.post.result c.args.self.now c.args.query.now c.self.view_is c.requires c.post.ensures.stores c.post.ensures.posted c.post.ensures.err
