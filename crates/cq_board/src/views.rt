@@ -256,4 +256,17 @@ impl<A: Allocator + Copy> Board<A> {
         let seats = stores.roster.in_order()?;
         matched_of(self.allocator(), &seats, &stores.matcher)
     }
+
+    /// Returns how many queries are matched. Does not allocate, and takes time in proportion to the
+    /// pending queries.
+    pub fn matched_count(&self) -> usize
+        ensures { result ≡ length (matched_names self.now) }
+    {
+        let stores = self.stores();
+        stores
+            .roster
+            .iter()
+            .filter(|seat| stores.matcher.is_matched(seat.place))
+            .count()
+    }
 }

@@ -8,7 +8,7 @@
 //! no two have one place stands in its type, and `len` tells it.
 //!
 //! What it costs: `add`, `remove` and `place_of` take logarithmic expected time; `nth` takes time in
-//! proportion to what stands before, `in_order` and `copy` in proportion to all. `remove` takes no
+//! proportion to what stands before, `iter`, `in_order` and `copy` in proportion to all. `iter` and `remove` take no
 //! memory.
 //!
 //! Not here: what stands at a place, and which places are free.

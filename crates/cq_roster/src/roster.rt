@@ -10,6 +10,7 @@ use cq_atom::Name;
 use indexmap::IndexMap;
 use std::alloc::{AllocError, Allocator, Global};
 use std::collections::BTreeMap;
+use std::collections::btree_map::Values;
 use std::marker::Model;
 
 /// Names in the order in which they came, each with its place. Contracts see the list of the seats.
@@ -67,6 +68,13 @@ impl<A: Allocator + Copy> Roster<A> {
         ensures { option_copied result ≡ slice_get self.now index }
     {
         self.kept.order.values().nth(index)
+    }
+
+    /// Returns the seats in the order in which they came, one after another. Does not allocate.
+    pub fn iter(&self) -> Values<'_, u64, Seat<Name<A>>>
+        ensures { result ≡ self.now }
+    {
+        self.kept.order.values()
     }
 
     /// All seats, in the order in which they came.
