@@ -3,13 +3,12 @@ use Rattle.std.proofs.Common.{◌≡◌, ◌∙◌, ℕ, List, [], ◌∷◌, �
 use Rattle.std.specs.Prelude.{Result, Ok, Err, IfOk, OnOk, codes}
 use Rattle.std.proofs.lemmas.Result.{IfOk-weaker}
 use Rattle.json.specs.Json.{Json}
-use Rattle.json.specs.Token.{Token, begin_array, end_array, key}
+use Rattle.json.specs.Token.{Token, begin_array, end_array}
 use Rattle.json.specs.Tree.{json_tokens, items_tokens}
 use Rattle.json.specs.Print.{print}
 use Rattle.cq_render.specs.Json.{items, array_of}
 use Rattle.cq_render.specs.Data.{IsPut}
-use Rattle.cq_render.specs.Steps.Telling.{member_tokens}
-use Rattle.cq_render.proofs.CallerLemmas.{joined, put_both, put_more}
+use Rattle.cq_render.proofs.CallerLemmas.{joined, put_both}
 use Rattle.cq_ask.specs.Data.{member_text, IsToldAs}
 use Rattle.cq_ask.specs.Steps.Several.{all_tokens}
 
@@ -44,17 +43,6 @@ pub all_append : (xs ys : List Json) → all_tokens (xs ++ ys) ≡ all_tokens xs
 all_append [] ys = refl
 all_append (x ∷ xs) ys = ap (λ (tokens : List Token). json_tokens x ++ tokens) (all_append xs ys) ∙ sym (append_assoc (json_tokens x) (all_tokens xs) (all_tokens ys))
 
--- one member more
-pub member_more : (old before new : List Token) (ms : List (List ℕ × Json)) (name : List ℕ) (value : Json) → before ≡ old ++ member_tokens ms → new ≡ before ++ key name ∷ json_tokens value → new ≡ old ++ member_tokens (ms ++ (name, value) ∷ [])
-member_more old before new ms name value h k =
-    put_more old before (before ++ key name ∷ []) new ms name value h refl (k ∙ sym (append_assoc before (key name ∷ []) (json_tokens value)))
-
--- the last one, which may be refused
-pub member_last : {E : Type 0} (old before new : List Token) (ms : List (List ℕ × Json)) (name : List ℕ) (value : Json) (r : Result (Unit {0}) E) → before ≡ old ++ member_tokens ms → OnOk r (new ≡ before ++ key name ∷ json_tokens value)
-    → OnOk r (new ≡ old ++ member_tokens (ms ++ (name, value) ∷ []))
-member_last old before new ms name value (Ok done) h k = member_more old before new ms name value h k
-member_last old before new ms name value (Err fault) h k = tt
-
 -- an array of two parts: its bracket, its values, and its other bracket
 pub array_of_both : {E : Type 0} (old first mid last new : List Token) (xs ys : List Json) (r : Result (Unit {0}) E) → first ≡ old ++ begin_array ∷ [] → mid ≡ first ++ all_tokens xs → last ≡ mid ++ all_tokens ys
     → OnOk r (new ≡ last ++ end_array ∷ []) → OnOk r (new ≡ old ++ json_tokens (array_of (xs ++ ys)))
@@ -64,12 +52,3 @@ array_of_both old first mid last new xs ys (Ok done) begun one two ended =
     ended ∙ ap (λ (z : List Token). z ++ end_array ∷ []) both ∙ append_assoc first (all_tokens (xs ++ ys)) (end_array ∷ [])
     ∙ ap (λ (z : List Token). z ++ (all_tokens (xs ++ ys) ++ end_array ∷ [])) begun ∙ append_assoc old (begin_array ∷ []) (all_tokens (xs ++ ys) ++ end_array ∷ [])
     ∙ ap (λ (z : List Token). old ++ z) (sym (array_tokens (xs ++ ys)))
-
--- members after others
-pub members_both : (old mid new : List Token) (ms ns : List (List ℕ × Json)) → mid ≡ old ++ member_tokens ms → new ≡ mid ++ member_tokens ns → new ≡ old ++ member_tokens (ms ++ ns)
-members_both old mid new ms ns h k = put_both old mid new (member_tokens ms) (member_tokens ns) h k ∙ ap (λ (z : List Token). old ++ z) (sym (append ms))
-  where
-    append : (ms : List (List ℕ × Json)) → member_tokens (ms ++ ns) ≡ member_tokens ms ++ member_tokens ns
-    append [] = refl
-    append (m ∷ ms) =
-        ap (λ (z : List Token). key m.0 ∷ (json_tokens m.1 ++ z)) (append ms) ∙ ap (λ (z : List Token). key m.0 ∷ z) (sym (append_assoc (json_tokens m.1) (member_tokens ms) (member_tokens ns)))

@@ -21,6 +21,8 @@ use Rattle.cq_going.specs.Going.{IsSoughtTold}
 use Rattle.cq_going.specs.Grouping.{AreGroupsTold}
 use Rattle.cq_ask.specs.declared.ask.AskKind.{AskKind}
 use Rattle.cq_ask.specs.declared.ask.AskKind.TheVariants.{Count, Status, Query, Explain, Near, Choice, Choose, Groups, Changes, Graph, Json, Help, Quit, Unfit}
+use Rattle.cq_ask.specs.declared.counts.Counts.{Counts}
+use Rattle.cq_ask.specs.declared.counts.CountPart.{CountPart}
 use Rattle.cq_ask.specs.Ask.{AskRecord}
 use Rattle.cq_ask.specs.Choices.{AreCoordinating, AreNotCoordinating, StandForNone, choice_words}
 
@@ -46,16 +48,33 @@ end_line = line (codes "end")
 abbrev pub row_count : TablesRecord → ℕ
 row_count tables = fold (λ count declared. count + length (rows_in declared.relation tables)) 0 tables.catalog
 
--- The queries of a pool, those that are matched, the others, and the rows.
-abbrev pub pool_counts : PoolRecord → List ℕ
-pool_counts pool =
-    codes "queries " ++ decimal (length pool.pending) ++ codes " matched " ++ decimal (length (matched_names pool)) ++ codes " waiting " ++ decimal (length pool.pending - length (matched_names pool))
-    ++ codes " rows " ++ decimal (row_count pool.tables)
-
 -- The queries, those that are matched, the others, and the rows of the published pool; the entries that are published, and those that are not yet.
-abbrev pub count_line : FloorRecord → List ℕ
-count_line floor =
-    line (pool_counts (published_pool floor) ++ codes " entries " ++ decimal floor.machine.published ++ codes " unpublished " ++ decimal (length floor.machine.journal - floor.machine.published))
+abbrev pub counts_of : FloorRecord → Counts
+counts_of floor =
+    let pool = published_pool floor in
+    record {
+      queries = length pool.pending;
+      matched = length (matched_names pool);
+      waiting = length pool.pending - length (matched_names pool);
+      rows = row_count pool.tables;
+      entries = floor.machine.published;
+      unpublished = length floor.machine.journal - floor.machine.published;
+    }
+
+-- The counts in a line.
+abbrev pub count_line : Counts → List ℕ
+count_line counts =
+    line (codes "queries " ++ decimal counts.queries ++ codes " matched " ++ decimal counts.matched ++ codes " waiting " ++ decimal counts.waiting
+    ++ codes " rows " ++ decimal counts.rows ++ codes " entries " ++ decimal counts.entries ++ codes " unpublished " ++ decimal counts.unpublished)
+
+-- A number in decimal digits between two equal marks, if there is one.
+abbrev pub number_bytes : List ℕ → Option ℕ → List ℕ
+number_bytes mark None = []
+number_bytes mark (Some number) = mark ++ decimal number ++ mark
+
+-- A piece of the answer: its words, and its number if it has one.
+abbrev pub part_bytes : CountPart → List ℕ
+part_bytes part = part.words.now ++ number_bytes part.mark.now part.number
 
 -- ---- names
 
@@ -149,7 +168,7 @@ pub record IsSoughtAnswer (pool : PoolRecord) (names : List (List ℕ)) (text : 
 
 -- The text tells what is asked of the floor and its pool; before the last publish so many entries were published.
 abbrev pub IsToldOf : FloorRecord → PoolRecord → ℕ → AskKind → List (List ℕ) → List ℕ → List ℕ → Type 0
-IsToldOf floor pool before Count names choices text = text ≡ count_line floor
+IsToldOf floor pool before Count names choices text = text ≡ count_line (counts_of floor)
 IsToldOf floor pool before Status names choices text = text ≡ flat_map (status_line pool) names
 IsToldOf floor pool before Query names choices text = text ≡ flat_map (block_of pool) names ++ absent_lines pool names
 IsToldOf floor pool before Explain names choices text = IsWhyTold pool names text

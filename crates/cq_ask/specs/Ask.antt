@@ -49,6 +49,17 @@ takes Choose count = true
 takes Unfit count = true
 takes _ count = count == 0
 
+-- The kinds that are asked of nothing: no names and no choices come after the word.
+abbrev pub takes_no_names : AskKind → Bool
+takes_no_names Count = true
+takes_no_names Groups = true
+takes_no_names Changes = true
+takes_no_names Graph = true
+takes_no_names Json = true
+takes_no_names Help = true
+takes_no_names Quit = true
+takes_no_names _ = false
+
 -- The words do not fit.
 abbrev pub unfit : AskRecord
 unfit = record { kind = Unfit; names = []; text = [] }

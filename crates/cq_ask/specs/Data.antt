@@ -1,32 +1,31 @@
 -- What is answered to lines that ask, as JSON. (this project's profile)
-use Rattle.std.specs.Prelude.{◌≡◌, ℕ, ◌-◌, Bool, true, false, map, List, [], ◌∷◌, ◌++◌, length, codes, Option, Some, None}
+use Rattle.std.specs.Prelude.{◌≡◌, ℕ, Bool, true, false, map, List, [], ◌∷◌, ◌++◌, codes, Option, Some, None}
 use Rattle.std.specs.List.{flat_map}
 use Rattle.json.specs.Json.{Json, boolean, string}
 use Rattle.json.specs.Tree.{json_tokens}
 use Rattle.json.specs.Print.{print}
 use Rattle.cq_board.specs.Pool.{PoolRecord, name_of}
-use Rattle.cq_board.specs.Named.{matched_named, matched_names}
+use Rattle.cq_board.specs.Named.{matched_named}
 use Rattle.cq_render.specs.Graph.{graph}
 use Rattle.cq_render.specs.Json.{array_of, object_of, json_of}
 use Rattle.cq_render.specs.Data.{IsArray, IsNearOf, AreReasonsJson, total, standing_members, standing_json, named_json}
 use Rattle.cq_going.specs.Data.{IsSoughtJson, AreGroupsJson}
 use Rattle.cq_ask.specs.declared.ask.AskKind.{AskKind}
 use Rattle.cq_ask.specs.declared.ask.AskKind.TheVariants.{Count, Status, Query, Explain, Near, Choice, Choose, Groups, Changes, Graph, Json as AsJson, Help, Quit, Unfit}
+use Rattle.cq_ask.specs.declared.counts.Counts.{Counts}
 use Rattle.cq_ask.specs.Ask.{AskRecord}
-use Rattle.cq_ask.specs.Answer.{FloorRecord, published_pool, floor_at, row_count, help_text, IsVerdict}
+use Rattle.cq_ask.specs.Answer.{FloorRecord, published_pool, floor_at, counts_of, help_text, IsVerdict}
 use Rattle.cq_ask.specs.Choices.{choice_words}
 
--- The queries, those that are matched, the others, and the rows of the published pool; the entries that are published, and those that are not yet.
-abbrev pub count_json : FloorRecord → Json
-count_json floor =
-    let pool = published_pool floor in
-    object_of (
-    (codes "queries", total (length pool.pending))
-    ∷ (codes "matched", total (length (matched_names pool)))
-    ∷ (codes "waiting", total (length pool.pending - length (matched_names pool)))
-    ∷ (codes "rows", total (row_count pool.tables))
-    ∷ (codes "entries", total floor.machine.published)
-    ∷ (codes "unpublished", total (length floor.machine.journal - floor.machine.published))
+-- The counts as an object.
+abbrev pub count_json : Counts → Json
+count_json counts = object_of (
+    (codes "queries", total counts.queries)
+    ∷ (codes "matched", total counts.matched)
+    ∷ (codes "waiting", total counts.waiting)
+    ∷ (codes "rows", total counts.rows)
+    ∷ (codes "entries", total counts.entries)
+    ∷ (codes "unpublished", total counts.unpublished)
     ∷ [])
 
 -- ---- changes
@@ -67,7 +66,7 @@ verdict_json None = (codes "refused", string (codes "Words"))
 
 -- The member, a name and a value, tells what is asked of the floor and its pool; before the last publish so many entries were published.
 abbrev pub IsMemberOf : FloorRecord → PoolRecord → ℕ → AskKind → List (List ℕ) → List ℕ → List ℕ × Json → Type 0
-IsMemberOf floor pool before Count names choices told = told ≡ (codes "count", count_json floor)
+IsMemberOf floor pool before Count names choices told = told ≡ (codes "count", count_json (counts_of floor))
 IsMemberOf floor pool before Status names choices told = told ≡ (codes "status", array_of (map (standing_json pool) names))
 IsMemberOf floor pool before Query names choices told = told ≡ (codes "query", array_of (map (named_json pool) names))
 IsMemberOf floor pool before Explain names choices told = (reasons : Json) × AreReasonsJson pool names reasons × (told ≡ (codes "explain", reasons))

@@ -1,4 +1,3 @@
 -- What the private steps of the code are stated with; no part of what a reader must believe.
 pub mod Splitting
-pub mod Counts
 pub mod Several

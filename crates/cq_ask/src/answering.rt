@@ -1,23 +1,22 @@
 //! Answers lines that ask, of the board that a floor publishes.
 
-ghost use Rattle.std.specs.Prelude.{◌≡◌, ◌++◌, ◌-◌, ◌≤◌, ◌*◌, ◌^◌, [], codes, decimal, length, map, string_bytes, IfOk, OnOk};
+ghost use Rattle.std.specs.Prelude.{◌≡◌, ◌++◌, [], map, string_bytes, IfOk, OnOk};
 ghost use Rattle.std.specs.List.{flat_map};
-ghost use Rattle.cq_board.specs.Named.{matched_named, matched_names};
-ghost use Rattle.cq_rel.specs.Tables.{rows_in};
+ghost use Rattle.cq_board.specs.Named.{matched_named};
 ghost use Rattle.cq_render.specs.Report.{block_of};
 ghost use Rattle.cq_render.specs.Explain.{ArePieces, IsNearTold};
 ghost use Rattle.cq_render.specs.Data.{standing_word};
-ghost use Rattle.cq_ask.specs.Answer.{BeganEmpty, floor_at, published_pool, changes, row_count, pool_counts, count_line, status_line, absent_line, absent_lines, help_text, IsWhyTold, IsNearAnswer, IsVerdict, verdict_line, IsChoiceTold, IsSoughtAnswer, IsTold, ending};
+ghost use Rattle.cq_ask.specs.Answer.{BeganEmpty, floor_at, published_pool, changes, status_line, absent_line, absent_lines, help_text, IsWhyTold, IsNearAnswer, IsVerdict, verdict_line, IsChoiceTold, IsSoughtAnswer, IsTold, ending};
 ghost use Rattle.cq_ask.specs.Choices.{choice_words};
 
 use crate::ask::{Ask, AskKind};
 use crate::changing::put_last_changes;
 use crate::choices::{ChoiceFault, choice_words, read_choices};
+use crate::counts::{count_parts, counts_of, parts_text};
 use cq_atom::Name;
 use cq_board::Board;
 use cq_desk::Floor;
 use cq_going::{MOST_STEPS, groups, tell_choice};
-use cq_rel::Tables;
 use cq_render::{Extent, explain_these, graph, json, near, put_block};
 use std::alloc::{AllocError, Allocator};
 
@@ -26,57 +25,6 @@ type BoardFloor<A> = Floor<Board<A>, A>;
 
 /// The answer to words that do not fit.
 const UNFIT: &str = "refused Words\n";
-
-/// How many rows the relation has; none where it is not declared.
-fn rows_of<A: Allocator>(tables: &Tables<A>, relation: &str) -> usize
-    ensures { result ≡ length (rows_in relation.now tables.now) }
-{
-    tables.count(relation).unwrap_or(0)
-}
-
-/// How many rows all relations have.
-pub(crate) fn row_count<A: Allocator>(tables: &Tables<A>) -> u128
-    ensures { result ≡ row_count tables.now }
-{
-    let catalog = tables.catalog();
-    let mut count = 0u128;
-    for place in 0..catalog.len() {
-        let (relation, _arity) = match catalog.entry(place) {
-            Some(entry) => entry,
-            None => unreachable!(),
-        };
-        count += rows_of(tables, relation) as u128;
-    }
-    count
-}
-
-/// Puts how many queries and rows there are.
-fn put_pool_counts<A: Allocator + Copy>(
-    board: &Board<A>,
-    page: &mut String<A>,
-) -> Result<(), AllocError>
-    ensures { OnOk result (string_bytes page.new ≡ string_bytes page.old ++ pool_counts board.now) }
-{
-    let queries = board.len();
-    let matched = board.matched()?.len();
-    let waiting = queries.saturating_sub(matched);
-    let rows = row_count(board.tables());
-    write!(
-        page,
-        "queries {queries} matched {matched} waiting {waiting} rows {rows}"
-    )
-}
-
-fn count_line<A: Allocator + Copy>(alloc: A, floor: &BoardFloor<A>) -> Result<String<A>, AllocError>
-    ensures { IfOk result (λ text. string_bytes text ≡ count_line floor.now) }
-{
-    let mut page = String::new(alloc);
-    put_pool_counts(floor.board(), &mut page)?;
-    let published = floor.published_count();
-    let unpublished = (floor.journal().len() as u64).saturating_sub(published);
-    write!(page, " entries {published} unpublished {unpublished}\n")?;
-    Ok(page)
-}
 
 pub(crate) fn standing_word(matched: Option<bool>) -> &'static str
     ensures { result.now ≡ standing_word matched }
@@ -347,7 +295,7 @@ pub fn tell<A: Allocator + Copy>(
     let board = floor.board();
     let names = ask.names();
     match ask.kind() {
-        AskKind::Count => count_line(alloc, floor),
+        AskKind::Count => parts_text(alloc, &count_parts(&counts_of(floor))),
         AskKind::Status => status_text(alloc, board, names),
         AskKind::Query => query_text(alloc, board, names),
         AskKind::Explain => explain_text(alloc, board, names),

@@ -1,27 +1,25 @@
 //! Answers to lines that ask, as JSON.
 
-ghost use Rattle.std.specs.Prelude.{◌≡◌, ◌++◌, ◌∷◌, Bool, Option, codes, map, option_map, string_bytes, IfOk, OnOk};
+ghost use Rattle.std.specs.Prelude.{◌≡◌, ◌++◌, Bool, Option, codes, map, option_map, string_bytes, IfOk, OnOk};
 ghost use Rattle.std.specs.List.{flat_map};
 ghost use Rattle.json.specs.Json as values;
-ghost use Rattle.json.specs.Token.{key};
 ghost use Rattle.json.specs.Tree.{json_tokens};
 ghost use Rattle.json.specs.Print.{print};
 ghost use Rattle.cq_board.specs.Named.{matched_named};
 ghost use Rattle.cq_render.specs.Graph.{graph};
 ghost use Rattle.cq_render.specs.Json.{array_of, json_of};
-ghost use Rattle.cq_render.specs.Data.{IsPut, IsArray, IsNearOf, AreReasonsJson, total, standing_json, named_json};
+ghost use Rattle.cq_render.specs.Data.{IsPut, IsArray, IsNearOf, AreReasonsJson, standing_json, named_json};
 ghost use Rattle.cq_going.specs.Data.{IsSoughtJson, AreGroupsJson};
 ghost use Rattle.cq_ask.specs.Answer.{BeganEmpty, published_pool, floor_at, IsVerdict};
-ghost use Rattle.cq_ask.specs.Data.{count_json, change_json, went_json, change_word, changed_json, changes_json, verdict_json, IsToldAs, IsMember};
-ghost use Rattle.cq_render.specs.Steps.Telling.{member_tokens};
-ghost use Rattle.cq_ask.specs.Steps.Counts.{pool_members, entry_members};
+ghost use Rattle.cq_ask.specs.Data.{change_json, went_json, change_word, changed_json, changes_json, verdict_json, IsToldAs, IsMember};
 ghost use Rattle.cq_ask.specs.Steps.Several.{all_tokens};
 ghost use Rattle.cq_ask.specs.Choices.{choice_words};
 
-use crate::answering::{help, row_count, standing_word, verdict};
+use crate::answering::{help, standing_word, verdict};
 use crate::ask::{Ask, AskKind};
 use crate::changing::board_at;
 use crate::choices::choice_words;
+use crate::counts::{count_members, counts_of, parts_text};
 use cq_atom::Name;
 use cq_board::Board;
 use cq_desk::Floor;
@@ -69,74 +67,6 @@ fn flag_member<A: Allocator + Copy>(
     let mut sheet = JsonText::begin(alloc);
     sheet.boolean(flag)?;
     member(alloc, name, sheet)
-}
-
-// ---- counts
-
-/// Puts a member that says how many.
-fn put_count<A: Allocator>(
-    sheet: &mut JsonText<A>,
-    name: &str,
-    count: u128,
-) -> Result<(), AllocError>
-    ensures { OnOk result (sheet.new ≡ sheet.old ++ key name.now ∷ json_tokens (total count)) }
-{
-    sheet.key(name)?;
-    sheet.total(count)
-}
-
-/// Puts how many queries and rows there are.
-fn put_pool_counts<A: Allocator + Copy>(
-    sheet: &mut JsonText<A>,
-    board: &Board<A>,
-) -> Result<(), AllocError>
-    ensures { OnOk result (sheet.new ≡ sheet.old ++ member_tokens (pool_members board.now)) }
-{
-    let queries = board.len();
-    let matched = board.matched()?.len();
-    let waiting = queries.saturating_sub(matched);
-    let rows = row_count(board.tables());
-    put_count(sheet, "queries", queries as u128)?;
-    put_count(sheet, "matched", matched as u128)?;
-    put_count(sheet, "waiting", waiting as u128)?;
-    put_count(sheet, "rows", rows)
-}
-
-/// Puts how many entries are published, and how many are not.
-fn put_entry_counts<A: Allocator + Copy>(
-    sheet: &mut JsonText<A>,
-    floor: &BoardFloor<A>,
-) -> Result<(), AllocError>
-    ensures { OnOk result (sheet.new ≡ sheet.old ++ member_tokens (entry_members floor.now)) }
-{
-    let published = floor.published_count();
-    let unpublished = (floor.journal().len() as u64).saturating_sub(published);
-    put_count(sheet, "entries", published as u128)?;
-    put_count(sheet, "unpublished", unpublished as u128)
-}
-
-/// Puts all counts.
-fn put_counts<A: Allocator + Copy>(
-    sheet: &mut JsonText<A>,
-    floor: &BoardFloor<A>,
-) -> Result<(), AllocError>
-    ensures { OnOk result (sheet.new ≡ sheet.old ++ json_tokens (count_json floor.now)) }
-{
-    sheet.begin_object()?;
-    put_pool_counts(sheet, floor.board())?;
-    put_entry_counts(sheet, floor)?;
-    sheet.end_object()
-}
-
-fn count_member<A: Allocator + Copy>(
-    alloc: A,
-    floor: &BoardFloor<A>,
-) -> Result<String<A>, AllocError>
-    ensures { IfOk result (λ text. IsToldAs (λ told. told ≡ (codes "count", count_json floor.now)) (string_bytes text)) }
-{
-    let mut sheet = JsonText::begin(alloc);
-    put_counts(&mut sheet, floor)?;
-    member(alloc, "count", sheet)
 }
 
 // ---- names
@@ -437,7 +367,7 @@ pub fn tell_data<A: Allocator + Copy>(
     let board = floor.board();
     let names = ask.names();
     match ask.kind() {
-        AskKind::Count => count_member(alloc, floor),
+        AskKind::Count => parts_text(alloc, &count_members(&counts_of(floor))),
         AskKind::Status => status_member(alloc, board, names),
         AskKind::Query => query_member(alloc, board, names),
         AskKind::Explain => explain_member(alloc, board, names),

@@ -1,11 +1,11 @@
 //! Reads lines that ask.
 
-ghost use Rattle.std.specs.Prelude.{◌≡◌, ◌≢◌, ◌≤◌, map, length, filter, IfOk, Some, None, option_map, not, ◌==◌, if◌then◌else◌};
+ghost use Rattle.std.specs.Prelude.{◌≡◌, ◌≢◌, ◌≤◌, true, false, map, length, filter, IfOk, OnErr, Some, None, option_map, not, ◌==◌, if◌then◌else◌};
 ghost use Rattle.std.specs.List.{prefix_len, slice_split, list_all};
 ghost use Rattle.std.specs.Str.{bytes_eq};
 ghost use Rattle.cq_atom.specs.Text.{is_name};
 ghost use Rattle.cq_text.specs.Lexing.{is_space};
-ghost use Rattle.cq_ask.specs.Ask.{is_part, cut_word, words_of, kind_of, takes, unfit, asked_of_names, post_of, asked_of_post, asked_of, asked};
+ghost use Rattle.cq_ask.specs.Ask.{is_part, cut_word, words_of, kind_of, takes, takes_no_names, unfit, asked_of_names, post_of, asked_of_post, asked_of, asked};
 
 use crate::ask::{Ask, AskKind};
 use cq_atom::{Bad, Name};
@@ -51,6 +51,15 @@ fn words_of<A: Allocator>(alloc: A, text: &[u8]) -> Result<Vec<&[u8], A>, AllocE
     text.split(|byte| is_space(*byte))
         .filter(|word| !word.is_empty())
         .collect(alloc)
+}
+
+/// Returns how many words the text has. Does not allocate.
+fn word_count(text: &[u8]) -> usize
+    ensures { result ≡ length (words_of text.now) }
+{
+    text.split(|byte| is_space(*byte))
+        .filter(|word| !word.is_empty())
+        .count()
 }
 
 fn is_word(word: &[u8], text: &str) -> bool
@@ -103,6 +112,22 @@ fn takes(kind: AskKind, count: usize) -> bool
         AskKind::Query | AskKind::Near { .. } => count == 1,
         AskKind::Explain | AskKind::Choice | AskKind::Choose | AskKind::Unfit => true,
         _ => count == 0,
+    }
+}
+
+/// Returns true if a question of that kind takes no names.
+fn takes_no_names(kind: AskKind) -> bool
+    ensures { result ≡ takes_no_names kind }
+{
+    match kind {
+        AskKind::Count
+        | AskKind::Groups
+        | AskKind::Changes
+        | AskKind::Graph
+        | AskKind::Json
+        | AskKind::Help
+        | AskKind::Quit => true,
+        _ => false,
     }
 }
 
@@ -195,23 +220,40 @@ fn asked_of_words<A: Allocator + Copy>(
     }
 }
 
+/// Returns what is asked by a word of a kind that takes no names before a text. Does not allocate.
+fn asked_of_none<A: Allocator + Copy>(alloc: A, kind: AskKind, text: &[u8]) -> Ask<A>
+    requires { takes_no_names kind ≡ true }
+    ensures { result ≡ asked_of kind text.now }
+{
+    if word_count(text) == 0 {
+        Ask::new(alloc, kind, Vec::new(alloc))
+    } else {
+        Ask::new(alloc, AskKind::Unfit, Vec::new(alloc))
+    }
+}
+
 /// What is asked by a word of that kind before a text.
 fn asked_of<A: Allocator + Copy>(alloc: A, kind: AskKind, text: &[u8]) -> Result<Ask<A>, AllocError>
-    ensures { IfOk result (λ ask. ask ≡ asked_of kind text.now) }
+    ensures ask { IfOk result (λ ask. ask ≡ asked_of kind text.now) }
+    ensures memory { OnErr result (takes_no_names (asked_of kind text.now).kind ≡ false) }
 {
+    if takes_no_names(kind) {
+        return Ok(asked_of_none(alloc, kind, text));
+    }
     match kind {
         AskKind::Choice => Ask::of_choices(alloc, text),
         _ => asked_of_words(alloc, kind, text),
     }
 }
 
-/// What a line asks; nothing, where its first word is no asking one, or it is longer than a line may be. No memory is taken where
-/// it does not ask.
+/// What a line asks; nothing, where its first word is no asking one, or it is longer than a line may be. Does not allocate for a
+/// line that does not ask, or whose first word takes no names, as `count` and `quit`.
 ///
 /// # Errors
-/// `AllocError` where an allocation failed.
+/// `AllocError` if an allocation fails, which happens only if the first word takes names or choices.
 pub fn read_ask<A: Allocator + Copy>(alloc: A, line: &[u8]) -> Result<Option<Ask<A>>, AllocError>
-    ensures { IfOk result (λ ask. ask ≡ asked line.now) }
+    ensures ask { IfOk result (λ ask. ask ≡ asked line.now) }
+    ensures memory { OnErr result (option_map (λ ask. takes_no_names ask.kind) (asked line.now) ≡ Some false) }
 {
     if line.len() > MAX_BYTES {
         return Ok(None);

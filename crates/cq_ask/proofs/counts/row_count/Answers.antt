@@ -2,8 +2,8 @@ use Rattle.std.proofs.Common.{◌≡◌, ◌∙◌, ◌+◌, ℕ, List, drop, le
 use Rattle.std.specs.Prelude.{fold}
 use Rattle.std.specs.List.{slice_get}
 use Rattle.cq_rel.specs.Tables.{Declaration, declaration, rows_in}
-use Rattle.cq_ask.proofs.Counts.{fold_at}
-use Rattle.cq_ask.proofs.answering.row_count.Goals as goal
+use Rattle.cq_ask.proofs.Counted.{fold_at}
+use Rattle.cq_ask.proofs.counts.row_count.Goals as goal
 
 pub loop-place-preserved : goal.loop-place-preserved
 loop-place-preserved g c =

@@ -2,7 +2,7 @@ use Rattle.std.proofs.Common.{◌≡◌, ◌≤◌, ◌*◌, ◌^◌, ◌+◌, d
 use Rattle.std.specs.Prelude.{fold}
 use Rattle.cq_rel.specs.Tables.{rows_in}
 use Rattle.cq_ask.specs.Answer.{row_count}
-use Rattle.cq_ask.proofs.answering.row_count.Given as goal
+use Rattle.cq_ask.proofs.counts.row_count.Given as goal
 
 -- the rows so far, and those of the relations that are left
 abbrev pub invariant-loop-place : goal.invariant-loop-place
