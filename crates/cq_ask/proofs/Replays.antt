@@ -16,25 +16,6 @@ use Rattle.cq_board.proofs.CallerLemmas.{ahead_at}
 use Rattle.cq_desk.specs.declared.journal.Entry.{Entry}
 use Rattle.cq_desk.specs.Replies.{journal_edits}
 
--- an edit leaves relations and limits as they are
-pub record IsOver (before after : PoolRecord) : Type 0 where
-  pub catalog : after.tables.catalog ≡ before.tables.catalog
-  pub limits : after.limits ≡ before.limits
-
-over_by : (reason : Option Why) (pool : PoolRecord) (edit : Edit) → IsOver pool (unless_refused reason pool (edited pool edit))
-over_by (Some reason) pool edit = record { catalog = refl; limits = refl }
-over_by None pool (Post name query) = record { catalog = refl; limits = refl }
-over_by None pool (Withdraw name) = record { catalog = refl; limits = refl }
-over_by None pool (Insert row) = record { catalog = refl; limits = refl }
-over_by None pool (Delete row) = record { catalog = refl; limits = refl }
-
-pub over : (opening : PoolRecord) (entries : Journal) → IsOver opening (fold pool_after opening (journal_edits entries))
-over opening [] = record { catalog = refl; limits = refl }
-over opening (entry ∷ entries) =
-    let one = over_by (why opening entry.edit) opening entry.edit in
-    let more = over (pool_after opening entry.edit) entries in
-    record { catalog = more.catalog ∙ one.catalog; limits = more.limits ∙ one.limits }
-
 pub left_is : (opening : PoolRecord) (entries : Journal) → pool_left opening entries ≡ fold pool_after opening (journal_edits entries)
 left_is opening [] = refl
 left_is opening (entry ∷ entries) = left_is (pool_after opening entry.edit) entries
@@ -42,11 +23,6 @@ left_is opening (entry ∷ entries) = left_is (pool_after opening entry.edit) en
 -- one entry more
 pub left_at : (pool : PoolRecord) (entries : Journal) (i : ℕ) (entry : Entry Edit) → slice_get entries i ≡ Some entry → pool_left pool (drop i entries) ≡ pool_left (pool_after pool entry.edit) (drop (i + 1) entries)
 left_at pool entries i entry got = let next : i + 1 ≡ suc i = omega arith in rw next (ap (pool_left pool) (ahead_at entries i entry got))
-
--- an empty pool with what another has of relations and limits
-pub begun : (opening shown : PoolRecord) (catalog : List Declaration) (limits : Limits) → IsOver opening shown → opening ≡ opening_pool opening.tables.catalog opening.limits → catalog ≡ shown.tables.catalog → limits ≡ shown.limits → opening_pool catalog limits ≡ opening
-begun opening shown catalog limits o empty c l =
-    ap (λ (ds : List Declaration). opening_pool ds limits) (c ∙ o.catalog) ∙ ap (λ (ls : Limits). opening_pool opening.tables.catalog ls) (l ∙ o.limits) ∙ sym empty
 
 least_by : {X : Type 0} (xs : List X) (count least : ℕ) → least ≡ min count (length xs) → (length xs < count) ⊎ (count ≤ length xs) → take least xs ≡ take count xs
 least_by xs count least is (inl h) = take_all least xs (omega (arith, is, h)) ∙ sym (take_all count xs (omega (arith, h)))

@@ -5,7 +5,7 @@ use Rattle.json.specs.Tree.{json_tokens}
 use Rattle.json.specs.Print.{print}
 use Rattle.cq_atom.specs.Edit.{Edit}
 use Rattle.cq_rel.specs.Tables.{TablesRecord, rows_in}
-use Rattle.cq_board.specs.Pool.{PoolRecord, name_of, opening_pool}
+use Rattle.cq_board.specs.Pool.{PoolRecord, name_of}
 use Rattle.cq_board.specs.Edits.{pool_after}
 use Rattle.cq_board.specs.Named.{matched_named, matched_names}
 use Rattle.cq_desk.specs.Machine.{published_content}
@@ -33,10 +33,6 @@ FloorRecord = StandingRecord PoolRecord Edit
 -- The pool that is published: of it all answers are.
 abbrev pub published_pool : FloorRecord → PoolRecord
 published_pool floor = published_content pool_after floor.opening floor.machine
-
--- The floor began with no row and no query.
-abbrev pub BeganEmpty : FloorRecord → Type 0
-BeganEmpty floor = floor.opening ≡ opening_pool floor.opening.tables.catalog floor.opening.limits
 
 -- The last line of an answer of several lines.
 abbrev pub end_line : List ℕ

@@ -6,7 +6,7 @@ ghost use Rattle.cq_board.specs.Named.{matched_named};
 ghost use Rattle.cq_render.specs.Report.{block_of};
 ghost use Rattle.cq_render.specs.Explain.{ArePieces, IsNearTold};
 ghost use Rattle.cq_render.specs.Data.{standing_word};
-ghost use Rattle.cq_ask.specs.Answer.{BeganEmpty, floor_at, published_pool, changes, status_line, absent_line, absent_lines, help_text, IsWhyTold, IsNearAnswer, IsVerdict, verdict_line, IsChoiceTold, IsSoughtAnswer, IsTold, ending};
+ghost use Rattle.cq_ask.specs.Answer.{floor_at, published_pool, changes, status_line, absent_line, absent_lines, help_text, IsWhyTold, IsNearAnswer, IsVerdict, verdict_line, IsChoiceTold, IsSoughtAnswer, IsTold, ending};
 ghost use Rattle.cq_ask.specs.Choices.{choice_words};
 
 use crate::ask::{Ask, AskKind};
@@ -243,11 +243,10 @@ fn changes_text<A: Allocator + Copy>(
     floor: &BoardFloor<A>,
     before: u64,
 ) -> Result<String<A>, AllocError>
-    requires { BeganEmpty floor.now }
     ensures { IfOk result (λ text. string_bytes text ≡ changes (published_pool (floor_at floor.now before)) (published_pool floor.now)) }
 {
     let mut page = String::new(alloc);
-    put_last_changes(alloc, floor, before, &mut page)?;
+    put_last_changes(floor, before, &mut page)?;
     Ok(page)
 }
 
@@ -279,7 +278,7 @@ pub fn ending(kind: AskKind) -> &'static str
 
 /// What is told of what is asked, of the board that the floor publishes, without what [ends](ending) the answer; before the last publish so
 /// many entries were published. Its time is that of the text that it has: for `count`, `status` and `help` that of the names, for a query's block
-/// that of a walk over the board, for `changes` that of taking once more the edits that were published before, which takes a floor that began empty.
+/// that of a walk over the board, for `changes` that of taking once more the edits that were published before.
 ///
 /// # Errors
 /// `AllocError` where an allocation failed.
@@ -289,7 +288,6 @@ pub fn tell<A: Allocator + Copy>(
     before: u64,
     ask: &Ask<A>,
 ) -> Result<String<A>, AllocError>
-    requires { ask.now.kind ≡ AskKind.Changes → BeganEmpty floor.now }
     ensures { IfOk result (λ text. IsTold floor.now before ask.now (string_bytes text)) }
 {
     let board = floor.board();

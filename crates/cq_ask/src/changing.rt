@@ -2,10 +2,10 @@
 
 ghost use Rattle.std.specs.Prelude.{◌≡◌, ◌≤◌, ◌++◌, map, length, take, string_bytes, IfOk, OnOk, option_map};
 ghost use Rattle.std.specs.List.{flat_map};
-ghost use Rattle.cq_board.specs.Pool.{name_of, opening_pool};
+ghost use Rattle.cq_board.specs.Pool.{name_of};
 ghost use Rattle.cq_board.specs.Named.{matched_named};
 ghost use Rattle.cq_board.specs.Journal.{pool_left};
-ghost use Rattle.cq_ask.specs.Answer.{BeganEmpty, floor_at, published_pool, went_line, change_words, change_line, changes};
+ghost use Rattle.cq_ask.specs.Answer.{floor_at, published_pool, went_line, change_words, change_line, changes};
 
 use cq_atom::{Edit, Name};
 use cq_board::Board;
@@ -110,18 +110,14 @@ fn play<A: Allocator + Copy>(
     Ok(())
 }
 
-/// The board that was published when so many entries were. Its time is that of taking the edits of these entries once more.
+/// Returns the board that was published when so many entries were. Its time is that of taking the edits of these entries once more.
 pub(crate) fn board_at<A: Allocator + Copy>(
-    alloc: A,
     floor: &Floor<Board<A>, A>,
     count: u64,
 ) -> Result<Board<A>, AllocError>
-    requires { BeganEmpty floor.now }
     ensures { IfOk result (λ board. board ≡ published_pool (floor_at floor.now count)) }
 {
-    let shown = floor.board();
-    let catalog = shown.tables().catalog().copy()?;
-    let mut board = Board::begin(alloc, catalog, shown.limits())?;
+    let mut board = floor.opening().copy()?;
     let journal = floor.journal();
     let count = (count as usize).min(journal.len());
     play(&mut board, &journal[..count])?;
@@ -131,14 +127,12 @@ pub(crate) fn board_at<A: Allocator + Copy>(
 /// Puts what changed at the last publish, before which so many entries were published. Its time is that of taking the edits of these
 /// entries once more.
 pub(crate) fn put_last_changes<A: Allocator + Copy>(
-    alloc: A,
     floor: &Floor<Board<A>, A>,
     before: u64,
     page: &mut String<A>,
 ) -> Result<(), AllocError>
-    requires { BeganEmpty floor.now }
     ensures { OnOk result (string_bytes page.new ≡ string_bytes page.old ++ changes (published_pool (floor_at floor.now before)) (published_pool floor.now)) }
 {
-    let past = board_at(alloc, floor, before)?;
+    let past = board_at(floor, before)?;
     put_changes(&past, floor.board(), page)
 }

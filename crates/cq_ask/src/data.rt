@@ -10,7 +10,7 @@ ghost use Rattle.cq_render.specs.Graph.{graph};
 ghost use Rattle.cq_render.specs.Json.{array_of, json_of};
 ghost use Rattle.cq_render.specs.Data.{IsPut, IsArray, IsNearOf, AreReasonsJson, standing_json, named_json};
 ghost use Rattle.cq_going.specs.Data.{IsSoughtJson, AreGroupsJson};
-ghost use Rattle.cq_ask.specs.Answer.{BeganEmpty, published_pool, floor_at, IsVerdict};
+ghost use Rattle.cq_ask.specs.Answer.{published_pool, floor_at, IsVerdict};
 ghost use Rattle.cq_ask.specs.Data.{change_json, went_json, change_word, changed_json, changes_json, verdict_json, IsToldAs, IsMember};
 ghost use Rattle.cq_ask.specs.Steps.Several.{all_tokens};
 ghost use Rattle.cq_ask.specs.Choices.{choice_words};
@@ -320,10 +320,9 @@ fn changes_member<A: Allocator + Copy>(
     floor: &BoardFloor<A>,
     before: u64,
 ) -> Result<String<A>, AllocError>
-    requires { BeganEmpty floor.now }
     ensures { IfOk result (λ text. IsToldAs (λ told. told ≡ (codes "changes", changes_json (published_pool (floor_at floor.now before)) (published_pool floor.now))) (string_bytes text)) }
 {
-    let past = board_at(alloc, floor, before)?;
+    let past = board_at(floor, before)?;
     let mut sheet = JsonText::begin(alloc);
     put_changes(&mut sheet, &past, floor.board())?;
     member(alloc, "changes", sheet)
@@ -361,7 +360,6 @@ pub fn tell_data<A: Allocator + Copy>(
     before: u64,
     ask: &Ask<A>,
 ) -> Result<String<A>, AllocError>
-    requires { ask.now.kind ≡ AskKind.Changes → BeganEmpty floor.now }
     ensures { IfOk result (λ text. IsMember floor.now before ask.now (string_bytes text)) }
 {
     let board = floor.board();

@@ -1,7 +1,6 @@
 //! Lines that ask: each kind answered once, and with each allocation refused in turn.
 
 ghost use Rattle.std.specs.Prelude.{◌≡◌, IfSome};
-ghost use Rattle.cq_ask.specs.Answer.{BeganEmpty};
 
 use cq_ask::{ending, read_ask, tell, tell_data};
 use cq_board::{Board, Limits};
@@ -113,7 +112,6 @@ const ASKED: &[Asked] = &[
 
 /// A floor at which nothing has happened, where there was memory for that.
 fn begun<A: Allocator + Copy>(alloc: A) -> Option<BoardFloor<A>>
-    ensures { IfSome result (λ floor. BeganEmpty floor) }
 {
     let Ok(board) = Board::begin(alloc, Catalog::empty(alloc), LIMITS) else {
         return None;
@@ -126,7 +124,6 @@ fn begun<A: Allocator + Copy>(alloc: A) -> Option<BoardFloor<A>>
 
 /// Posts the query and publishes it, where there is memory for that.
 fn post<A: Allocator + Copy>(alloc: A, floor: &mut BoardFloor<A>) -> Option<()>
-    ensures { floor.new.opening ≡ floor.old.opening }
 {
     let Ok(CommandKind::Edit(edit)) = read_command(alloc, POST, Form::One) else {
         return None;
@@ -142,7 +139,6 @@ fn post<A: Allocator + Copy>(alloc: A, floor: &mut BoardFloor<A>) -> Option<()>
 
 /// The query is posted and published, where there was memory for that.
 fn floor_of<A: Allocator + Copy>(alloc: A) -> Option<BoardFloor<A>>
-    ensures { IfSome result (λ floor. BeganEmpty floor) }
 {
     let mut floor = begun(alloc)?;
     post(alloc, &mut floor)?;
@@ -155,7 +151,6 @@ fn is_answered<A: Allocator + Copy>(
     floor: &BoardFloor<A>,
     asked: &Asked,
 ) -> Result<bool, AllocError>
-    requires { BeganEmpty floor.now }
 {
     let Some(ask) = read_ask(alloc, asked.line)? else {
         return Ok(false);
@@ -170,7 +165,6 @@ fn is_answered<A: Allocator + Copy>(
 }
 
 fn answered<A: Allocator + Copy>(alloc: A, floor: &BoardFloor<A>, asked: &Asked) -> Outcome
-    requires { BeganEmpty floor.now }
 {
     match is_answered(alloc, floor, asked) {
         Ok(right) => Outcome::done_if(right),
