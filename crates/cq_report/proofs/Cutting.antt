@@ -1,5 +1,5 @@
 -- Lines cut at LF, and the front of a line that is kept.
-use Rattle.std.proofs.Common.{◌≡◌, ◌==◌, ℕ, zero, suc, ◌+◌, ◌-◌, ◌<◌, ◌≤◌, List, [], ◌∷◌, ◌++◌, length, take, drop, get_or, refl, sym, ap, subst, ◌∙◌, ◌⊎◌, inl, inr, false, cond, Some, None, append_assoc, take-append-drop, drop-cons, arith, lit<}
+use Rattle.std.proofs.Common.{◌≡◌, ◌==◌, ℕ, zero, suc, ◌+◌, ◌-◌, ◌<◌, ◌≤◌, List, [], ◌∷◌, ◌++◌, length, take, drop, get_or, refl, sym, ap, subst, ◌∙◌, ◌⊎◌, inl, inr, false, cond, Some, None, append_assoc, append-nil, take-append-drop, drop-cons, arith, lit<}
 use Rattle.std.specs.Prelude.{min, nat_lt, position}
 use Rattle.std.specs.List.{position_or_len}
 use Rattle.std.proofs.Math.Seq.{take-append-add}
@@ -9,6 +9,7 @@ use Rattle.std.proofs.lemmas.List.Sums.{fails_before_first}
 use Rattle.std.proofs.lemmas.Bool.{cases_lt, eqb-true}
 use Rattle.cq_report.specs.Lines.{lines_of, whole_lines, before_first, before_whole}
 use Rattle.cq_report.specs.declared.line_buffer.TheConstants.{KEPT}
+use Rattle.cq_report.specs.Live.{line_room}
 use Rattle.cq_report.specs.Steps.Kept.{kept}
 use Rattle.cq_report.specs.Steps.Serving.{HaveNoEnd, ended}
 use Rattle.cq_report.specs.Lines.{HasNoEnd}
@@ -48,6 +49,20 @@ kept_none l e = take_none KEPT l (lit< tt) e
 pub kept_some : (l : List ℕ) → 0 < length (kept l) → 0 < length l
 unfolding kept
 kept_some l h = omega (arith, length-take KEPT l, h)
+
+-- no more is kept than there is
+pub kept_short : (l : List ℕ) → length (kept l) ≤ length l
+unfolding kept
+kept_short l = omega (arith, length-take KEPT l)
+
+-- what is kept of more bytes than there is room for are more
+pub kept_long : (l : List ℕ) → line_room < length l → line_room < length (kept l)
+unfolding kept
+kept_long l h = let most : line_room < KEPT = omega arith in omega (arith, length-take KEPT l, h, most)
+
+-- what is kept is kept
+pub kept_kept : (l : List ℕ) → kept (kept l) ≡ kept l
+kept_kept l = ap kept (sym (append-nil (kept l))) ∙ kept_again l [] ∙ ap kept (append-nil l)
 
 pub kept_nil : kept [] ≡ []
 unfolding kept

@@ -1,19 +1,17 @@
 pub mod CallerLemmas
 mod Examples
-pub mod Acting
 pub mod Answering
-pub mod Tallying
+pub mod Asking
 pub mod Cutting
+pub mod Empty
+pub mod Ending
 pub mod Ends
 pub mod Kept
-pub mod Served
-pub mod Starving
-pub mod Halting
-pub mod Ending
 pub mod Leaving
-pub mod Runs
 pub mod Lives
-pub mod Asking
-pub mod Empty
+pub mod Obeying
 pub mod Parts
+pub mod Runs
+pub mod Scripts
+pub mod Served
 pub mod Sums

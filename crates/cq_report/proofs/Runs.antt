@@ -1,14 +1,9 @@
 -- What is known of a run, by what is known of how it ended.
-use Rattle.std.proofs.Common.{◌≡◌, ◌+◌, ℕ, sym, subst}
+use Rattle.std.proofs.Common.{◌≡◌, sym, subst}
 use Rattle.std.specs.Prelude.{Result, Ok, Err, OnOk, IfOk, IfErr, MatchResult}
 use Rattle.cq_devices.specs.declared.stop.Stop.{Stop}
 use Rattle.cq_report.specs.Machine.{State}
 use Rattle.cq_report.specs.Steps.Playing.{ran}
-use Rattle.cq_devices.specs.Device.{write_failures_of}
-
--- the counts of a writer are those of what it is then
-pub run_rises : (ended : Result (Unit {0}) Stop) (old new was is : ℕ) → old ≡ was → new ≡ is → MatchResult ended (λ _. new ≡ old) (λ fault. new ≡ old + write_failures_of fault) → MatchResult ended (λ _. is ≡ was) (λ fault. is ≡ was + write_failures_of fault)
-run_rises ended old new was is e e' h = rw (e, e') at h
 
 module _ (state : State) where
   -- what holds of the state holds of what is left

@@ -1,123 +1,171 @@
--- Lines answered one after another.
-use Rattle.std.proofs.Common.{◌≡◌, ℕ, ◌<◌, ◌+◌, List, [], ◌∷◌, ◌++◌, length, Option, refl, sym, ap, subst, ◌∙◌, append_assoc, append-nil, arith}
+-- Lines served one after another.
+use Rattle.std.proofs.Common.{◌≡◌, ℕ, ◌<◌, ◌≤◌, ◌+◌, true, false, List, [], ◌∷◌, ◌++◌, length, Option, Some, None, inl, inr, refl, sym, ap, subst, ◌∙◌, append_assoc, append-nil, length-append, arith}
 use Rattle.std.proofs.lemmas.List.{nil_from_length}
 use Rattle.cq_report.specs.declared.output.Output.{Output}
 use Rattle.cq_devices.specs.declared.stop.Stop.{Stop}
-use Rattle.cq_devices.specs.declared.stop.Stop.TheVariants as faults
-use Rattle.cq_text.specs.declared.form.Form.{Form}
-use Rattle.cq_report.specs.Lines.{lines_of}
-use Rattle.cq_report.specs.Reading.{Reading, IsReading}
-use Rattle.cq_report.specs.Machine.{State, form_in, next, reply}
-use Rattle.cq_report.specs.Output.{AreReadFrom, state_after, output_from}
-use Rattle.cq_report.specs.Steps.Written.{Puts, Breaks, Fails}
-use Rattle.cq_report.specs.Steps.Kept.{kept}
-use Rattle.cq_report.specs.Steps.Serving.{HaveNoEnd, ended, Answered, Served, Finished, Stopped, ServesOn, StopsOn, IsSound}
-use Rattle.cq_report.specs.Lines.{HasNoEnd}
-use Rattle.cq_report.proofs.Cutting.{kept_nil, kept_again, kept_none, kept_some, lines_of_all_ended, lines_of_ended, lines_of_open, HasNoEnd-append, HaveNoEnd-more, ended-more}
-use Rattle.cq_report.proofs.Kept.{IsReading-kept, IsReading-whole}
-use Rattle.cq_report.specs.Steps.Writing.{Puts-nothing, Puts-then, Puts-breaks, Breaks-more, Puts-cut, Puts-starved}
+use Rattle.cq_devices.specs.declared.stop.Stop.TheVariants as stops
+use Rattle.cq_devices.specs.declared.stop.Stop.TheVariants.{Write, NoMemory}
 use Rattle.cq_devices.specs.Device.{write_failures_of}
+use Rattle.cq_devices.specs.Limits.{max_piece}
+use Rattle.std.specs.Io.KnownBytes.{Consumes}
+use Rattle.cq_ask.specs.Ask.{asked}
+use Rattle.cq_report.specs.declared.manner.Manner.{Manner}
+use Rattle.cq_report.specs.declared.manner.Manner.TheVariants as manners
+use Rattle.cq_report.specs.Lines.{lines_of, whole_lines, HasNoEnd}
+use Rattle.cq_report.specs.Reading.{IsReading}
+use Rattle.cq_report.specs.Machine.{State, form_in}
+use Rattle.cq_report.specs.Live.{Turn, Served as ReadsAs, Asked, OutOfMemory, Unheard, IsTurn, AreTurns, MayStarve, asked_in, is_done, line_room, turned, turn_reply, state_turned, replies_to}
+use Rattle.cq_report.specs.Steps.Kept.{kept}
+use Rattle.cq_report.specs.Steps.Written.{Puts, Breaks, Fails}
+use Rattle.cq_report.specs.Steps.Writing.{Puts-nothing, Puts-then, Puts-breaks}
+use Rattle.cq_report.specs.Steps.Serving.{HaveNoEnd, ended, IsSound, Keeps, KeepsOn, Ends, whole_in, is_new, IsLine, Turns, TurnBreaks, Starves, Answers, AnswerStops, Served, Broken, Starved, Finished, Finishes, ServesOn, StopsOn, Ceased, LastRead, Stopped}
+use Rattle.cq_report.proofs.Cutting.{kept_nil, kept_again, kept_none, kept_some, kept_kept, kept_short, kept_long, lines_of_all_ended, lines_of_ended, lines_of_open, whole_lines_all_ended, HasNoEnd-append, HaveNoEnd-more, ended-more}
+use Rattle.cq_report.proofs.Kept.{IsReading-kept, IsReading-whole, asked_kept}
 
--- ---- readings of one list of lines after another
+-- ---- one line more
 
-pub record Parted (state : State) (lines more : List (List ℕ)) (rs : List Reading) : Type 0 where
-  pub front : List Reading
-  pub rest : List Reading
-  pub whole : rs ≡ front ++ rest
-  pub are : AreReadFrom state.heading lines front
-  pub follow : AreReadFrom (state_after state front).heading more rest
+AreTurns-more : (manner : Manner) (state : State) (lines : List (List ℕ)) (turns : List Turn) (line : List ℕ) (turn : Turn) → AreTurns manner state lines turns → IsTurn manner (state_turned state turns) line turn
+    → AreTurns manner state (lines ++ line ∷ []) (turns ++ turn ∷ [])
+AreTurns-more manner state [] [] line turn h i = (i, tt)
+AreTurns-more manner state [] (t ∷ turns) line turn h i = absurd h
+AreTurns-more manner state (l ∷ lines) [] line turn h i = absurd h
+AreTurns-more manner state (l ∷ lines) (t ∷ turns) line turn h i = (h.0, AreTurns-more manner (turned state t) lines turns line turn h.1 i)
 
-pub part : (state : State) (lines more : List (List ℕ)) (rs : List Reading) → AreReadFrom state.heading (lines ++ more) rs → Parted state lines more rs
-part state [] more rs h = record { front = []; rest = rs; whole = refl; are = tt; follow = h }
-part state (line ∷ lines) more [] h = absurd h
-part state (line ∷ lines) more (r ∷ rs) h = let p = part (next state r) lines more rs h.1 in record {
-  front = r ∷ p.front;
-  rest = p.rest;
-  whole = ap (λ (l : List Reading). r ∷ l) p.whole;
-  are = (h.0, p.are);
-  follow = p.follow;
-}
+state_turned-more : (state : State) (turns : List Turn) (turn : Turn) → state_turned state (turns ++ turn ∷ []) ≡ turned (state_turned state turns) turn
+state_turned-more state [] turn = refl
+state_turned-more state (t ∷ turns) turn = state_turned-more (turned state t) turns turn
 
-pub join : (state : State) (lines more : List (List ℕ)) (rs qs : List Reading) → AreReadFrom state.heading lines rs → AreReadFrom (state_after state rs).heading more qs → AreReadFrom state.heading (lines ++ more) (rs ++ qs)
-join state [] more [] qs h k = k
-join state [] more (r ∷ rs) qs h k = absurd h
-join state (line ∷ lines) more [] qs h k = absurd h
-join state (line ∷ lines) more (r ∷ rs) qs h k = (h.0, join (next state r) lines more rs qs h.1 k)
+replies_to-more : (state : State) (turns : List Turn) (turn : Turn) → replies_to state turns ++ turn_reply (state_turned state turns) turn ≡ replies_to state (turns ++ turn ∷ [])
+replies_to-more state [] turn = sym (append-nil (turn_reply state turn))
+replies_to-more state (t ∷ turns) turn =
+    append_assoc (turn_reply state t) (replies_to (turned state t) turns) (turn_reply (state_turned (turned state t) turns) turn) ∙ ap (λ (bytes : List ℕ). turn_reply state t ++ bytes) (replies_to-more (turned state t) turns turn)
 
-pub output_from-append : (state : State) (rs qs : List Reading) → output_from state (rs ++ qs) ≡ output_from state rs ++ output_from (state_after state rs) qs
-output_from-append state [] qs = refl
-output_from-append state (r ∷ rs) qs =
-    ap (λ (l : List ℕ). reply state r ++ l) (output_from-append (next state r) rs qs) ∙ sym (append_assoc (reply state r) (output_from (next state r) rs) (output_from (state_after (next state r) rs) qs))
+turns_then : (manner : Manner) (state : State) (lines more : List (List ℕ)) (turns then : List Turn) → AreTurns manner state lines turns → AreTurns manner (state_turned state turns) more then → AreTurns manner state (lines ++ more) (turns ++ then)
+turns_then manner state [] more [] then h k = k
+turns_then manner state [] more (t ∷ turns) then h k = absurd h
+turns_then manner state (l ∷ lines) more [] then h k = absurd h
+turns_then manner state (l ∷ lines) more (t ∷ turns) then h k = (h.0, turns_then manner (turned state t) lines more turns then h.1 k)
 
-pub state_after-append : (state : State) (rs qs : List Reading) → state_after state (rs ++ qs) ≡ state_after (state_after state rs) qs
-state_after-append state [] qs = refl
-state_after-append state (r ∷ rs) qs = state_after-append (next state r) rs qs
+replies_then : (state : State) (turns then : List Turn) → replies_to state (turns ++ then) ≡ replies_to state turns ++ replies_to (state_turned state turns) then
+replies_then state [] then = refl
+replies_then state (t ∷ turns) then =
+    ap (λ (bytes : List ℕ). turn_reply state t ++ bytes) (replies_then (turned state t) turns then) ∙ sym (append_assoc (turn_reply state t) (replies_to (turned state t) turns) (replies_to (state_turned (turned state t) turns) then))
 
--- the readings of one line
-pub record First (state : State) (line : List ℕ) (more : List (List ℕ)) (rs : List Reading) : Type 0 where
-  pub reading : Reading
-  pub rest : List Reading
-  pub whole : rs ≡ reading ∷ rest
-  pub is : IsReading (form_in state) line reading
-  pub follow : AreReadFrom (next state reading).heading more rest
+state_then : (state : State) (turns then : List Turn) → state_turned state (turns ++ then) ≡ state_turned (state_turned state turns) then
+state_then state [] then = refl
+state_then state (t ∷ turns) then = state_then (turned state t) turns then
 
-pub first_of_them : (state : State) (line : List ℕ) (more : List (List ℕ)) (rs : List Reading) → AreReadFrom state.heading (line ∷ more) rs → First state line more rs
-first_of_them state line more [] h = absurd h
-first_of_them state line more (r ∷ rs) h = record { reading = r; rest = rs; whole = refl; is = h.0; follow = h.1 }
+-- ---- what is kept
 
-pub none_of_them : (state : State) (rs : List Reading) → AreReadFrom state.heading [] rs → rs ≡ []
-none_of_them state [] h = refl
-none_of_them state (r ∷ rs) h = absurd h
+keeps_on : (line line' : Option (List ℕ)) (pending more : List ℕ) → Keeps line pending → KeepsOn line more line' → Keeps line' (pending ++ more)
+keeps_on None None pending more h k = let both = length-append pending more in omega (arith, both, h)
+keeps_on None (Some l) pending more h k = absurd k
+keeps_on (Some f) None pending more h k =
+    let both = length-append pending more in
+    let few : length f ≤ length pending = subst (λ (l : List ℕ). length l ≤ length pending) (sym h) (kept_short pending) in
+    omega (arith, both, few, k)
+keeps_on (Some f) (Some l) pending more h (inl k) = k ∙ ap (λ (bytes : List ℕ). kept (bytes ++ more)) h ∙ kept_again pending more
+keeps_on (Some f) (Some l) pending more h (inr (none, k)) = k ∙ h ∙ ap kept (sym (append-nil pending) ∙ ap (λ (bytes : List ℕ). pending ++ bytes) (sym none))
 
--- the replies to some lines, and to others
-output_from-split : (state : State) (rs front rest : List Reading) → rs ≡ front ++ rest → output_from state front ++ output_from (state_after state front) rest ≡ output_from state rs
-output_from-split state rs front rest e = rw e (sym (output_from-append state front rest))
+-- no bytes more leave what is kept
+pub keeps_none : (line : Option (List ℕ)) (bytes : List ℕ) → length bytes ≡ 0 → KeepsOn line bytes line
+keeps_none None bytes none = tt
+keeps_none (Some l) bytes none = inr (nil_from_length bytes none, refl)
 
--- the replies to some lines, one more, and others
-output_from-parted : (state here : State) (rs front : List Reading) (r : Reading) (rest : List Reading) → rs ≡ front ++ (r ∷ rest) → here ≡ state_after state front
-    → (output_from state front ++ reply here r) ++ output_from (next here r) rest ≡ output_from state rs
-output_from-parted state here rs front r rest e h =
-    rw h (append_assoc (output_from state front) (reply (state_after state front) r) (output_from (next (state_after state front) r) rest)) ∙ output_from-split state rs front (r ∷ rest) e
+-- bytes that were kept are no line that begins
+never_new : (b : ℕ) (bs more : List ℕ) (P : Type 0) → KeepsOn (Some (b ∷ bs)) more (Some []) → P
+never_new b bs more P (inl k) = absurd (let none = kept_none ((b ∷ bs) ++ more) (ap length (sym k)) in omega (arith, none))
+never_new b bs more P (inr (none, k)) = absurd cc
 
--- the state after some lines and one more
-state_after-one : (state here : State) (rs front : List Reading) (r : Reading) → rs ≡ front ++ (r ∷ []) → here ≡ state_after state front → next here r ≡ state_after state rs
-state_after-one state here rs front r e h = rw (h, e) (sym (state_after-append state front (r ∷ [])))
+-- what is known of a line after its last bytes
+ends_line : (line line' : Option (List ℕ)) (pending last : List ℕ) → Keeps line pending → Ends line last line' → IsLine (whole_in line' last) (pending ++ last)
+ends_line None None pending last h k = let both = length-append pending last in omega (arith, both, h)
+ends_line None (Some l) pending last h k = absurd k
+ends_line (Some []) line' pending last h k =
+    let none : pending ≡ [] = nil_from_length pending (kept_none pending (ap length (sym h))) in
+    subst (λ (l : Option (List ℕ)). IsLine (whole_in l last) (pending ++ last)) (sym k) (ap (λ (p : List ℕ). kept (p ++ last)) (sym none))
+ends_line (Some (b ∷ bs)) None pending last h k = keeps_on (Some (b ∷ bs)) None pending last h k
+ends_line (Some (b ∷ bs)) (Some []) pending last h k = never_new b bs last _ k
+ends_line (Some (b ∷ bs)) (Some (c ∷ cs)) pending last h k = ap kept (keeps_on (Some (b ∷ bs)) (Some (c ∷ cs)) pending last h k) ∙ kept_kept (pending ++ last)
+
+-- what is known of a line that the end of the source ends
+last_line : (line : Option (List ℕ)) (pending : List ℕ) → is_new line ≡ false → Keeps line pending → IsLine (whole_in line []) pending
+last_line None pending new h = h
+last_line (Some []) pending new h = absurd cc
+last_line (Some (b ∷ bs)) pending new h = ap kept h ∙ kept_kept pending
+
+-- of a line of which nothing is kept nothing was read
+new_keeps : (line : Option (List ℕ)) (pending : List ℕ) → is_new line ≡ true → Keeps line pending → pending ≡ []
+new_keeps None pending new h = cc
+new_keeps (Some l) pending new h = let none : length l ≡ 0 = grind arith in nil_from_length pending (kept_none pending (rw h at none))
+
+-- of a line of which something is kept something was read
+some_keeps : (line : Option (List ℕ)) (pending : List ℕ) → is_new line ≡ false → Keeps line pending → 0 < length pending
+some_keeps None pending new h = omega (arith, h)
+some_keeps (Some l) pending new h = let some : 0 < length l = grind arith in kept_some pending (rw h at some)
+
+-- ---- what comes of what is kept comes of the line
+
+same_asked : (manner : Manner) (line all : List ℕ) → kept line ≡ kept all → asked_in manner line ≡ asked_in manner all
+same_asked manners.Live line all e = sym (asked_kept line) ∙ ap asked e ∙ asked_kept all
+same_asked (manners.Script is_strict) line all e = refl
+
+same_room : (line all : List ℕ) → kept line ≡ kept all → line_room < length line → line_room < length all
+same_room line all e h = let long = kept_long line h in let short = kept_short all in let same = ap length e in omega (arith, long, short, same)
+
+pub same_starve : (line all : List ℕ) → kept line ≡ kept all → MayStarve line → MayStarve all
+same_starve line all e (inl h) = inl (same_room line all e h)
+same_starve line all e (inr h) = inr (λ ask is. h ask (same_asked manners.Live line all e ∙ is))
+
+pub turn_of_line : (manner : Manner) (state : State) (line all : List ℕ) (turn : Turn) → kept line ≡ kept all → IsTurn manner state line turn → IsTurn manner state all turn
+turn_of_line manner state line all (ReadsAs reading) e i = (
+  i.0,
+  sym (same_asked manner line all e) ∙ i.1,
+  IsReading-whole (form_in state) all reading (subst (λ (l : List ℕ). IsReading (form_in state) l reading) e (IsReading-kept (form_in state) line reading i.2)),
+)
+turn_of_line manner state line all (Asked ask told) e i = (i.0, sym (same_asked manner line all e) ∙ i.1, i.2)
+turn_of_line manner state line all OutOfMemory e i = (i.0, i.1, same_starve line all e i.2)
+turn_of_line manner state line all Unheard e i = i
+
+-- ---- no further line is heard
+
+unheard_turns : List (List ℕ) → List Turn
+unheard_turns [] = []
+unheard_turns (line ∷ lines) = Unheard ∷ unheard_turns lines
+
+unheard_are : (manner : Manner) (state : State) (lines : List (List ℕ)) → is_done manner state ≡ true → AreTurns manner state lines (unheard_turns lines)
+unfolding unheard_turns
+unheard_are manner state [] over = tt
+unheard_are manner state (line ∷ lines) over = (over, unheard_are manner state lines over)
+
+unheard_replies : (state : State) (lines : List (List ℕ)) → replies_to state (unheard_turns lines) ≡ []
+unfolding unheard_turns
+unheard_replies state [] = refl
+unheard_replies state (line ∷ lines) = unheard_replies state lines
+
+unheard_state : (state : State) (lines : List (List ℕ)) → state_turned state (unheard_turns lines) ≡ state
+unfolding unheard_turns
+unheard_state state [] = refl
+unheard_state state (line ∷ lines) = unheard_state state lines
+
+-- ---- cuts
 
 -- the lines of whole lines, and of what stands after them
 pub lines_of_behind : (lines : List (List ℕ)) (pending bytes rest : List ℕ) → bytes ≡ ended lines ++ pending → HaveNoEnd lines → lines_of (bytes ++ rest) ≡ lines ++ lines_of (pending ++ rest)
 lines_of_behind lines pending bytes rest e h = rw (e, append_assoc (ended lines) pending rest) (lines_of_all_ended lines (pending ++ rest) h)
 
 -- the lines that were served, one more, and what is left
-pub cut_on : (done rest line behind piece : List ℕ) → done ++ rest ≡ piece → rest ≡ line ++ (10 ∷ behind) → done ++ (line ++ (10 ∷ behind)) ≡ piece
-cut_on done rest line behind piece e f = ap (λ (l : List ℕ). done ++ l) (sym f) ∙ e
-
 pub cut_past : (done rest line behind piece : List ℕ) → done ++ rest ≡ piece → rest ≡ line ++ (10 ∷ behind) → (done ++ (line ++ 10 ∷ [])) ++ behind ≡ piece
 cut_past done rest line behind piece e f =
-    append_assoc done (line ++ 10 ∷ []) behind ∙ ap (λ (l : List ℕ). done ++ l) (append_assoc line (10 ∷ []) behind) ∙ cut_on done rest line behind piece e f
+    append_assoc done (line ++ 10 ∷ []) behind ∙ ap (λ (l : List ℕ). done ++ l) (append_assoc line (10 ∷ []) behind ∙ sym f) ∙ e
 
-module _ {W A : Type 0} (taken : W → Option (List ℕ)) (failures : W → ℕ) (first : Output W A) (opening : State) where
-  abbrev Put : Output W A → List ℕ → Type 0
-  Put now bytes = Puts taken failures first now bytes
+-- bytes, the front of a piece, a line of it, and what is behind
+cut_on : (bytes done rest line behind piece : List ℕ) → done ++ rest ≡ piece → rest ≡ line ++ (10 ∷ behind) → (bytes ++ done) ++ (line ++ (10 ∷ behind)) ≡ bytes ++ piece
+cut_on bytes done rest line behind piece e f = append_assoc bytes done (line ++ (10 ∷ behind)) ∙ ap (λ (l : List ℕ). bytes ++ l) (ap (λ (l : List ℕ). done ++ l) (sym f) ∙ e)
 
-  answered_none : Answered taken failures first opening [] first opening
-  answered_none rs h = rw (none_of_them opening rs h) (refl, Puts-nothing taken failures first)
-
-  -- one more line was answered
-  answered_more : (lines : List (List ℕ)) (line : List ℕ) (now now' : Output W A) (state state' : State) → Answered taken failures first opening lines now state
-      → ((reading : Reading) → IsReading (form_in state) line reading → (state' ≡ next state reading) × Puts taken failures now now' (reply state reading))
-      → Answered taken failures first opening (lines ++ line ∷ []) now' state'
-  answered_more lines line now now' state state' a answer rs h =
-      let p = part opening lines (line ∷ []) rs h in
-      let before = a p.front p.are in
-      let f = first_of_them state line [] p.rest (subst (λ (s : State). AreReadFrom s.heading (line ∷ []) p.rest) (sym before.0) p.follow) in
-      let e : rs ≡ p.front ++ (f.reading ∷ []) = p.whole ∙ ap (λ (l : List Reading). p.front ++ l) (f.whole ∙ ap (λ (l : List Reading). f.reading ∷ l) (none_of_them (next state f.reading) f.rest f.follow)) in
-      let here = answer f.reading f.is in
-      let out : output_from opening p.front ++ reply state f.reading ≡ output_from opening rs =
-      sym (append-nil (output_from opening p.front ++ reply state f.reading)) ∙ output_from-parted opening state rs p.front f.reading [] e before.0 in
-      (here.0 ∙ state_after-one opening state rs p.front f.reading e before.0, subst (Put now') out (Puts-then taken failures first now now' (output_from opening p.front) (reply state f.reading) before.1 here.1))
-
+module _ (manner : Manner) {W A : Type 0} (taken : W → Option (List ℕ)) (failures : W → ℕ) (first : Output W A) (opening : State) where
   -- nothing has been read
-  pub Served-nothing : Served taken failures first opening first opening [] []
+  pub Served-nothing : Served manner taken failures first opening first opening (Some []) []
   Served-nothing = record {
     lines = [];
     pending = [];
@@ -125,49 +173,78 @@ module _ {W A : Type 0} (taken : W → Option (List ℕ)) (failures : W → ℕ)
     no_end = tt;
     open_end = tt;
     keeps = sym kept_nil;
-    readings = [];
+    turns = [];
     are = tt;
-    answered = answered_none;
+    after = refl;
+    puts = Puts-nothing taken failures first;
+  }
+
+  -- from here on, what was read of the line that is not ended has been read
+  pub Served-again : (now : Output W A) (state : State) (line : Option (List ℕ)) (bytes : List ℕ) (s : Served manner taken failures first opening now state line bytes) → Served manner taken failures now state now state line s.pending
+  Served-again now state line bytes s = record {
+    lines = [];
+    pending = s.pending;
+    cut = refl;
+    no_end = tt;
+    open_end = s.open_end;
+    keeps = s.keeps;
+    turns = [];
+    are = tt;
+    after = refl;
+    puts = Puts-nothing taken failures now;
   }
 
   -- bytes that end no line
-  pub Served-front : (now : Output W A) (state : State) (line line' bytes more : List ℕ) → Served taken failures first opening now state line bytes → HasNoEnd more → line' ≡ kept (line ++ more) → Served taken failures first opening now state line' (bytes ++ more)
+  Served-front : (now : Output W A) (state : State) (line line' : Option (List ℕ)) (bytes more : List ℕ) → Served manner taken failures first opening now state line bytes → HasNoEnd more → KeepsOn line more line'
+      → Served manner taken failures first opening now state line' (bytes ++ more)
   Served-front now state line line' bytes more s none_ends k = record {
     lines = s.lines;
     pending = s.pending ++ more;
     cut = ap (λ (l : List ℕ). l ++ more) s.cut ∙ append_assoc (ended s.lines) s.pending more;
     no_end = s.no_end;
     open_end = HasNoEnd-append s.pending more s.open_end none_ends;
-    keeps = k ∙ ap (λ (l : List ℕ). kept (l ++ more)) s.keeps ∙ kept_again s.pending more;
-    readings = s.readings;
+    keeps = keeps_on line line' s.pending more s.keeps k;
+    turns = s.turns;
     are = s.are;
-    answered = s.answered;
+    after = s.after;
+    puts = s.puts;
   }
 
-  -- what holds of each reading of what is kept holds of each reading of the line
-  of_kept : (form : Form) (line pending : List ℕ) (P : Reading → Type 0) → line ≡ kept pending → ((reading : Reading) → IsReading form line reading → P reading) → (reading : Reading) → IsReading form pending reading → P reading
-  of_kept form line pending P e h r i = h r (subst (λ (l : List ℕ). IsReading form l r) (sym e) (IsReading-kept form pending r i))
+  -- the replies to lines, and that to one more
+  replies_more : (now now' : Output W A) (state state' : State) (line : Option (List ℕ)) (bytes all : List ℕ) (s : Served manner taken failures first opening now state line bytes) (t : Turns manner taken failures now now' state state' all)
+      → Puts taken failures first now' (replies_to opening (s.turns ++ t.turn ∷ []))
+  replies_more now now' state state' line bytes all s t =
+      subst (Puts taken failures first now') (ap (λ (z : State). replies_to opening s.turns ++ turn_reply z t.turn) s.after ∙ replies_to-more opening s.turns t.turn)
+      (Puts-then taken failures first now now' (replies_to opening s.turns) (turn_reply state t.turn) s.puts t.puts)
 
-  -- LF, after which the line is answered
-  pub Served-line : (now now' : Output W A) (state state' : State) (line bytes : List ℕ) → Served taken failures first opening now state line bytes
-      → (reading : Reading) × IsReading (form_in state) line reading
-      → ((reading : Reading) → IsReading (form_in state) line reading → (state' ≡ next state reading) × Puts taken failures now now' (reply state reading))
-      → Served taken failures first opening now' state' [] (bytes ++ 10 ∷ [])
-  Served-line now now' state state' line bytes s (r, read) answer = record {
-    lines = s.lines ++ s.pending ∷ [];
-    pending = [];
-    cut = ap (λ (l : List ℕ). l ++ 10 ∷ []) s.cut ∙ append_assoc (ended s.lines) s.pending (10 ∷ []) ∙ ended-more s.lines s.pending ∙ sym (append-nil (ended (s.lines ++ s.pending ∷ [])));
-    no_end = HaveNoEnd-more s.lines s.pending s.no_end s.open_end;
-    open_end = tt;
-    keeps = sym kept_nil;
-    readings = s.readings ++ r ∷ [];
-    are = join opening s.lines (s.pending ∷ []) s.readings (r ∷ []) s.are
-        (subst (λ (z : State). IsReading (form_in z) s.pending r) (s.answered s.readings s.are).0 (IsReading-whole (form_in state) s.pending r (subst (λ (l : List ℕ). IsReading (form_in state) l r) s.keeps read)), tt);
-    answered = answered_more s.lines s.pending now now' state state' s.answered (of_kept (form_in state) line s.pending (λ r'. (state' ≡ next state r') × Puts taken failures now now' (reply state r')) s.keeps answer);
-  }
+  state_more : (now : Output W A) (state state' : State) (line : Option (List ℕ)) (bytes : List ℕ) (s : Served manner taken failures first opening now state line bytes) (turn : Turn) → state' ≡ turned state turn → state' ≡ state_turned opening (s.turns ++ turn ∷ [])
+  state_more now state state' line bytes s turn e = e ∙ ap (λ (z : State). turned z turn) s.after ∙ sym (state_turned-more opening s.turns turn)
+
+  are_more : (now : Output W A) (state : State) (line : Option (List ℕ)) (bytes all : List ℕ) (s : Served manner taken failures first opening now state line bytes) (turn : Turn) → IsTurn manner state all turn → AreTurns manner opening (s.lines ++ all ∷ []) (s.turns ++ turn ∷ [])
+  are_more now state line bytes all s turn i = AreTurns-more manner opening s.lines s.turns all turn s.are (subst (λ (z : State). IsTurn manner z all turn) s.after i)
+
+  -- the last bytes of a line and LF, after which it is served
+  pub Served-line : (now now' : Output W A) (state state' : State) (line line' : Option (List ℕ)) (bytes last : List ℕ) → Served manner taken failures first opening now state line bytes → HasNoEnd last → Ends line last line'
+      → Answers manner taken failures now now' state state' (whole_in line' last) → Served manner taken failures first opening now' state' (Some []) (bytes ++ (last ++ 10 ∷ []))
+  Served-line now now' state state' line line' bytes last s none_ends k answers =
+      let all = s.pending ++ last in
+      let t = answers all (ends_line line line' s.pending last s.keeps k) in
+      record {
+        lines = s.lines ++ all ∷ [];
+        pending = [];
+        cut = ap (λ (l : List ℕ). l ++ (last ++ 10 ∷ [])) s.cut ∙ append_assoc (ended s.lines) s.pending (last ++ 10 ∷ []) ∙ ap (λ (l : List ℕ). ended s.lines ++ l) (sym (append_assoc s.pending last (10 ∷ [])))
+            ∙ ended-more s.lines all ∙ sym (append-nil (ended (s.lines ++ all ∷ [])));
+        no_end = HaveNoEnd-more s.lines all s.no_end (HasNoEnd-append s.pending last s.open_end none_ends);
+        open_end = tt;
+        keeps = sym kept_nil;
+        turns = s.turns ++ t.turn ∷ [];
+        are = are_more now state line bytes all s t.turn t.is;
+        after = state_more now state state' line bytes s t.turn t.after;
+        puts = replies_more now now' state state' line bytes all s t;
+      }
 
   -- what waited was passed on
-  pub Served-passed : (now now' : Output W A) (state : State) (line bytes : List ℕ) → Served taken failures first opening now state line bytes → Puts taken failures now now' [] → Served taken failures first opening now' state line bytes
+  pub Served-passed : (now now' : Output W A) (state : State) (line : Option (List ℕ)) (bytes : List ℕ) → Served manner taken failures first opening now state line bytes → Puts taken failures now now' [] → Served manner taken failures first opening now' state line bytes
   Served-passed now now' state line bytes s p = record {
     lines = s.lines;
     pending = s.pending;
@@ -175,191 +252,235 @@ module _ {W A : Type 0} (taken : W → Option (List ℕ)) (failures : W → ℕ)
     no_end = s.no_end;
     open_end = s.open_end;
     keeps = s.keeps;
-    readings = s.readings;
+    turns = s.turns;
     are = s.are;
-    answered = λ rs h. ((s.answered rs h).0, subst (Put now') (append-nil (output_from opening rs)) (Puts-then taken failures first now now' (output_from opening rs) [] (s.answered rs h).1 p));
+    after = s.after;
+    puts = subst (Puts taken failures first now') (append-nil (replies_to opening s.turns)) (Puts-then taken failures first now now' (replies_to opening s.turns) [] s.puts p);
   }
 
-  -- a fault in the answer to a line that others follow
-  stopped_at : (lines : List (List ℕ)) (line : List ℕ) (more : List (List ℕ)) (now now' : Output W A) (state : State) (bytes : List ℕ) (fault : Stop) → Answered taken failures first opening lines now state
-      → lines_of bytes ≡ lines ++ (line ∷ more)
-      → ((reading : Reading) → IsReading (form_in state) line reading → Breaks taken failures now now' (reply state reading) fault)
-      → Stopped taken failures first opening now' bytes fault
-  stopped_at lines line more now now' state bytes fault a cut breaks rs h =
-      let p = part opening lines (line ∷ more) rs (subst (λ (ls : List (List ℕ)). AreReadFrom opening.heading ls rs) cut h) in
-      let before = a p.front p.are in
-      let f = first_of_them state line more p.rest (subst (λ (s : State). AreReadFrom s.heading (line ∷ more) p.rest) (sym before.0) p.follow) in
-      let e : rs ≡ p.front ++ (f.reading ∷ f.rest) = p.whole ∙ ap (λ (l : List Reading). p.front ++ l) f.whole in
-      let here = Puts-breaks taken failures first now now' (output_from opening p.front) (reply state f.reading) fault before.1 (breaks f.reading f.is) in
-      let others = output_from (next state f.reading) f.rest in
-      subst (λ (l : List ℕ). Breaks taken failures first now' l fault) (output_from-parted opening state rs p.front f.reading f.rest e before.0) (Breaks-more taken failures first now' (output_from opening p.front ++ reply state f.reading) others fault here)
+  -- the writer failed at the reply to a line that others follow
+  broken_at : (now now' : Output W A) (state : State) (line : Option (List ℕ)) (bytes all whole : List ℕ) (more : List (List ℕ)) (s : Served manner taken failures first opening now state line bytes) → lines_of whole ≡ s.lines ++ (all ∷ more)
+      → TurnBreaks manner taken failures now now' state all → Broken manner taken failures first opening now' whole
+  broken_at now now' state line bytes all whole more s cut t = record {
+    lines = s.lines ++ all ∷ [];
+    more = more;
+    cut = cut ∙ sym (append_assoc s.lines (all ∷ []) more);
+    turns = s.turns ++ t.turn ∷ [];
+    are = are_more now state line bytes all s t.turn t.is;
+    breaks = subst (λ (bs : List ℕ). Breaks taken failures first now' bs Write) (ap (λ (z : State). replies_to opening s.turns ++ turn_reply z t.turn) s.after ∙ replies_to-more opening s.turns t.turn)
+        (Puts-breaks taken failures first now now' (replies_to opening s.turns) (turn_reply state t.turn) Write s.puts t.breaks);
+  }
 
-  -- a fault in the answer to the line that LF ends
-  pub Stopped-line : (now now' : Output W A) (state : State) (line bytes rest : List ℕ) (fault : Stop) → Served taken failures first opening now state line bytes
-      → ((reading : Reading) → IsReading (form_in state) line reading → Breaks taken failures now now' (reply state reading) fault)
-      → Stopped taken failures first opening now' (bytes ++ (10 ∷ rest)) fault
-  Stopped-line now now' state line bytes rest fault s breaks =
-      stopped_at s.lines s.pending (lines_of rest) now now' state (bytes ++ (10 ∷ rest)) fault s.answered
-      (lines_of_behind s.lines s.pending bytes (10 ∷ rest) s.cut s.no_end ∙ ap (λ (ls : List (List ℕ)). s.lines ++ ls) (lines_of_ended s.pending rest s.open_end))
-      (of_kept (form_in state) line s.pending (λ r. Breaks taken failures now now' (reply state r) fault) s.keeps breaks)
+  Broken-line : (now now' : Output W A) (state : State) (line line' : Option (List ℕ)) (bytes last rest : List ℕ) → Served manner taken failures first opening now state line bytes → HasNoEnd last → Ends line last line'
+      → ((all : List ℕ) → IsLine (whole_in line' last) all → TurnBreaks manner taken failures now now' state all) → Broken manner taken failures first opening now' (bytes ++ (last ++ (10 ∷ rest)))
+  Broken-line now now' state line line' bytes last rest s none_ends k breaks =
+      let all = s.pending ++ last in
+      let cut : lines_of (bytes ++ (last ++ (10 ∷ rest))) ≡ s.lines ++ (all ∷ lines_of rest) =
+      lines_of_behind s.lines s.pending bytes (last ++ (10 ∷ rest)) s.cut s.no_end
+      ∙ ap (λ (ls : List (List ℕ)). s.lines ++ ls) (ap lines_of (sym (append_assoc s.pending last (10 ∷ rest))) ∙ lines_of_ended all rest (HasNoEnd-append s.pending last s.open_end none_ends)) in
+      broken_at now now' state line bytes all (bytes ++ (last ++ (10 ∷ rest))) (lines_of rest) s cut (breaks all (ends_line line line' s.pending last s.keeps k))
 
-  -- the last bytes of a line, after which it is answered
-  pub Served-last : (now now' : Output W A) (state state' : State) (line line' bytes last : List ℕ) → Served taken failures first opening now state line bytes → HasNoEnd last → line' ≡ kept (line ++ last)
-      → (reading : Reading) × IsReading (form_in state) line' reading
-      → ((reading : Reading) → IsReading (form_in state) line' reading → (state' ≡ next state reading) × Puts taken failures now now' (reply state reading))
-      → Served taken failures first opening now' state' [] (bytes ++ (last ++ 10 ∷ []))
-  Served-last now now' state state' line line' bytes last s none_ends k read answer =
-      subst (λ (bs : List ℕ). Served taken failures first opening now' state' [] bs) (append_assoc bytes last (10 ∷ []))
-      (Served-line now now' state state' line' (bytes ++ last) (Served-front now state line line' bytes last s none_ends k) read answer)
+  -- the writer failed at what waited, and bytes come behind
+  Broken-waiting : (now now' : Output W A) (state : State) (line : Option (List ℕ)) (bytes rest : List ℕ) → Served manner taken failures first opening now state line bytes → Breaks taken failures now now' [] Write → Broken manner taken failures first opening now' (bytes ++ rest)
+  Broken-waiting now now' state line bytes rest s breaks = record {
+    lines = s.lines;
+    more = lines_of (s.pending ++ rest);
+    cut = lines_of_behind s.lines s.pending bytes rest s.cut s.no_end;
+    turns = s.turns;
+    are = s.are;
+    breaks = subst (λ (bs : List ℕ). Breaks taken failures first now' bs Write) (append-nil (replies_to opening s.turns)) (Puts-breaks taken failures first now now' (replies_to opening s.turns) [] Write s.puts breaks);
+  }
 
-  pub Stopped-last_bytes : (now now' : Output W A) (state : State) (line line' bytes last rest : List ℕ) (fault : Stop) → Served taken failures first opening now state line bytes → HasNoEnd last → line' ≡ kept (line ++ last)
-      → ((reading : Reading) → IsReading (form_in state) line' reading → Breaks taken failures now now' (reply state reading) fault)
-      → Stopped taken failures first opening now' (bytes ++ (last ++ (10 ∷ rest))) fault
-  Stopped-last_bytes now now' state line line' bytes last rest fault s none_ends k breaks =
-      subst (λ (bs : List ℕ). Stopped taken failures first opening now' bs fault) (append_assoc bytes last (10 ∷ rest))
-      (Stopped-line now now' state line' (bytes ++ last) rest fault (Served-front now state line line' bytes last s none_ends k) breaks)
+  pub Broken-passing : (now now' : Output W A) (state : State) (line : Option (List ℕ)) (bytes : List ℕ) → Served manner taken failures first opening now state line bytes → Breaks taken failures now now' [] Write → Broken manner taken failures first opening now' bytes
+  Broken-passing now now' state line bytes s breaks = subst (λ (bs : List ℕ). Broken manner taken failures first opening now' bs) (append-nil bytes) (Broken-waiting now now' state line bytes [] s breaks)
 
-  -- the same where nothing was kept of the line, so that the bytes themselves are answered
-  pub Served-alone : (now now' : Output W A) (state state' : State) (line bytes whole : List ℕ) → Served taken failures first opening now state line bytes → HasNoEnd whole → length line ≡ 0
-      → (reading : Reading) × IsReading (form_in state) whole reading
-      → ((reading : Reading) → IsReading (form_in state) whole reading → (state' ≡ next state reading) × Puts taken failures now now' (reply state reading))
-      → Served taken failures first opening now' state' line (bytes ++ (whole ++ 10 ∷ []))
-  Served-alone now now' state state' line bytes whole s none_ends n (r, read) answer =
-      let none : [] ≡ line = sym (nil_from_length line n) in
-      subst (λ (l : List ℕ). Served taken failures first opening now' state' l (bytes ++ (whole ++ 10 ∷ []))) none
-      (Served-last now now' state state' line (kept whole) bytes whole s none_ends (ap (λ (l : List ℕ). kept (l ++ whole)) none) (r, IsReading-kept (form_in state) whole r read)
-      (λ r' i. answer r' (IsReading-whole (form_in state) whole r' i)))
+  -- memory ran out behind a front of the piece
+  starved_behind : (now now' : Output W A) (state : State) (line : Option (List ℕ)) (bytes done rest piece : List ℕ) → done ++ rest ≡ piece → Served manner taken failures first opening now state line (bytes ++ done) → Starves manner taken failures now now' state
+      → Starved manner taken failures first opening now' bytes piece
+  starved_behind now now' state line bytes done rest piece cut s starves = record {
+    script = starves.script;
+    done = done;
+    rest = rest;
+    cut = cut;
+    state = state;
+    line = line;
+    goes_on = starves.goes_on;
+    served = Served-passed now now' state line (bytes ++ done) s starves.puts;
+    held = starves.held;
+  }
 
-  pub Stopped-alone : (now now' : Output W A) (state : State) (line bytes whole rest : List ℕ) (fault : Stop) → Served taken failures first opening now state line bytes → HasNoEnd whole → length line ≡ 0
-      → ((reading : Reading) → IsReading (form_in state) whole reading → Breaks taken failures now now' (reply state reading) fault)
-      → Stopped taken failures first opening now' (bytes ++ (whole ++ (10 ∷ rest))) fault
-  Stopped-alone now now' state line bytes whole rest fault s none_ends n breaks =
-      Stopped-last_bytes now now' state line (kept whole) bytes whole rest fault s none_ends (ap (λ (l : List ℕ). kept (l ++ whole)) (sym (nil_from_length line n)))
-      (λ r i. breaks r (IsReading-whole (form_in state) whole r i))
+  -- the end came after whole lines
+  Finished-whole : (now : Output W A) (state : State) (line : Option (List ℕ)) (bytes : List ℕ) → Served manner taken failures first opening now state line bytes → is_new line ≡ true → Finished manner taken failures first opening now state bytes
+  Finished-whole now state line bytes s new =
+      let none : s.pending ≡ [] = new_keeps line s.pending new s.keeps in
+      let cut : lines_of bytes ≡ s.lines = ap lines_of s.cut ∙ ap (λ (p : List ℕ). lines_of (ended s.lines ++ p)) none ∙ lines_of_all_ended s.lines [] s.no_end ∙ append-nil s.lines in
+      record { turns = s.turns; are = subst (λ (ls : List (List ℕ)). AreTurns manner opening ls s.turns) (sym cut) s.are; after = s.after; puts = s.puts }
 
-  -- a fault that has nothing to do with a line
-  stopped_between : (now now' : Output W A) (state : State) (line bytes rest : List ℕ) (fault : Stop) → Served taken failures first opening now state line bytes
-      → ((x y : List ℕ) → Put now x → Breaks taken failures first now' (x ++ y) fault)
-      → Stopped taken failures first opening now' (bytes ++ rest) fault
-  stopped_between now now' state line bytes rest fault s breaks rs h =
-      let cut = lines_of_behind s.lines s.pending bytes rest s.cut s.no_end in
-      let p = part opening s.lines (lines_of (s.pending ++ rest)) rs (subst (λ (ls : List (List ℕ)). AreReadFrom opening.heading ls rs) cut h) in
-      let others = output_from (state_after opening p.front) p.rest in
-      subst (λ (l : List ℕ). Breaks taken failures first now' l fault) (output_from-split opening rs p.front p.rest p.whole) (breaks (output_from opening p.front) others (s.answered p.front p.are).1)
+  lines_of_last : (now : Output W A) (state : State) (line : Option (List ℕ)) (bytes : List ℕ) (s : Served manner taken failures first opening now state line bytes) → is_new line ≡ false → lines_of bytes ≡ s.lines ++ (s.pending ∷ [])
+  lines_of_last now state line bytes s new =
+      ap lines_of s.cut ∙ lines_of_all_ended s.lines s.pending s.no_end ∙ ap (λ (ls : List (List ℕ)). s.lines ++ ls) (lines_of_open s.pending s.open_end (some_keeps line s.pending new s.keeps))
 
-  -- no memory for what is kept
-  pub Stopped-starved : (now : Output W A) (state : State) (line bytes rest : List ℕ) → Served taken failures first opening now state line bytes → Stopped taken failures first opening now (bytes ++ rest) faults.NoMemory
-  Stopped-starved now state line bytes rest s = stopped_between now now state line bytes rest faults.NoMemory s (λ x y p. Puts-starved taken failures first now x y p)
+  -- the end came after the front of a line
+  Finished-last : (now now' : Output W A) (state state' : State) (line : Option (List ℕ)) (bytes : List ℕ) → Served manner taken failures first opening now state line bytes → is_new line ≡ false
+      → Answers manner taken failures now now' state state' (whole_in line []) → Finished manner taken failures first opening now' state' bytes
+  Finished-last now now' state state' line bytes s new answers =
+      let t = answers s.pending (last_line line s.pending new s.keeps) in
+      record {
+        turns = s.turns ++ t.turn ∷ [];
+        are = subst (λ (ls : List (List ℕ)). AreTurns manner opening ls (s.turns ++ t.turn ∷ [])) (sym (lines_of_last now state line bytes s new)) (are_more now state line bytes s.pending s t.turn t.is);
+        after = state_more now state state' line bytes s t.turn t.after;
+        puts = replies_more now now' state state' line bytes s.pending s t;
+      }
 
-  -- a read failed, or was not made
-  pub Stopped-reading : (now : Output W A) (state : State) (line bytes : List ℕ) (turn : ℕ) → Served taken failures first opening now state line bytes → Stopped taken failures first opening now bytes (faults.Read turn)
-  Stopped-reading now state line bytes turn s =
-      subst (λ (l : List ℕ). Stopped taken failures first opening now l (faults.Read turn)) (append-nil bytes)
-      (stopped_between now now state line bytes [] (faults.Read turn) s (λ x y p. Puts-cut taken failures first now x y (faults.Read turn) refl p))
+  -- what waited was passed on
+  Finished-passed : (now now' : Output W A) (state : State) (bytes : List ℕ) → Finished manner taken failures first opening now state bytes → Puts taken failures now now' [] → Finished manner taken failures first opening now' state bytes
+  Finished-passed now now' state bytes f p = record {
+    turns = f.turns;
+    are = f.are;
+    after = f.after;
+    puts = subst (Puts taken failures first now') (append-nil (replies_to opening f.turns)) (Puts-then taken failures first now now' (replies_to opening f.turns) [] f.puts p);
+  }
 
-  -- what waited was not passed on, after which bytes more were read
-  pub Stopped-passing-more : (now now' : Output W A) (state : State) (line bytes rest : List ℕ) (fault : Stop) → Served taken failures first opening now state line bytes → Breaks taken failures now now' [] fault → Stopped taken failures first opening now' (bytes ++ rest) fault
-  Stopped-passing-more now now' state line bytes rest fault s b =
-      stopped_between now now' state line bytes rest fault s (λ x y p. subst (λ (l : List ℕ). Breaks taken failures first now' l fault) (ap (λ (l : List ℕ). l ++ y) (append-nil x)) (Breaks-more taken failures first now' (x ++ []) y fault (Puts-breaks taken failures first now now' x [] fault p b)))
+  Broken-finished : (now now' : Output W A) (state : State) (bytes : List ℕ) → Finished manner taken failures first opening now state bytes → Breaks taken failures now now' [] Write → Broken manner taken failures first opening now' bytes
+  Broken-finished now now' state bytes f breaks = record {
+    lines = lines_of bytes;
+    more = [];
+    cut = sym (append-nil (lines_of bytes));
+    turns = f.turns;
+    are = f.are;
+    breaks = subst (λ (bs : List ℕ). Breaks taken failures first now' bs Write) (append-nil (replies_to opening f.turns)) (Puts-breaks taken failures first now now' (replies_to opening f.turns) [] Write f.puts breaks);
+  }
 
-  -- what waited was not passed on
-  pub Stopped-passing : (now now' : Output W A) (state : State) (line bytes : List ℕ) (fault : Stop) → Served taken failures first opening now state line bytes → Breaks taken failures now now' [] fault → Stopped taken failures first opening now' bytes fault
-  Stopped-passing now now' state line bytes fault s b =
-      subst (λ (l : List ℕ). Stopped taken failures first opening now' l fault) (append-nil bytes)
-      (Stopped-passing-more now now' state line bytes [] fault s b)
+  -- all lines of the bytes, and of any that come behind them, were served
+  pub Ceased-all : (now : Output W A) (state : State) (bytes rest : List ℕ) → Ceased manner taken failures first opening now state bytes → Finished manner taken failures first opening now state (bytes ++ rest)
+  Ceased-all now state bytes rest q =
+      let s = q.served in
+      let more = lines_of (s.pending ++ rest) in
+      let here = state_turned opening s.turns in
+      let over : is_done manner here ≡ true = ap (is_done manner) (sym s.after) ∙ q.over in
+      let same : replies_to opening s.turns ≡ replies_to opening (s.turns ++ unheard_turns more) =
+      sym (replies_then opening s.turns (unheard_turns more) ∙ ap (λ (l : List ℕ). replies_to opening s.turns ++ l) (unheard_replies here more) ∙ append-nil (replies_to opening s.turns)) in
+      record {
+        turns = s.turns ++ unheard_turns more;
+        are = subst (λ (ls : List (List ℕ)). AreTurns manner opening ls (s.turns ++ unheard_turns more)) (sym (lines_of_behind s.lines s.pending bytes rest s.cut s.no_end))
+            (turns_then manner opening s.lines more s.turns (unheard_turns more) s.are (unheard_are manner here more over));
+        after = s.after ∙ sym (state_then opening s.turns (unheard_turns more) ∙ unheard_state here more);
+        puts = subst (Puts taken failures first now) same s.puts;
+      }
+
+module _ (manner : Manner) {W A : Type 0} (taken : W → Option (List ℕ)) (failures : W → ℕ) where
+  -- no bytes more
+  pub ServesOn-nothing : (now : Output W A) (state : State) (line : Option (List ℕ)) → ServesOn manner taken failures now now state state line line []
+  ServesOn-nothing now state line first opening bytes s = subst (λ (bs : List ℕ). Served manner taken failures first opening now state line bs) (sym (append-nil bytes)) s
+
+  -- a line more
+  pub ServesOn-line : (a b c : Output W A) (s0 s1 s2 : State) (l0 l1 l2 : Option (List ℕ)) (done last : List ℕ) → ServesOn manner taken failures a b s0 s1 l0 l1 done → HasNoEnd last → Ends l1 last l2 → Answers manner taken failures b c s1 s2 (whole_in l2 last)
+      → ServesOn manner taken failures a c s0 s2 l0 (Some []) (done ++ (last ++ 10 ∷ []))
+  ServesOn-line a b c s0 s1 s2 l0 l1 l2 done last on none_ends k answers first opening bytes s =
+      subst (λ (bs : List ℕ). Served manner taken failures first opening c s2 (Some []) bs) (append_assoc bytes done (last ++ 10 ∷ []))
+      (Served-line manner taken failures first opening b c s1 s2 l1 l2 (bytes ++ done) last (on first opening bytes s) none_ends k answers)
+
+  -- bytes that end no line
+  pub ServesOn-front : (a b : Output W A) (s0 s1 : State) (l0 l1 l2 : Option (List ℕ)) (done rest piece : List ℕ) → ServesOn manner taken failures a b s0 s1 l0 l1 done → done ++ rest ≡ piece → HasNoEnd rest → KeepsOn l1 rest l2
+      → ServesOn manner taken failures a b s0 s1 l0 l2 piece
+  ServesOn-front a b s0 s1 l0 l1 l2 done rest piece on cut none_ends k first opening bytes s =
+      subst (λ (bs : List ℕ). Served manner taken failures first opening b s1 l2 bs) (append_assoc bytes done rest ∙ ap (λ (l : List ℕ). bytes ++ l) cut)
+      (Served-front manner taken failures first opening b s1 l1 l2 (bytes ++ done) rest (on first opening bytes s) none_ends k)
+
+  -- a stop at a line
+  pub StopsOn-line : (a b c : Output W A) (s0 s1 : State) (l0 l1 l2 : Option (List ℕ)) (done rest last behind piece : List ℕ) (stop : Stop) → ServesOn manner taken failures a b s0 s1 l0 l1 done → done ++ rest ≡ piece → rest ≡ last ++ (10 ∷ behind) → HasNoEnd last
+      → Ends l1 last l2 → AnswerStops manner taken failures b c s1 (whole_in l2 last) stop → StopsOn manner taken failures a c s0 l0 piece stop
+  StopsOn-line a b c s0 s1 l0 l1 l2 done rest last behind piece (stops.Read turn) on cut more none_ends k stopped = absurd stopped
+  StopsOn-line a b c s0 s1 l0 l1 l2 done rest last behind piece stops.Write on cut more none_ends k (inl breaks) = λ first opening bytes s.
+      subst (λ (bs : List ℕ). Broken manner taken failures first opening c bs) (append_assoc bytes done rest ∙ ap (λ (l : List ℕ). bytes ++ l) cut)
+      (Broken-waiting manner taken failures first opening b c s1 l1 (bytes ++ done) rest (on first opening bytes s) breaks)
+  StopsOn-line a b c s0 s1 l0 l1 l2 done rest last behind piece stops.Write on cut more none_ends k (inr breaks) = λ first opening bytes s.
+      subst (λ (bs : List ℕ). Broken manner taken failures first opening c bs) (cut_on bytes done rest last behind piece cut more)
+      (Broken-line manner taken failures first opening b c s1 l1 l2 (bytes ++ done) last behind (on first opening bytes s) none_ends k breaks)
+  StopsOn-line a b c s0 s1 l0 l1 l2 done rest last behind piece stops.NoMemory on cut more none_ends k stopped = λ first opening bytes s.
+      starved_behind manner taken failures first opening b c s1 l1 bytes done rest piece cut (on first opening bytes s) stopped
 
   -- ---- the end
 
-  -- no line is left none_ends
-  lines_all : (now : Output W A) (state : State) (line bytes : List ℕ) (s : Served taken failures first opening now state line bytes) → length line ≡ 0 → lines_of bytes ≡ s.lines
-  lines_all now state line bytes s n =
-      let none : length s.pending ≡ 0 = kept_none s.pending (ap length (sym s.keeps) ∙ n) in
-      ap lines_of (s.cut ∙ ap (λ (l : List ℕ). ended s.lines ++ l) (nil_from_length s.pending none)) ∙ lines_of_all_ended s.lines [] s.no_end ∙ append-nil s.lines
+  pub Finishes-whole : (a b : Output W A) (state : State) (line : Option (List ℕ)) → is_new line ≡ true → Puts taken failures a b [] → Finishes manner taken failures a b state state line
+  Finishes-whole a b state line new p first opening bytes s = Finished-passed manner taken failures first opening a b state bytes (Finished-whole manner taken failures first opening a state line bytes s new) p
 
-  pub Finished-whole : (now : Output W A) (state : State) (line bytes : List ℕ) → Served taken failures first opening now state line bytes → length line ≡ 0 → Finished taken failures first opening now state bytes
-  Finished-whole now state line bytes s n =
-      let e = lines_all now state line bytes s n in
+  pub Finishes-last : (a b c : Output W A) (s0 s1 : State) (line : Option (List ℕ)) → is_new line ≡ false → Answers manner taken failures a b s0 s1 (whole_in line []) → Puts taken failures b c [] → Finishes manner taken failures a c s0 s1 line
+  Finishes-last a b c s0 s1 line new answers p first opening bytes s = Finished-passed manner taken failures first opening b c s1 bytes (Finished-last manner taken failures first opening a b s0 s1 line bytes s new answers) p
+
+  pub StopsOn-whole : (a b : Output W A) (state : State) (line : Option (List ℕ)) → Breaks taken failures a b [] Write → StopsOn manner taken failures a b state line [] Write
+  StopsOn-whole a b state line breaks first opening bytes s =
+      subst (λ (bs : List ℕ). Broken manner taken failures first opening b bs) (sym (append-nil bytes)) (Broken-passing manner taken failures first opening a b state line bytes s breaks)
+
+  pub StopsOn-finished : (a b c : Output W A) (s0 s1 : State) (line : Option (List ℕ)) → is_new line ≡ false → Answers manner taken failures a b s0 s1 (whole_in line []) → Breaks taken failures b c [] Write → StopsOn manner taken failures a c s0 line [] Write
+  StopsOn-finished a b c s0 s1 line new answers breaks first opening bytes s =
+      subst (λ (bs : List ℕ). Broken manner taken failures first opening c bs) (sym (append-nil bytes))
+      (Broken-finished manner taken failures first opening b c s1 bytes (Finished-last manner taken failures first opening a b s0 s1 line bytes s new answers) breaks)
+
+  pub StopsOn-last : (a b : Output W A) (state : State) (line : Option (List ℕ)) (stop : Stop) → is_new line ≡ false → AnswerStops manner taken failures a b state (whole_in line []) stop → StopsOn manner taken failures a b state line [] stop
+  StopsOn-last a b state line (stops.Read turn) new stopped = absurd stopped
+  StopsOn-last a b state line stops.Write new (inl breaks) = StopsOn-whole a b state line breaks
+  StopsOn-last a b state line stops.Write new (inr breaks) = λ first opening bytes s.
+      subst (λ (bs : List ℕ). Broken manner taken failures first opening b bs) (sym (append-nil bytes))
+      (broken_at manner taken failures first opening a b state line bytes s.pending bytes [] s (lines_of_last manner taken failures first opening a state line bytes s new) (breaks s.pending (last_line line s.pending new s.keeps)))
+  StopsOn-last a b state line stops.NoMemory new stopped = λ first opening bytes s.
+      starved_behind manner taken failures first opening a b state line bytes [] [] [] refl (subst (λ (bs : List ℕ). Served manner taken failures first opening a state line bs) (sym (append-nil bytes)) s) stopped
+
+-- ---- stops
+
+-- what is known of a stop in a piece
+pub Stopped-by : (manner : Manner) {W A : Type 0} (taken : W → Option (List ℕ)) (failures : W → ℕ) (opening : State) (left left' : Option (List ℕ)) (first old new : Output W A) (state : State) (line : Option (List ℕ)) (bytes piece : List ℕ) (stop : Stop)
+    → Served manner taken failures first opening old state line bytes → Consumes left left' (bytes ++ piece) → length piece ≤ max_piece → StopsOn manner taken failures old new state line piece stop → Stopped manner taken failures opening left left' first new stop
+Stopped-by manner taken failures opening left left' first old new state line bytes piece (stops.Read turn) s read short on = absurd on
+Stopped-by manner taken failures opening left left' first old new state line bytes piece stops.Write s read short on = record { bytes = bytes ++ piece; read = read; broken = on first opening bytes s }
+Stopped-by manner taken failures opening left left' first old new state line bytes piece stops.NoMemory s read short on = record { bytes = bytes; piece = piece; read = read; short = short; starved = on first opening bytes s }
+
+-- ---- the writer
+
+pub IsSound-nothing : {W A : Type 0} (failures : W → ℕ) (old : Output W A) → IsSound failures old old
+IsSound-nothing failures old = record { writer = refl; failed = refl }
+
+pub IsSound-then : {W A : Type 0} (failures : W → ℕ) (a b c : Output W A) → IsSound failures a b → IsSound failures b c → IsSound failures a c
+IsSound-then failures a b c p q = record { writer = q.writer ∙ p.writer; failed = q.failed ∙ p.failed }
+
+pub IsSound-fails : {W A : Type 0} (failures : W → ℕ) (a b c : Output W A) (stop : Stop) → IsSound failures a b → Fails failures b c stop → Fails failures a c stop
+IsSound-fails failures a b c stop p q = record { writer = q.writer ∙ p.writer; failed = q.failed ∙ ap (λ (n : ℕ). n + write_failures_of stop) p.failed }
+
+pub IsSound-puts : {W A : Type 0} (taken : W → Option (List ℕ)) (failures : W → ℕ) (a b : Output W A) (bytes : List ℕ) → Puts taken failures a b bytes → IsSound failures a b
+IsSound-puts taken failures a b bytes p = record { writer = p.writer; failed = p.failed }
+
+-- ---- the last read
+
+module _ (manner : Manner) {W A : Type 0} (taken : W → Option (List ℕ)) (failures : W → ℕ) (first : Output W A) (opening : State) (now new : Output W A) (state state' : State) (line left left' : Option (List ℕ)) where
+  -- a piece more, of which and of what was not ended before all lines were served
+  last_read : (bytes piece : List ℕ) (s : Served manner taken failures first opening now state line bytes) → is_done manner state ≡ false → Consumes left left' (bytes ++ piece) → length piece ≤ max_piece
+      → Finished manner taken failures now state new state' (s.pending ++ piece) → LastRead manner taken failures opening left left' first new
+  last_read bytes piece s on read small e =
+      let cut : lines_of (bytes ++ piece) ≡ s.lines ++ lines_of (s.pending ++ piece) = lines_of_behind s.lines s.pending bytes piece s.cut s.no_end in
+      let whole : whole_lines bytes ≡ s.lines = ap whole_lines s.cut ∙ whole_lines_all_ended s.lines s.pending s.no_end s.open_end in
+      let same : replies_to opening s.turns ++ replies_to state e.turns ≡ replies_to opening (s.turns ++ e.turns) =
+      ap (λ (l : State). replies_to opening s.turns ++ replies_to l e.turns) s.after ∙ sym (replies_then opening s.turns e.turns) in
       record {
-        readings = s.readings;
-        are = subst (λ (ls : List (List ℕ)). AreReadFrom opening.heading ls s.readings) (sym e) s.are;
-        all = λ rs h. s.answered rs (subst (λ (ls : List (List ℕ)). AreReadFrom opening.heading ls rs) e h);
+        before = bytes;
+        piece = piece;
+        read = read;
+        small = small;
+        turns = s.turns;
+        are = subst (λ (ls : List (List ℕ)). AreTurns manner opening ls s.turns) (sym whole) s.are;
+        goes_on = ap (is_done manner) (sym s.after) ∙ on;
+        more = e.turns;
+        all = subst (λ (ls : List (List ℕ)). AreTurns manner opening ls (s.turns ++ e.turns)) (sym cut)
+            (turns_then manner opening s.lines (lines_of (s.pending ++ piece)) s.turns e.turns s.are (subst (λ (l : State). AreTurns manner l (lines_of (s.pending ++ piece)) e.turns) s.after e.are));
+        puts = subst (Puts taken failures first new) same (Puts-then taken failures first now new (replies_to opening s.turns) (replies_to state e.turns) s.puts e.puts);
       }
 
-  -- the last line, which no LF ends
-  lines_last : (now : Output W A) (state : State) (line bytes : List ℕ) (s : Served taken failures first opening now state line bytes) → 0 < length line → lines_of bytes ≡ s.lines ++ s.pending ∷ []
-  lines_last now state line bytes s n =
-      ap lines_of s.cut ∙ lines_of_all_ended s.lines s.pending s.no_end ∙ ap (λ (ls : List (List ℕ)). s.lines ++ ls) (lines_of_open s.pending s.open_end (kept_some s.pending (subst (λ (l : List ℕ). 0 < length l) s.keeps n)))
+  -- the read that brought nothing
+  pub LastRead-end : (bytes : List ℕ) (s : Served manner taken failures first opening now state line bytes) → is_done manner state ≡ false → Consumes left left' (bytes ++ []) → Finished manner taken failures now state new state' s.pending
+      → LastRead manner taken failures opening left left' first new
+  LastRead-end bytes s on read e = last_read bytes [] s on read (omega arith) (subst (Finished manner taken failures now state new state') (sym (append-nil s.pending)) e)
 
-  pub Finished-last : (now now' : Output W A) (state state' : State) (line bytes : List ℕ) → Served taken failures first opening now state line bytes → 0 < length line
-      → (reading : Reading) × IsReading (form_in state) line reading
-      → ((reading : Reading) → IsReading (form_in state) line reading → (state' ≡ next state reading) × Puts taken failures now now' (reply state reading))
-      → Finished taken failures first opening now' state' bytes
-  unfolding Served-line
-  Finished-last now now' state state' line bytes s n read answer =
-      let e = lines_last now state line bytes s n in
-      let t = Served-line now now' state state' line bytes s read answer in
-      let f : s.lines ++ s.pending ∷ [] ≡ t.lines = refl in
-      record {
-        readings = t.readings;
-        are = subst (λ (ls : List (List ℕ)). AreReadFrom opening.heading ls t.readings) (sym (e ∙ f)) t.are;
-        all = λ rs h. t.answered rs (subst (λ (ls : List (List ℕ)). AreReadFrom opening.heading ls rs) (e ∙ f) h);
-      }
-
-  pub Stopped-last : (now now' : Output W A) (state : State) (line bytes : List ℕ) (fault : Stop) → Served taken failures first opening now state line bytes → 0 < length line
-      → ((reading : Reading) → IsReading (form_in state) line reading → Breaks taken failures now now' (reply state reading) fault)
-      → Stopped taken failures first opening now' bytes fault
-  Stopped-last now now' state line bytes fault s n breaks =
-      stopped_at s.lines s.pending [] now now' state bytes fault s.answered (lines_last now state line bytes s n)
-      (of_kept (form_in state) line s.pending (λ r. Breaks taken failures now now' (reply state r) fault) s.keeps breaks)
-
-  pub Finished-passed : (now now' : Output W A) (state : State) (bytes : List ℕ) → Finished taken failures first opening now state bytes → Puts taken failures now now' [] → Finished taken failures first opening now' state bytes
-  Finished-passed now now' state bytes f p = record {
-    readings = f.readings;
-    are = f.are;
-    all = λ rs h. ((f.all rs h).0, subst (Put now') (append-nil (output_from opening rs)) (Puts-then taken failures first now now' (output_from opening rs) [] (f.all rs h).1 p));
-  }
-
-  pub Stopped-finished : (now now' : Output W A) (state : State) (bytes : List ℕ) (fault : Stop) → Finished taken failures first opening now state bytes → Breaks taken failures now now' [] fault → Stopped taken failures first opening now' bytes fault
-  Stopped-finished now now' state bytes fault f b rs h = subst (λ (l : List ℕ). Breaks taken failures first now' l fault) (append-nil (output_from opening rs)) (Puts-breaks taken failures first now now' (output_from opening rs) [] fault (f.all rs h).1 b)
-
-module _ {W A : Type 0} (taken : W → Option (List ℕ)) (failures : W → ℕ) where
-  pub ServesOn-nothing : (old : Output W A) (state : State) (line : List ℕ) → ServesOn taken failures old old state state line line []
-  ServesOn-nothing old state line first opening bytes s = rw (append-nil bytes) s
-
-  pub ServesOn-then : (a b c : Output W A) (r s t : State) (k l m x y : List ℕ) → ServesOn taken failures a b r s k l x → ServesOn taken failures b c s t l m y → ServesOn taken failures a c r t k m (x ++ y)
-  ServesOn-then a b c r s t k l m x y p q first opening bytes h =
-      subst (λ (bs : List ℕ). Served taken failures first opening c t m bs) (append_assoc bytes x y) (q first opening (bytes ++ x) (p first opening bytes h))
-
-  pub StopsOn-then : (a b c : Output W A) (r s : State) (k l x y : List ℕ) (fault : Stop) → ServesOn taken failures a b r s k l x → StopsOn taken failures b c s l y fault → StopsOn taken failures a c r k (x ++ y) fault
-  StopsOn-then a b c r s k l x y fault p q first opening bytes h =
-      subst (λ (bs : List ℕ). Stopped taken failures first opening c bs fault) (append_assoc bytes x y) (q first opening (bytes ++ x) (p first opening bytes h))
-
-  -- bytes that end no line, and no memory for them
-  pub ServesOn-front : (now : Output W A) (state : State) (line line' more : List ℕ) → HasNoEnd more → line' ≡ kept (line ++ more) → ServesOn taken failures now now state state line line' more
-  ServesOn-front now state line line' more none_ends k first opening bytes s = Served-front taken failures first opening now state line line' bytes more s none_ends k
-
-  pub StopsOn-starved : (now : Output W A) (state : State) (line more : List ℕ) → StopsOn taken failures now now state line more faults.NoMemory
-  StopsOn-starved now state line more first opening bytes s = Stopped-starved taken failures first opening now state line bytes more s
-
-  pub IsSound-nothing : (old : Output W A) → IsSound failures old old
-  IsSound-nothing old = record { writer = refl; failed = refl }
-
-  pub IsSound-then : (a b c : Output W A) → IsSound failures a b → IsSound failures b c → IsSound failures a c
-  IsSound-then a b c p q = record { writer = q.writer ∙ p.writer; failed = q.failed ∙ p.failed }
-
-  pub IsSound-fails : (a b c : Output W A) (fault : Stop) → IsSound failures a b → Fails failures b c fault → Fails failures a c fault
-  IsSound-fails a b c fault p q = record { writer = q.writer ∙ p.writer; failed = q.failed ∙ ap (λ (n : ℕ). n + write_failures_of fault) p.failed }
-
-  pub IsSound-puts : (a b : Output W A) (bytes : List ℕ) → Puts taken failures a b bytes → IsSound failures a b
-  IsSound-puts a b bytes p = record { writer = p.writer; failed = p.failed }
-
-  -- an answer, whatever the line is read as
-  pub IsSound-answer : (a b : Output W A) (state state' : State) (line : List ℕ) → (reading : Reading) × IsReading (form_in state) line reading
-      → ((reading : Reading) → IsReading (form_in state) line reading → (state' ≡ next state reading) × Puts taken failures a b (reply state reading)) → IsSound failures a b
-  IsSound-answer a b state state' line (r, i) answer = IsSound-puts a b (reply state r) (answer r i).1
-
-  pub Fails-write : (a b : Output W A) (bytes : List ℕ) (fault : Stop) → Breaks taken failures a b bytes fault → fault ≡ faults.Write → Fails failures a b fault
-  Fails-write a b bytes fault p e = record { writer = p.writer; failed = p.failed }
-
-  pub Fails-memory : (a : Output W A) → Fails failures a a faults.NoMemory
-  Fails-memory a = record { writer = refl; failed = omega arith }
+  -- the read that brought the end
+  pub LastRead-ceased : (bytes piece : List ℕ) (s : Served manner taken failures first opening now state line bytes) → is_done manner state ≡ false → Consumes left left' (bytes ++ piece) → length piece ≤ max_piece
+      → Ceased manner taken failures now state new state' (s.pending ++ piece) → LastRead manner taken failures opening left left' first new
+  LastRead-ceased bytes piece s on read small q =
+      last_read bytes piece s on read small (subst (Finished manner taken failures now state new state') (append-nil (s.pending ++ piece)) (Ceased-all manner taken failures now state new state' (s.pending ++ piece) [] q))

@@ -1,8 +1,9 @@
 -- What is written for lines that are answered one at a time, and what an allocation that fails leaves. (this project's profile)
-use Rattle.std.specs.Prelude.{◌≡◌, ◌≤◌, ◌+◌, ◌^◌, ◌⊎◌, ℕ, List, [], ◌∷◌, ◌++◌, length, Option, Some, None, true, false, ⊤}
+use Rattle.std.specs.Prelude.{◌≡◌, ◌≤◌, ◌<◌, ◌+◌, ◌^◌, ◌⊎◌, ◌&&◌, ℕ, Bool, List, [], ◌∷◌, ◌++◌, length, Option, Some, None, true, false, ⊤}
+use Rattle.std.specs.Option.{is_some}
 use Rattle.std.specs.Io.KnownBytes.{Appends, Consumes}
 use Rattle.cq_devices.specs.Device.{TakesFront}
-use Rattle.cq_devices.specs.Limits.{max_piece}
+use Rattle.cq_devices.specs.Limits.{max_piece, max_reads}
 use Rattle.cq_devices.specs.declared.stop.Stop.{Stop}
 use Rattle.cq_devices.specs.declared.stop.Stop.TheVariants as faults
 use Rattle.cq_report.specs.Lines.{lines_of, whole_lines}
@@ -11,8 +12,12 @@ use Rattle.cq_report.specs.declared.outcome.Outcome.TheVariants.{Refused}
 use Rattle.cq_report.specs.declared.refusal.Refusal.TheVariants.{Memory}
 use Rattle.cq_report.specs.Machine.{State, form_in, next, counted, numbered, spoken, reply, begin_state, serving_of}
 use Rattle.cq_ask.specs.Ask.{AskRecord, asked, is_quit}
+use Rattle.cq_ask.specs.declared.ask.AskKind.{AskKind}
+use Rattle.cq_ask.specs.declared.ask.AskKind.TheVariants as kinds
 use Rattle.cq_ask.specs.Answer.{FloorRecord, IsTold, ending}
 use Rattle.cq_ask.specs.Data.{IsMember}
+use Rattle.cq_report.specs.declared.manner.Manner.{Manner}
+use Rattle.cq_report.specs.declared.manner.Manner.TheVariants as manners
 use Rattle.cq_report.specs.declared.numbering.Numbering.{Numbering}
 use Rattle.cq_report.specs.declared.numbering.Numbering.TheVariants.{Plain, Numbered, Json}
 
@@ -37,12 +42,35 @@ IsAskTold Plain floor before ask told = IsAnswer floor before ask told
 IsAskTold Numbered floor before ask told = IsAnswer floor before ask told
 IsAskTold Json floor before ask told = IsMember floor before ask told
 
--- A line that does not ask is served as it is read in this state; one that asks has an answer of what is published. An allocation may fail at any line.
-abbrev pub IsTurn : State → List ℕ → Turn → Type 0
-IsTurn state line (Served reading) = (state.is_over ≡ false) × (asked line ≡ None) × IsReading (form_in state) line reading
-IsTurn state line (Asked ask told) = (state.is_over ≡ false) × (asked line ≡ Some ask) × IsAskTold state.numbering (serving_of state.stage) state.before ask told
-IsTurn state line OutOfMemory = state.is_over ≡ false
-IsTurn state line Unheard = state.is_over ≡ true
+-- All that is asked needs memory to be told, but that no further line is heard.
+abbrev pub needs_memory : AskKind → Bool
+needs_memory kinds.Quit = false
+needs_memory _ = true
+
+-- What a line asks. Lines of a script ask nothing.
+abbrev pub asked_in : Manner → List ℕ → Option AskRecord
+asked_in manners.Live line = asked line
+asked_in (manners.Script is_strict) line = None
+
+-- No further line is heard: `quit` was answered; or the script is strict, and a line of it was refused.
+abbrev pub is_done : Manner → State → Bool
+is_done manners.Live state = state.is_over
+is_done (manners.Script is_strict) state = is_strict && is_some state.tally.first
+
+-- How many bytes of a line there is always room for.
+abbrev pub line_room : ℕ
+line_room = 64
+
+-- An allocation may fail at any line that is longer than that, and at any other but `quit`.
+abbrev pub MayStarve : List ℕ → Type 0
+MayStarve line = (line_room < length line) ⊎ ((ask : AskRecord) → asked line ≡ Some ask → needs_memory ask.kind ≡ true)
+
+-- A line that does not ask is served as it is read in this state; one that asks has an answer of what is published. If an allocation fails, only a script ends.
+abbrev pub IsTurn : Manner → State → List ℕ → Turn → Type 0
+IsTurn manner state line (Served reading) = (is_done manner state ≡ false) × (asked_in manner line ≡ None) × IsReading (form_in state) line reading
+IsTurn manner state line (Asked ask told) = (is_done manner state ≡ false) × (asked_in manner line ≡ Some ask) × IsAskTold state.numbering (serving_of state.stage) state.before ask told
+IsTurn manner state line OutOfMemory = (is_done manner state ≡ false) × (manner ≡ manners.Live) × MayStarve line
+IsTurn manner state line Unheard = is_done manner state ≡ true
 
 -- The board after a line. One that asks changes nothing, but that it is counted, and that the board may be over; one at which an allocation failed is counted alone.
 abbrev pub turned : State → Turn → State
@@ -59,11 +87,11 @@ turn_reply state OutOfMemory = numbered state.numbering state.lines (memory_told
 turn_reply state Unheard = []
 
 -- These come of the lines, one after another.
-abbrev pub AreTurns : State → List (List ℕ) → List Turn → Type 0
-AreTurns state [] [] = ⊤
-AreTurns state [] (turn ∷ turns) = ⊥
-AreTurns state (line ∷ lines) [] = ⊥
-AreTurns state (line ∷ lines) (turn ∷ turns) = IsTurn state line turn × AreTurns (turned state turn) lines turns
+abbrev pub AreTurns : Manner → State → List (List ℕ) → List Turn → Type 0
+AreTurns manner state [] [] = ⊤
+AreTurns manner state [] (turn ∷ turns) = ⊥
+AreTurns manner state (line ∷ lines) [] = ⊥
+AreTurns manner state (line ∷ lines) (turn ∷ turns) = IsTurn manner state line turn × AreTurns manner (turned state turn) lines turns
 
 -- The board after lines of which these come.
 abbrev pub state_turned : State → List Turn → State
@@ -80,7 +108,7 @@ replies_to state (turn ∷ turns) = turn_reply state turn ++ replies_to (turned 
 -- The replies to these lines were written, and nothing else.
 pub record Answered (numbering : Numbering) (lines : List (List ℕ)) (taken taken' : Option (List ℕ)) : Type 0 where
   pub turns : List Turn
-  pub are : AreTurns (begin_state numbering) lines turns
+  pub are : AreTurns manners.Live (begin_state numbering) lines turns
   pub wrote : Appends taken taken' (replies_to (begin_state numbering) turns)
 
 -- All that was read is this: bytes after whose whole lines the board was not over, and the piece that the last read brought. The replies to all lines of both were written.
@@ -90,10 +118,10 @@ pub record ReadNoFurther (numbering : Numbering) (left left' taken taken' : Opti
   pub read : Consumes left left' (before ++ piece)
   pub small : length piece ≤ max_piece
   pub turns : List Turn
-  pub are : AreTurns (begin_state numbering) (whole_lines before) turns
+  pub are : AreTurns manners.Live (begin_state numbering) (whole_lines before) turns
   pub goes_on : (state_turned (begin_state numbering) turns).is_over ≡ false
   pub more : List Turn
-  pub all : AreTurns (begin_state numbering) (lines_of (before ++ piece)) (turns ++ more)
+  pub all : AreTurns manners.Live (begin_state numbering) (lines_of (before ++ piece)) (turns ++ more)
   pub wrote : Appends taken taken' (replies_to (begin_state numbering) (turns ++ more))
 
 -- Bytes were read, and the replies to their whole lines were written.
@@ -110,7 +138,7 @@ pub record AnsweredFront (numbering : Numbering) (left left' taken taken' : Opti
   pub more : List (List ℕ)
   pub cut : lines_of bytes ≡ lines ++ more
   pub turns : List Turn
-  pub are : AreTurns (begin_state numbering) lines turns
+  pub are : AreTurns manners.Live (begin_state numbering) lines turns
   pub wrote : TakesFront taken taken' (replies_to (begin_state numbering) turns)
 
 -- What is known after a fault: after one of reading all whole lines are answered, and where there was no memory to begin with nothing was read or written.
@@ -123,11 +151,16 @@ Leaves numbering faults.NoMemory left left' taken taken' = (left' ≡ left) × (
 abbrev pub max_live_reads : ℕ
 max_live_reads = 2 ^ 62
 
--- What a fault says of the reads: the turn is the number of the one that failed; or all that a life may make were made, and the turn is one more. With another
+-- The most reads that are made to serve lines in this manner.
+abbrev pub most_reads : Manner → ℕ
+most_reads (manners.Script is_strict) = max_reads
+most_reads manners.Live = max_live_reads
+
+-- What a fault says of the reads: the turn is the number of the one that failed; or all that may be made were made, and the turn is one more. With another
 -- fault none failed.
-abbrev pub ReadsFailed : Stop → (reads reads' failures failures' : ℕ) → Type 0
-ReadsFailed (faults.Read turn) reads reads' failures failures' =
+abbrev pub ReadsFailed : ℕ → Stop → (reads reads' failures failures' : ℕ) → Type 0
+ReadsFailed most (faults.Read turn) reads reads' failures failures' =
     ((reads' ≡ reads + turn) × (failures' ≡ failures + 1))
-    ⊎ ((turn ≡ max_live_reads + 1) × (reads' ≡ reads + max_live_reads) × (failures' ≡ failures))
-ReadsFailed faults.Write reads reads' failures failures' = failures' ≡ failures
-ReadsFailed faults.NoMemory reads reads' failures failures' = failures' ≡ failures
+    ⊎ ((turn ≡ most + 1) × (reads' ≡ reads + most) × (failures' ≡ failures))
+ReadsFailed most faults.Write reads reads' failures failures' = failures' ≡ failures
+ReadsFailed most faults.NoMemory reads reads' failures failures' = failures' ≡ failures

@@ -1,13 +1,9 @@
 -- Definitions that only private steps are stated with.
-pub mod Replies
 pub mod Lines
 pub mod Turns
-pub mod Happening
 pub mod Written
 pub mod Count
 pub mod Writing
 pub mod Kept
 pub mod Serving
-pub mod Replay
 pub mod Playing
-pub mod Living

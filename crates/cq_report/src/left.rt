@@ -4,7 +4,7 @@ ghost use Rattle.std.specs.Prelude.{◌≡◌};
 ghost use Rattle.cq_report.specs.Machine.{shown};
 ghost use Rattle.cq_report.specs.Summary.{unpublished};
 
-use crate::happening::BoardFloor;
+use crate::floors::BoardFloor;
 use crate::tally::Tally;
 use cq_board::Board;
 use std::alloc::Allocator;

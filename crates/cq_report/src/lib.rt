@@ -8,16 +8,15 @@
 //! exit status and its messages.
 #![tactic(auto)]
 
+mod commands;
 mod discard;
-mod happening;
+mod floors;
 mod heading;
-mod interpreter;
 mod left;
 mod limits;
 mod line_buffer;
-mod live_line;
-mod live_turns;
 mod living;
+mod manner;
 mod numbering;
 mod outcome;
 mod output;
@@ -25,7 +24,9 @@ mod playing;
 mod refusal;
 mod reply;
 mod running;
+mod said;
 mod script;
+mod serving;
 mod setup;
 mod stage;
 mod summary;

@@ -9,11 +9,14 @@ ghost use Rattle.cq_report.specs.Steps.Playing.{IsPlayed};
 
 use crate::discard::Discard;
 use crate::left::Played;
+use crate::line_buffer::LineBuffer;
+use crate::manner::Manner;
 use crate::numbering::Numbering;
 use crate::output::Output;
-use crate::running::replay;
 use crate::script::Script;
-use cq_devices::{MAX_READS, Source, Stop};
+use crate::serving::serve;
+use cq_devices::{MAX_PIECE, MAX_READS, Source, Stop};
+use cq_text::one_reading;
 use std::alloc::Allocator;
 use std::mem;
 
@@ -63,10 +66,22 @@ pub fn read_script<A: Allocator + Copy, R: Source>(
     ensures read_failures { MatchResult result (λ _. R.failures_met reader.new ≡ R.failures_met reader.old) (λ fault. (IsAtTurn fault → ⊥) → R.failures_met reader.new ≡ R.failures_met reader.old) }
     ensures no_write { IfErr result (λ fault. write_failures_of fault ≡ 0) }
 {
+    one_reading();
+    let mut line = LineBuffer::begin(alloc)?;
     let mut discard = Discard;
     let mut room = Vec::new(alloc);
     let mut output = Output::new(&mut discard, &mut room);
     let mut script = Script::begin(alloc, Numbering::Plain);
-    let ended = replay(alloc, &mut script, false, reader, &mut output);
+    let mut piece = [0u8; MAX_PIECE];
+    let manner = Manner::Script { is_strict: false };
+    let ended = serve(
+        &mut script,
+        manner,
+        &mut line,
+        &mut piece,
+        reader,
+        &mut output,
+    );
+    mem::drop(line);
     left_by(script, ended)
 }

@@ -1,22 +1,20 @@
 //! Runs a script.
 
-ghost use Rattle.std.specs.Prelude.{◌≡◌, ◌==◌, ◌<◌, ◌≤◌, ◌+◌, ◌^◌, ◌⊎◌, ℕ, List, length, position, ◌++◌, ◌∷◌, [], OnOk, OnErr, IfOk, IfErr, IfSome, IfNone, MatchResult, true};
-ghost use Rattle.cq_report.specs.Refusals.{no_refusal};
+ghost use Rattle.std.specs.Prelude.{◌≡◌, ◌==◌, ◌<◌, ◌≤◌, ◌+◌, ◌^◌, position, ◌++◌, ◌∷◌, IfOk, IfErr, IfSome, IfNone, MatchResult};
 ghost use Rattle.cq_report.specs.Output.{Heard};
 ghost use Rattle.cq_devices.specs.Device.{FailedAtTurn, IfAtTurn, IfMemory, IsAtTurn, write_failures_of};
 ghost use Rattle.cq_report.specs.Run.{WroteWholeLines, WroteFirstLines, WroteFront};
-ghost use Rattle.cq_report.specs.Steps.Written.{Fails, Puts};
-ghost use Rattle.cq_report.specs.Steps.Count.{IsTallied, lines_before};
 ghost use Rattle.cq_report.specs.Steps.Playing.{ran};
-ghost use Rattle.cq_report.specs.Steps.Replay.{Replayed, BrokeOff, Ended, RanOut};
-ghost use Rattle.cq_report.specs.Steps.Serving.{FeedsOn, ServesOn, StopsOn, StarvesOn, Finishes, IsSound};
 ghost use Rattle.cq_report.specs.Lines.{HasNoEnd};
 
 use crate::line_buffer::LineBuffer;
+use crate::manner::Manner;
 use crate::numbering::Numbering;
 use crate::output::{Output, ROOM};
 use crate::script::Script;
+use crate::serving::serve;
 use cq_devices::{MAX_PIECE, MAX_READS, Sink, Source, Stop};
+use cq_text::one_reading;
 use memchr::memchr;
 use std::alloc::Allocator;
 use std::mem;
@@ -38,177 +36,6 @@ pub fn first_line(bytes: &[u8]) -> Option<(&[u8], &[u8])>
     let (line, behind) = bytes.split_at(end);
     let (_, rest) = behind.split_at(1);
     Some((line, rest))
-}
-
-/// Answers the line of which these are the last bytes: as they lie there, where they are all of it.
-fn serve_line<W: Sink, A: Allocator + Copy>(
-    script: &mut Script<A>,
-    line: &mut LineBuffer<A>,
-    output: &mut Output<'_, W, A>,
-    last: &[u8],
-) -> Result<(), Stop>
-    requires failures { W.write_failures output.old.sink.now < 2 ^ 62 }
-    requires last { HasNoEnd last.now }
-    requires lines { lines_before script.old < 2 ^ 62 }
-    ensures lines { OnOk result (lines_before script.new ≤ lines_before script.old + 1) }
-    ensures tally { OnOk result (IsTallied script.old script.new) }
-    ensures ok { OnOk result (ServesOn W.taken W.write_failures output.old output.new script.old script.new line.old line.new (last.now ++ 10 ∷ [])) }
-    ensures sound { OnOk result (IsSound W.write_failures output.old output.new) }
-    ensures err { IfErr result (λ fault. (rest : List ℕ) → StopsOn W.taken W.write_failures output.old output.new script.old line.old (last.now ++ (10 ∷ rest)) fault) }
-    ensures no_read { IfErr result (λ fault. IsAtTurn fault → ⊥) }
-    ensures fails { IfErr result (λ fault. Fails W.write_failures output.old output.new fault) }
-    ensures nothing { IfErr result (λ fault. IfMemory fault (Puts W.taken W.write_failures output.old output.new [])) }
-{
-    if line.is_empty() {
-        script.serve(last, output)?;
-        return Ok(());
-    }
-    line.extend(last)?;
-    script.serve(line.as_bytes(), output)?;
-    line.clear();
-    Ok(())
-}
-
-/// Answers each line that the piece ends, and keeps what begins the next one. Where the script is strict, it ends at the first line that is refused; says
-/// whether it did.
-fn feed<W: Sink, A: Allocator + Copy>(
-    script: &mut Script<A>,
-    is_strict: bool,
-    line: &mut LineBuffer<A>,
-    output: &mut Output<'_, W, A>,
-    piece: &[u8],
-) -> Result<bool, Stop>
-    requires failures { W.write_failures output.old.sink.now < 2 ^ 62 }
-    requires lines { lines_before script.old + length piece.now < 2 ^ 62 }
-    requires clean { is_strict ≡ true → script.old.tally ≡ no_refusal }
-    ensures lines { OnOk result (lines_before script.new ≤ lines_before script.old + length piece.now) }
-    ensures ok { IfOk result (λ halted. FeedsOn is_strict halted W.taken W.write_failures output.old output.new script.old script.new line.old line.new piece.now) }
-    ensures sound { OnOk result (IsSound W.write_failures output.old output.new) }
-    ensures err { IfErr result (λ fault. StopsOn W.taken W.write_failures output.old output.new script.old line.old piece.now fault) }
-    ensures no_read { IfErr result (λ fault. IsAtTurn fault → ⊥) }
-    ensures fails { IfErr result (λ fault. Fails W.write_failures output.old output.new fault) }
-    ensures starves { IfErr result (λ fault. IfMemory fault (StarvesOn W.taken W.write_failures output.old output.new script.old line.old piece.now)) }
-{
-    let mut rest = piece;
-    while let Some((last, behind)) = first_line(rest) {
-        serve_line(script, line, output, last)?;
-        rest = behind;
-        if is_strict && script.has_refused() {
-            return Ok(true);
-        }
-    }
-    line.extend(rest)?;
-    Ok(false)
-}
-
-/// Answers the last line, where no LF ends it, and passes on all that waits.
-fn finish<W: Sink, A: Allocator + Copy>(
-    script: &mut Script<A>,
-    line: &LineBuffer<A>,
-    output: &mut Output<'_, W, A>,
-) -> Result<(), Stop>
-    requires lines { lines_before script.old < 2 ^ 62 }
-    requires failures { W.write_failures output.old.sink.now < 2 ^ 62 }
-    ensures ok { OnOk result (Finishes W.taken W.write_failures output.old output.new script.old script.new line.now) }
-    ensures tally { OnOk result ((script.new ≡ script.old) ⊎ IsTallied script.old script.new) }
-    ensures held { OnOk result (output.new.held.now.items ≡ []) }
-    ensures sound { OnOk result (IsSound W.write_failures output.old output.new) }
-    ensures err { IfErr result (λ fault. StopsOn W.taken W.write_failures output.old output.new script.old line.now [] fault) }
-    ensures no_read { IfErr result (λ fault. IsAtTurn fault → ⊥) }
-    ensures fails { IfErr result (λ fault. Fails W.write_failures output.old output.new fault) }
-    ensures nothing { IfErr result (λ fault. IfMemory fault (Puts W.taken W.write_failures output.old output.new [])) }
-{
-    if line.is_empty() {
-        output.finish()?;
-        return Ok(());
-    }
-    script.serve(line.as_bytes(), output)?;
-    output.finish()?;
-    Ok(())
-}
-
-/// Reads pieces to the end and answers the lines: all whole lines that were read are answered, and
-/// the replies passed on, before the next read. Where the script is strict, it ends at the first line that is refused. All that it works with is
-/// lent, so that no exit has anything to let go.
-fn serve_all<A: Allocator + Copy, R: Source, W: Sink>(
-    script: &mut Script<A>,
-    is_strict: bool,
-    line: &mut LineBuffer<A>,
-    piece: &mut [u8],
-    reader: &mut R,
-    output: &mut Output<'_, W, A>,
-) -> Result<(), Stop>
-    requires lines { lines_before script.old ≡ 0 }
-    requires clean { script.old.tally ≡ no_refusal }
-    requires line { line.old ≡ [] }
-    requires piece { length piece.old ≡ MAX_PIECE }
-    requires reads { R.reads_made reader.old < 2 ^ 62 }
-    requires failures { R.failures_met reader.old < 2 ^ 62 }
-    requires write_failures { W.write_failures output.old.sink.now < 2 ^ 62 }
-    requires held { output.old.held.now.items ≡ [] }
-    ensures ok { OnOk result (Replayed is_strict W.taken W.write_failures script.old script.new (R.left reader.old) (R.left reader.new) output.old output.new) }
-    ensures read { IfErr result (λ fault. IfAtTurn fault (λ turn. BrokeOff W.taken W.write_failures script.old (R.left reader.old) (R.left reader.new) output.old output.new)) }
-    ensures memory { IfErr result (λ fault. IfMemory fault (RanOut W.taken W.write_failures script.old (R.left reader.old) (R.left reader.new) output.old output.new)) }
-    ensures turn { IfErr result (λ fault. IfAtTurn fault (λ turn. FailedAtTurn turn (R.reads_made reader.old) (R.reads_made reader.new) (R.failures_met reader.old) (R.failures_met reader.new))) }
-    ensures err { IfErr result (λ fault. Ended W.taken W.write_failures script.old (R.left reader.old) (R.left reader.new) output.old output.new fault) }
-    ensures writer { output.new.sink.ghost_name ≡ output.old.sink.ghost_name }
-    ensures write_failures { MatchResult result (λ _. W.write_failures output.new.sink.now ≡ W.write_failures output.old.sink.now) (λ fault. W.write_failures output.new.sink.now ≡ W.write_failures output.old.sink.now + write_failures_of fault) }
-    ensures reads { R.reads_made reader.new ≤ R.reads_made reader.old + MAX_READS }
-    ensures read_failures { MatchResult result (λ _. R.failures_met reader.new ≡ R.failures_met reader.old) (λ fault. (IsAtTurn fault → ⊥) → R.failures_met reader.new ≡ R.failures_met reader.old) }
-{
-    for i in 0..MAX_READS {
-        let Ok(len) = reader.read(piece) else {
-            let turn = u64::from(i) + 1;
-            return Err(Stop::Read { turn });
-        };
-        if len == 0 {
-            finish(script, line, output)?;
-            return Ok(());
-        }
-        let halted = feed(script, is_strict, line, output, &piece[..len])?;
-        if halted {
-            output.finish()?;
-            return Ok(());
-        }
-        output.write_out()?;
-    }
-    Err(Stop::Read {
-        turn: u64::from(MAX_READS) + 1,
-    })
-}
-
-/// Serves all that is read, from the first line on. Where memory runs out in the end, what waits is passed on all the same.
-pub(crate) fn replay<A: Allocator + Copy, R: Source, W: Sink>(
-    alloc: A,
-    script: &mut Script<A>,
-    is_strict: bool,
-    reader: &mut R,
-    output: &mut Output<'_, W, A>,
-) -> Result<(), Stop>
-    requires lines { lines_before script.old ≡ 0 }
-    requires clean { script.old.tally ≡ no_refusal }
-    requires reads { R.reads_made reader.old < 2 ^ 62 }
-    requires failures { R.failures_met reader.old < 2 ^ 62 }
-    requires write_failures { W.write_failures output.old.sink.now < 2 ^ 62 }
-    requires held { output.old.held.now.items ≡ [] }
-    ensures ok { OnOk result (Replayed is_strict W.taken W.write_failures script.old script.new (R.left reader.old) (R.left reader.new) output.old output.new) }
-    ensures read { IfErr result (λ fault. IfAtTurn fault (λ turn. BrokeOff W.taken W.write_failures script.old (R.left reader.old) (R.left reader.new) output.old output.new)) }
-    ensures memory { IfErr result (λ fault. IfMemory fault (RanOut W.taken W.write_failures script.old (R.left reader.old) (R.left reader.new) output.old output.new × (output.new.held.now.items ≡ []))) }
-    ensures turn { IfErr result (λ fault. IfAtTurn fault (λ turn. FailedAtTurn turn (R.reads_made reader.old) (R.reads_made reader.new) (R.failures_met reader.old) (R.failures_met reader.new))) }
-    ensures err { IfErr result (λ fault. Ended W.taken W.write_failures script.old (R.left reader.old) (R.left reader.new) output.old output.new fault) }
-    ensures writer { output.new.sink.ghost_name ≡ output.old.sink.ghost_name }
-    ensures write_failures { MatchResult result (λ _. W.write_failures output.new.sink.now ≡ W.write_failures output.old.sink.now) (λ fault. W.write_failures output.new.sink.now ≡ W.write_failures output.old.sink.now + write_failures_of fault) }
-    ensures reads { R.reads_made reader.new ≤ R.reads_made reader.old + MAX_READS }
-    ensures read_failures { MatchResult result (λ _. R.failures_met reader.new ≡ R.failures_met reader.old) (λ fault. (IsAtTurn fault → ⊥) → R.failures_met reader.new ≡ R.failures_met reader.old) }
-{
-    let mut line = LineBuffer::new(alloc);
-    let mut piece = [0u8; MAX_PIECE];
-    let served = serve_all(script, is_strict, &mut line, &mut piece, reader, output);
-    mem::drop(line);
-    if let Err(Stop::NoMemory) = served {
-        output.write_out()?;
-    }
-    served
 }
 
 /// The script after a run that ended so, if it went well.
@@ -267,9 +94,21 @@ pub fn run<A: Allocator + Copy, R: Source, W: Sink>(
     ensures read_failures { MatchResult result (λ _. R.failures_met reader.new ≡ R.failures_met reader.old) (λ fault. (IsAtTurn fault → ⊥) → R.failures_met reader.new ≡ R.failures_met reader.old) }
     ensures write_failures { MatchResult result (λ _. W.write_failures writer.new ≡ W.write_failures writer.old) (λ fault. W.write_failures writer.new ≡ W.write_failures writer.old + write_failures_of fault) }
 {
+    one_reading();
     let mut room = Vec::with_capacity(alloc, ROOM)?;
+    let mut line = LineBuffer::begin(alloc)?;
     let mut output = Output::new(writer, &mut room);
     let mut script = Script::begin(alloc, numbering);
-    let ended = replay(alloc, &mut script, is_strict, reader, &mut output);
+    let mut piece = [0u8; MAX_PIECE];
+    let manner = Manner::Script { is_strict };
+    let ended = serve(
+        &mut script,
+        manner,
+        &mut line,
+        &mut piece,
+        reader,
+        &mut output,
+    );
+    mem::drop(line);
     run_of(script, ended)
 }

@@ -1,46 +1,50 @@
 //! A script, line by line.
 
-ghost use Rattle.std.specs.Prelude.{◌≡◌, ◌<◌, ◌≤◌, ◌+◌, ◌^◌, [], string_bytes, OnOk, OnErr, IfOk, IfErr};
+ghost use Rattle.std.specs.Prelude.{◌≡◌, ◌<◌, ◌≤◌, ◌+◌, ◌^◌, List, ℕ, Option, Some, false, option_map, OnOk, OnErr, IfOk, IfErr};
 ghost use Rattle.std.specs.Option.{is_some};
-ghost use Rattle.cq_ask.specs.Ask.{asked, is_quit};
-ghost use Rattle.cq_report.specs.Reading.{Reading, Reads, IsReading};
-ghost use Rattle.cq_report.specs.Machine.{begin_state, form_in, served, staged, counted, before_after, next, reply, serving_of};
-ghost use Rattle.cq_report.specs.Live.{IsAskTold};
+ghost use Rattle.cq_ask.specs.Ask.{is_quit};
+ghost use Rattle.cq_report.specs.Reading.{Reading, Reads, Faulty, IsReading};
+ghost use Rattle.cq_report.specs.Machine.{State, begin_state, form_in, staged, counted, before_after, headed, next};
+ghost use Rattle.cq_report.specs.Live.{is_done};
 ghost use Rattle.cq_report.specs.Output.{left_in};
+ghost use Rattle.cq_report.specs.Refusals.{tallied};
 ghost use Rattle.cq_report.specs.Reply.{refusal};
-ghost use Rattle.cq_report.specs.Steps.Replies.{UnlessStarved};
-ghost use Rattle.cq_report.specs.Steps.Living.{IsPage};
-ghost use Rattle.cq_report.specs.Steps.Turns.{plain_turn, turn_in, turn_bytes};
-ghost use Rattle.cq_report.specs.declared.outcome.Outcome.TheVariants.{Refused};
-ghost use Rattle.cq_report.specs.declared.refusal.Refusal.TheVariants.{Memory};
-ghost use Rattle.cq_report.specs.Steps.Written.{Puts, Breaks, Fails};
-ghost use Rattle.cq_report.specs.Steps.Count.{IsTallied, lines_before};
-ghost use Rattle.cq_devices.specs.Device.{IfMemory, IsAtTurn};
+ghost use Rattle.cq_report.specs.Steps.Count.{lines_before};
+ghost use Rattle.cq_report.specs.Steps.Serving.{Answers, AnswerStops, IsSound, MayBeStarved};
+ghost use Rattle.cq_report.specs.Steps.Turns.{IsRead, IsSaid, IsObeyed, MayFail, plain_turn, turn_in};
+ghost use Rattle.cq_report.specs.declared.said.Said.TheVariants.{Asks};
+ghost use Rattle.cq_report.specs.Steps.Written.{Fails};
 
+use crate::floors::{BoardFloor, SESSION, entered, open};
 use crate::heading::{form_of, headed};
-use crate::interpreter::Interpreter;
 use crate::left::Played;
+use crate::manner::Manner;
 use crate::numbering::Numbering;
 use crate::outcome::{Outcome, Turn};
 use crate::output::Output;
 use crate::refusal::Refusal;
+use crate::said::Said;
+use crate::setup::Setup;
+use crate::stage::Stage;
 use crate::tally::Tally;
 use cq_ask::{Ask, read_ask};
 use cq_devices::{Sink, Stop};
-use cq_text::{Command, CommandKind, Form, TextFault, read_command};
+use cq_text::{Command, CommandKind, Form, Kind, TextFault, one_reading, read_command};
 use std::alloc::{AllocError, Allocator};
 use std::marker::Model;
 
-/// A script that is served line by line: how replies are numbered, how many lines came, the form that is settled, if any, the setup or the floor, how many
-/// entries were published before the last publish, which lines were refused, and whether no further line is heard. Contracts see the state after its lines.
+/// A script that is served line by line: how replies are numbered, how many lines came, the form that is settled, if any, the setup or the floor, whether
+/// the setup ended before a floor was needed, how many entries were published before the last publish, which lines were refused, and whether `quit` was
+/// answered. Contracts see the state after its lines.
 #[derive(Drop)]
 pub struct Script<A: Allocator + Copy> {
-    alloc: A,
-    numbering: Numbering,
+    pub(crate) alloc: A,
+    pub(crate) numbering: Numbering,
     lines: u128,
-    heading: Option<Form>,
-    interpreter: Interpreter<A>,
-    before: u64,
+    pub(crate) heading: Option<Form>,
+    pub(crate) stage: Stage<Setup<A>, BoardFloor<A>>,
+    pub(crate) is_closed: bool,
+    pub(crate) before: u64,
     tally: Tally,
     is_over: bool,
 }
@@ -48,10 +52,11 @@ pub struct Script<A: Allocator + Copy> {
 impl<A: Allocator + Copy> Model for Script<A> {
     ghost use Rattle.std.specs.Prelude.{◌≤◌};
     ghost use Rattle.cq_report.specs.Machine.{State};
+    ghost use Rattle.cq_report.specs.Steps.Turns.{staged_by};
 
     ghost Value = { State };
 
-    ghost view = { λ m. record { numbering = m.numbering; lines = m.lines; heading = m.heading; stage = m.interpreter; before = m.before; tally = m.tally; is_over = m.is_over } };
+    ghost view = { λ m. record { numbering = m.numbering; lines = m.lines; heading = m.heading; stage = staged_by m.is_closed m.stage; before = m.before; tally = m.tally; is_over = m.is_over } };
 
     ghost invariant = { λ m. m.tally.refused ≤ m.lines };
 }
@@ -67,19 +72,12 @@ impl<A: Allocator + Copy> Script<A> {
             numbering,
             lines: 0,
             heading: None,
-            interpreter: Interpreter::begin(alloc),
+            stage: Stage::Setup(Setup::begin(alloc)),
+            is_closed: false,
             before: 0,
             tally: Tally::begin(),
             is_over: false,
         }
-    }
-
-    /// One line more came.
-    pub(crate) fn count(&mut self)
-        requires { lines_before self.old < 2 ^ 100 }
-        ensures { self.new ≡ counted self.old }
-    {
-        self.lines += 1;
     }
 
     /// Returns true if a line was refused.
@@ -96,75 +94,152 @@ impl<A: Allocator + Copy> Script<A> {
         form_of(self.heading)
     }
 
-    /// Settles the form.
-    fn settle(&mut self, form: Form)
-        ensures { self.new ≡ record self.old { heading = Some form } }
+    /// Returns true if no further line is heard.
+    pub(crate) fn is_done(&self, manner: Manner) -> bool
+        ensures { result ≡ is_done manner self.now }
     {
-        self.heading = Some(form);
+        match manner {
+            Manner::Script { is_strict } => is_strict && self.has_refused(),
+            Manner::Live => self.is_over,
+        }
     }
 
-    /// Returns how many entries were published before the last publish, once the command is obeyed.
+    // ---- what a line says
+
+    /// Reads a line that does not ask.
+    fn read_text(&self, line: &[u8]) -> Said<Ask<A>, Command<A>>
+        ensures { IsRead (form_in self.now) line.now result }
+    {
+        match read_command(self.alloc, line, self.form()) {
+            Ok(command) => Said::Says(command),
+            Err(TextFault::At { kind, offset }) => Said::Faulty { kind, at: offset },
+            Err(TextFault::NoMemory) => Said::Lost,
+        }
+    }
+
+    /// Reads a line that may ask.
+    fn read_live(&self, line: &[u8]) -> Said<Ask<A>, Command<A>>
+        ensures { IsSaid Manner.Live (form_in self.now) (Some line.now) result }
+    {
+        match read_ask(self.alloc, line) {
+            Ok(Some(ask)) => Said::Asks(ask),
+            Ok(None) => self.read_text(line),
+            Err(AllocError) => Said::Lost,
+        }
+    }
+
+    /// Reads a line, if it was not lost.
+    fn read(&self, manner: Manner, line: Option<&[u8]>) -> Said<Ask<A>, Command<A>>
+        ensures { IsSaid manner (form_in self.now) (option_map (λ line. line.now) line.entry) result }
+    {
+        match (line, manner) {
+            (None, _) => Said::Lost,
+            (Some(line), Manner::Live) => self.read_live(line),
+            (Some(line), Manner::Script { is_strict: _ }) => self.read_text(line),
+        }
+    }
+
+    // ---- what it does
+
+    /// Counts a line whose outcome this is, and keeps it if it is the first that is refused.
+    fn keep(&mut self, heading: Option<Form>, before: u64, outcome: Outcome)
+        requires { lines_before self.old < 2 ^ 100 }
+        ensures { self.new ≡ record (counted self.old) { heading = heading; before = before; tally = tallied self.old.tally (self.old.lines + 1) (refusal outcome) } }
+    {
+        self.lines += 1;
+        self.tally.add(self.lines, outcome.refusal());
+        self.heading = heading;
+        self.before = before;
+    }
+
+    /// Takes a line with a fault of text.
+    fn take_faulty(&mut self, kind: Kind, at: usize) -> Turn<A>
+        requires { lines_before self.old < 2 ^ 100 }
+        ensures state { self.new ≡ next self.old (Faulty kind at) }
+        ensures turn { result ≡ turn_in self.old (Faulty kind at) }
+    {
+        let outcome = Outcome::Refused(Refusal::Text { kind, at });
+        let form = self.form();
+        self.keep(Some(form), self.before, outcome);
+        Turn::plain(self.alloc, outcome)
+    }
+
+    /// Answers a line that asks. After `quit` no further line is heard.
+    fn take_ask(&mut self, ask: &Ask<A>) -> Result<Turn<A>, AllocError>
+        requires { lines_before self.old < 2 ^ 100 }
+        ensures ok { IfOk result (λ turn. IsObeyed self.old (Asks ask.now) self.new turn) }
+        ensures err { OnErr result (self.new ≡ self.old) }
+        ensures wants { OnErr result (MayFail (Asks ask.now)) }
+    {
+        let turn = self.tell(ask)?;
+        self.lines += 1;
+        self.is_over = ask.is_quit();
+        Ok(turn)
+    }
+
+    /// Returns how many entries were published before the last publish, after a command.
     fn before_after(&self, command: &Command<A>) -> u64
         ensures { result ≡ before_after self.now (Reads command.now) }
     {
-        match command {
-            CommandKind::Publish => self.interpreter.published_count(),
+        match (command, &self.stage) {
+            (CommandKind::Publish, Stage::Serving(floor)) => floor.published_count(),
+            (CommandKind::Publish, Stage::Setup(_)) => 0,
             _ => self.before,
         }
     }
 
-    /// Obeys a command, and gives the reply.
-    fn obey(&mut self, command: Command<A>) -> Result<Turn<A>, AllocError>
-        ensures state { IfOk result (λ turn. self.new ≡ served self.old (Reads command)) }
-        ensures turn { IfOk result (λ turn. turn ≡ turn_in self.old (Reads command)) }
-        ensures counts { (self.new.lines ≡ self.old.lines) × (self.new.tally ≡ self.old.tally) }
-        ensures err { OnErr result (self.new ≡ self.old) }
+    /// Counts a line, and gives its reply, which has no page.
+    fn kept(&mut self, heading: Option<Form>, before: u64, outcome: Outcome) -> Turn<A>
+        requires { lines_before self.old < 2 ^ 100 }
+        ensures state { self.new ≡ record (counted self.old) { heading = heading; before = before; tally = tallied self.old.tally (self.old.lines + 1) (refusal outcome) } }
+        ensures turn { result ≡ plain_turn outcome }
     {
+        self.keep(heading, before, outcome);
+        Turn::plain(self.alloc, outcome)
+    }
+
+    /// Does what a line says, and gives the reply.
+    fn obey(&mut self, said: Said<Ask<A>, Command<A>>) -> Result<Turn<A>, AllocError>
+        requires { lines_before self.old < 2 ^ 100 }
+        ensures ok { IfOk result (λ turn. IsObeyed self.old said self.new turn) }
+        ensures err { OnErr result (self.new ≡ self.old) }
+        ensures wants { OnErr result (MayFail said) }
+    {
+        let command = match said {
+            Said::Says(command) => command,
+            Said::Asks(ask) => return self.take_ask(&ask),
+            Said::Faulty { kind, at } => return Ok(self.take_faulty(kind, at)),
+            Said::Lost => return Err(AllocError),
+        };
         let heading = headed(self.heading, &command);
         let before = self.before_after(&command);
-        let turn = self
-            .interpreter
-            .interpret(self.numbering, self.heading, command)?;
-        self.heading = heading;
-        self.before = before;
-        Ok(turn)
-    }
-
-    /// Reads a line, and gives the reply to it.
-    fn read(&mut self, line: &[u8]) -> Result<Turn<A>, AllocError>
-        ensures read { OnOk result ((reading : Reading) × IsReading (form_in self.old) line.now reading) }
-        ensures ok { IfOk result (λ turn. (reading : Reading) → IsReading (form_in self.old) line.now reading → (self.new ≡ served self.old reading) × (turn ≡ turn_in self.old reading)) }
-        ensures counts { (self.new.lines ≡ self.old.lines) × (self.new.tally ≡ self.old.tally) }
-        ensures err { OnErr result (self.new ≡ self.old) }
-    {
-        let form = self.form();
-        match read_command(self.alloc, line, form) {
-            Ok(command) => self.obey(command),
-            Err(TextFault::At { kind, offset }) => {
-                self.settle(form);
-                let refusal = Refusal::Text { kind, at: offset };
-                Ok(Turn::plain(self.alloc, Outcome::Refused(refusal)))
+        match command {
+            CommandKind::Blank => Ok(self.kept(heading, before, Outcome::Silent)),
+            CommandKind::Setup(line) => {
+                let outcome = self.prepare(&line)?;
+                Ok(self.kept(heading, before, outcome))
             }
-            Err(TextFault::NoMemory) => Err(AllocError),
+            CommandKind::Publish => {
+                let outcome = self.publish();
+                Ok(self.kept(heading, before, outcome))
+            }
+            CommandKind::Show => {
+                let turn = self.show()?;
+                self.keep(heading, before, turn.outcome);
+                Ok(turn)
+            }
+            CommandKind::Edit(edit) => match &mut self.stage {
+                Stage::Serving(floor) => {
+                    let outcome = entered(floor.enter(SESSION, edit))?;
+                    Ok(self.kept(heading, before, outcome))
+                }
+                Stage::Setup(setup) => {
+                    let setup = setup.copy()?;
+                    let outcome = self.enter_first(setup, edit)?;
+                    Ok(self.kept(heading, before, outcome))
+                }
+            },
         }
-    }
-
-    /// Reads a line, and gives the reply to it. The line is counted, and kept if it is the first that is refused.
-    ///
-    /// # Errors
-    /// `AllocError` if an allocation fails: then the script stays as it was.
-    pub(crate) fn take(&mut self, line: &[u8]) -> Result<Turn<A>, AllocError>
-        requires lines { lines_before self.old < 2 ^ 100 }
-        ensures lines { OnOk result (lines_before self.new ≤ lines_before self.old + 1) }
-        ensures read { OnOk result ((reading : Reading) × IsReading (form_in self.old) line.now reading) }
-        ensures ok { IfOk result (λ turn. (reading : Reading) → IsReading (form_in self.old) line.now reading → (self.new ≡ next self.old reading) × (turn ≡ turn_in self.old reading)) }
-        ensures err { OnErr result (self.new ≡ self.old) }
-    {
-        let lines = self.lines;
-        let turn = self.read(line)?;
-        self.tally.add(lines + 1, turn.outcome.refusal());
-        self.lines = lines + 1;
-        Ok(turn)
     }
 
     /// Serves the next line without a reply, and returns why it is refused, if it is. Its work is that of a line in a replay. Lines are counted in 128 bits.
@@ -177,97 +252,69 @@ impl<A: Allocator + Copy> Script<A> {
         ensures heard { IfOk result (λ why. (reading : Reading) → IsReading (form_in self.old) line.now reading → (self.new ≡ next self.old reading) × (why ≡ refusal (staged self.old.stage self.old.heading reading).1)) }
         ensures err { OnErr result (self.new ≡ self.old) }
     {
-        let turn = self.take(line)?;
+        one_reading();
+        let said = self.read_text(line);
+        let turn = self.obey(said)?;
         Ok(turn.outcome.refusal())
     }
 
-    /// Serves a line: reads it, and puts the reply to it.
-    ///
-    /// # Errors
-    /// `Write` if the writer fails: then a front of the reply may be put, and the script is of no use. `NoMemory` if an allocation fails: then nothing
-    /// is put, and the script stays as it was.
-    pub(crate) fn serve<W: Sink>(
+    // ---- replies
+
+    /// Counts a line at which an allocation failed, and puts the reply, which takes no memory; or, if lines are those of a script, passes on what waits, and
+    /// stops.
+    fn starve<W: Sink>(&mut self, manner: Manner, output: &mut Output<'_, W, A>) -> Result<(), Stop>
+        requires failures { W.write_failures output.old.sink.now < 2 ^ 62 }
+        requires lines { lines_before self.old < 2 ^ 100 }
+        requires heard { is_done manner self.old ≡ false }
+        ensures lines { lines_before self.new ≤ lines_before self.old + 1 }
+        ensures ok { OnOk result ((line : Option (List ℕ)) → MayBeStarved manner line → Answers manner W.taken W.write_failures output.old output.new self.old self.new line) }
+        ensures err { IfErr result (λ stop. (line : Option (List ℕ)) → MayBeStarved manner line → AnswerStops manner W.taken W.write_failures output.old output.new self.old line stop) }
+        ensures fails { IfErr result (λ stop. Fails W.write_failures output.old output.new stop) }
+        ensures sound { OnOk result (IsSound W.write_failures output.old output.new) }
+    {
+        match manner {
+            Manner::Script { is_strict: _ } => {
+                output.write_out()?;
+                Err(Stop::NoMemory)
+            }
+            Manner::Live => {
+                let (numbering, before) = (self.numbering, self.lines);
+                self.lines += 1;
+                let turn = Turn::plain(self.alloc, Outcome::Refused(Refusal::Memory));
+                output.put_reply(numbering, before, &turn)?;
+                Ok(())
+            }
+        }
+    }
+
+    /// Serves a line, of which as much is given as is known of it, and puts the reply. If an allocation fails, it is as if the line had not been: the reply says so, unless it is
+    /// one of a script, which stops then.
+    pub(crate) fn answer<W: Sink>(
         &mut self,
-        line: &[u8],
+        manner: Manner,
+        line: Option<&[u8]>,
         output: &mut Output<'_, W, A>,
     ) -> Result<(), Stop>
         requires failures { W.write_failures output.old.sink.now < 2 ^ 62 }
         requires lines { lines_before self.old < 2 ^ 100 }
-        ensures lines { OnOk result (lines_before self.new ≤ lines_before self.old + 1) }
-        ensures read { UnlessStarved result ((reading : Reading) × IsReading (form_in self.old) line.now reading) }
-        ensures tally { OnOk result (IsTallied self.old self.new) }
-        ensures ok { OnOk result ((reading : Reading) → IsReading (form_in self.old) line.now reading → (self.new ≡ next self.old reading) × Puts W.taken W.write_failures output.old output.new (reply self.old reading)) }
-        ensures err { IfErr result (λ fault. (reading : Reading) → IsReading (form_in self.old) line.now reading → Breaks W.taken W.write_failures output.old output.new (reply self.old reading) fault) }
-        ensures no_read { IfErr result (λ fault. IsAtTurn fault → ⊥) }
-        ensures fails { IfErr result (λ fault. Fails W.write_failures output.old output.new fault) }
-        ensures nothing { IfErr result (λ fault. IfMemory fault (Puts W.taken W.write_failures output.old output.new [])) }
-        ensures kept { IfErr result (λ fault. IfMemory fault (self.new ≡ self.old)) }
+        ensures lines { lines_before self.new ≤ lines_before self.old + 1 }
+        ensures ok { OnOk result (Answers manner W.taken W.write_failures output.old output.new self.old self.new (option_map (λ line. line.now) line.entry)) }
+        ensures err { IfErr result (λ stop. AnswerStops manner W.taken W.write_failures output.old output.new self.old (option_map (λ line. line.now) line.entry) stop) }
+        ensures fails { IfErr result (λ stop. Fails W.write_failures output.old output.new stop) }
+        ensures sound { OnOk result (IsSound W.write_failures output.old output.new) }
     {
+        if self.is_done(manner) {
+            return Ok(());
+        }
         let (numbering, before) = (self.numbering, self.lines);
-        let turn = self.take(line)?;
-        output.put_reply(numbering, before, &turn)?;
-        Ok(())
-    }
-
-    /// Returns how replies are numbered, and how many lines came before.
-    pub(crate) fn numbering(&self) -> (Numbering, u128)
-        ensures { result ≡ (self.now.numbering, self.now.lines) }
-    {
-        (self.numbering, self.lines)
-    }
-
-    /// The reply to a line at which an allocation failed. It takes no memory.
-    pub(crate) fn refuse(&self) -> Turn<A>
-        ensures { result ≡ plain_turn (Refused Memory) }
-    {
-        Turn::plain(self.alloc, Outcome::Refused(Refusal::Memory))
-    }
-
-    /// Returns true if no further line is heard.
-    pub(crate) fn is_over(&self) -> bool
-        ensures { result ≡ self.now.is_over }
-    {
-        self.is_over
-    }
-
-    /// Returns what a line asks, if it asks.
-    pub(crate) fn read_ask(&self, line: &[u8]) -> Result<Option<Ask<A>>, AllocError>
-        ensures { IfOk result (λ ask. ask ≡ asked line.now) }
-    {
-        read_ask(self.alloc, line)
-    }
-
-    /// The answer to what is asked, of what is published, in lines or as a member of a JSON object.
-    fn answer_page(&self, ask: &Ask<A>) -> Result<String<A>, AllocError>
-        ensures { IfOk result (λ page. IsPage self.now.numbering (serving_of self.now.stage) self.now.before ask.now (string_bytes page)) }
-    {
-        match self.numbering {
-            Numbering::Json => self.interpreter.tell_data(self.before, ask),
-            Numbering::Plain | Numbering::Numbered => self.interpreter.tell(self.before, ask),
+        let said = self.read(manner, line);
+        match self.obey(said) {
+            Ok(turn) => {
+                output.put_reply(numbering, before, &turn)?;
+                Ok(())
+            }
+            Err(AllocError) => self.starve(manner, output),
         }
-    }
-
-    /// The reply to what is asked, of what is published. That to `quit` takes no memory.
-    pub(crate) fn tell(&self, ask: &Ask<A>) -> Result<Turn<A>, AllocError>
-        ensures { IfOk result (λ turn. IsAskTold self.now.numbering (serving_of self.now.stage) self.now.before ask.now (turn_bytes self.now.numbering turn)) }
-    {
-        if ask.is_quit() {
-            return Ok(Turn::plain(self.alloc, Outcome::Quit));
-        }
-        let page = self.answer_page(ask)?;
-        Ok(Turn {
-            outcome: Outcome::Answered(ask.kind()),
-            page,
-        })
-    }
-
-    /// Counts a line that asks this. After `quit` no further line is heard.
-    pub(crate) fn count_ask(&mut self, ask: &Ask<A>)
-        requires { lines_before self.old < 2 ^ 100 }
-        ensures { self.new ≡ record (counted self.old) { is_over = is_quit ask.now.kind } }
-    {
-        self.lines += 1;
-        self.is_over = ask.is_quit();
     }
 
     /// Returns what the lines leave. The floor opens if the setup lasts.
@@ -277,8 +324,23 @@ impl<A: Allocator + Copy> Script<A> {
     pub fn into_played(self) -> Result<Played<A>, AllocError>
         ensures { IfOk result (λ left. left ≡ left_in self) }
     {
-        let (lines, tally) = (self.lines, self.tally);
-        let floor = self.interpreter.into_floor()?;
-        Ok(Played::new(floor, lines, tally))
+        let Script {
+            alloc,
+            numbering: _,
+            lines,
+            heading: _,
+            stage,
+            is_closed: _,
+            before: _,
+            tally,
+            is_over: _,
+        } = self;
+        match stage {
+            Stage::Setup(setup) => {
+                let floor = open(alloc, setup)?;
+                Ok(Played::new(floor, lines, tally))
+            }
+            Stage::Serving(floor) => Ok(Played::new(floor, lines, tally)),
+        }
     }
 }

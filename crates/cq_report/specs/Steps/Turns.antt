@@ -1,10 +1,21 @@
--- The reply to a line before it is written.
-use Rattle.std.specs.Prelude.{ℕ, ◌==◌, Bool, List, [], ◌++◌, length}
+-- What a line says, and the reply to it before it is written.
+use Rattle.std.specs.Prelude.{◌≡◌, ℕ, ◌==◌, Bool, true, List, [], ◌++◌, length, Option, Some, None, ⊤}
+use Rattle.cq_text.specs.declared.form.Form.{Form}
+use Rattle.cq_text.specs.Grammar.{CommandContent}
+use Rattle.cq_ask.specs.Ask.{AskRecord, is_quit}
+use Rattle.cq_ask.specs.Answer.{FloorRecord, IsTold}
+use Rattle.cq_ask.specs.Data.{IsMember}
+use Rattle.cq_report.specs.declared.manner.Manner.{Manner}
+use Rattle.cq_report.specs.declared.said.Said.{Said}
+use Rattle.cq_report.specs.declared.said.Said.TheVariants as saids
+use Rattle.cq_report.specs.declared.stage.Stage.TheVariants as stages
+use Rattle.cq_report.specs.Live.{asked_in, IsAskTold, needs_memory}
 use Rattle.cq_report.specs.declared.numbering.Numbering.{Numbering}
+use Rattle.cq_report.specs.declared.numbering.Numbering.TheVariants.{Plain, Numbered, Json}
 use Rattle.cq_report.specs.declared.outcome.Outcome.{Outcome}
-use Rattle.cq_report.specs.Reading.{Reading}
+use Rattle.cq_report.specs.Reading.{Reading, Reads, Faulty, IsReading}
 use Rattle.cq_report.specs.Reply.{outcome_line, outcome_end}
-use Rattle.cq_report.specs.Machine.{State, Staged, serving_of, shown, page_of, spoken, staged}
+use Rattle.cq_report.specs.Machine.{State, Staged, opened, serving_of, shown, page_of, spoken, staged, next, counted}
 
 -- What comes of the line, and the page that goes with it.
 pub record TurnRecord : Type 0 where
@@ -30,3 +41,41 @@ turn_bytes numbering turn = spoken numbering turn.outcome turn.page
 -- Nothing is written in words.
 abbrev pub is_silent : TurnRecord → Bool
 is_silent turn = length (outcome_line turn.outcome ++ (turn.page ++ outcome_end turn.outcome)) == 0
+
+-- The page of an answer, in lines or as a member of a JSON object.
+abbrev pub IsPage : Numbering → FloorRecord → ℕ → AskRecord → List ℕ → Type 0
+IsPage Plain floor before ask page = IsTold floor before ask page
+IsPage Numbered floor before ask page = IsTold floor before ask page
+IsPage Json floor before ask page = IsMember floor before ask page
+
+-- The stage, if its setup ended or not before a floor opened.
+abbrev pub staged_by : Bool → Staged → Staged
+staged_by true (stages.Setup setup) = stages.Serving (opened setup)
+staged_by closed stage = stage
+
+-- What a line of a script in this form says.
+abbrev pub IsRead : Form → List ℕ → Said AskRecord CommandContent → Type 0
+IsRead form line (saids.Asks ask) = ⊥
+IsRead form line (saids.Says command) = IsReading form line (Reads command)
+IsRead form line (saids.Faulty kind at) = IsReading form line (Faulty kind at)
+IsRead form line saids.Lost = ⊤
+
+-- What a line says. Nothing is known of one that is lost, but that it asks for something that needs memory if it asks.
+abbrev pub IsSaid : Manner → Form → Option (List ℕ) → Said AskRecord CommandContent → Type 0
+IsSaid manner form None said = said ≡ saids.Lost
+IsSaid manner form (Some line) (saids.Asks ask) = asked_in manner line ≡ Some ask
+IsSaid manner form (Some line) (saids.Says command) = (asked_in manner line ≡ None) × IsReading form line (Reads command)
+IsSaid manner form (Some line) (saids.Faulty kind at) = (asked_in manner line ≡ None) × IsReading form line (Faulty kind at)
+IsSaid manner form (Some line) saids.Lost = (ask : AskRecord) → asked_in manner line ≡ Some ask → needs_memory ask.kind ≡ true
+
+-- The state and the reply after what a line says.
+abbrev pub IsObeyed : State → Said AskRecord CommandContent → State → TurnRecord → Type 0
+IsObeyed old (saids.Asks ask) new turn = (new ≡ record (counted old) { is_over = is_quit ask.kind }) × IsAskTold old.numbering (serving_of old.stage) old.before ask (turn_bytes old.numbering turn)
+IsObeyed old (saids.Says command) new turn = (new ≡ next old (Reads command)) × (turn ≡ turn_in old (Reads command))
+IsObeyed old (saids.Faulty kind at) new turn = (new ≡ next old (Faulty kind at)) × (turn ≡ turn_in old (Faulty kind at))
+IsObeyed old saids.Lost new turn = ⊥
+
+-- An allocation may fail unless it asks for something that needs no memory.
+abbrev pub MayFail : Said AskRecord CommandContent → Type 0
+MayFail (saids.Asks ask) = needs_memory ask.kind ≡ true
+MayFail _ = ⊤

@@ -1,15 +1,20 @@
-use Rattle.std.proofs.Common.{ap}
+use Rattle.std.proofs.Common.{◌∙◌, ℕ, List, inr, ap, subst}
+use Rattle.std.proofs.lemmas.Result.{err_from_is_err_and}
+use Rattle.cq_devices.specs.declared.stop.Stop.TheVariants.{Write}
 use Rattle.cq_report.specs.Live.{OutOfMemory}
-use Rattle.cq_report.specs.Machine.{numbered}
+use Rattle.cq_report.specs.Machine.{State, numbered}
 use Rattle.cq_report.specs.Steps.Turns.{TurnRecord, turn_bytes}
+use Rattle.cq_report.specs.Steps.Written.{Breaks}
 use Rattle.cq_report.proofs.script.Script.starve.Goals as goal
 
-pub returns-clause-ok : goal.returns-clause-ok
-returns-clause-ok g c = λ line.
+pub returns-in_err-put_reply-in-Live-clause-err : goal.returns-in_err-put_reply-in-Live-clause-err
+returns-in_err-put_reply-in-Live-clause-err g c =
+    let p = err_from_is_err_and c.from_residual-in_err-put_reply-in-Live.result c.from_residual-in_err-put_reply-in-Live.ensures.1 in
     let old = c.args.self.now in
-    record {
+    let put = λ (s : State) (turn : TurnRecord). numbered s.numbering s.lines (turn_bytes s.numbering turn) in
+    rw (p.1, p.2) (λ line may. inr (λ all known. record {
       turn = OutOfMemory;
-      is = c.requires.heard;
-      after = c.count.ensures;
-      told = ap (λ (turn : TurnRecord). numbered old.numbering old.lines (turn_bytes old.numbering turn)) c.refuse-turn.ensures;
-    }
+      is = (c.requires.heard, c.in-Live.is, may c.in-Live.is all known);
+      breaks = subst (λ (bytes : List ℕ). Breaks g.W.Sink.taken g.W.Sink.write_failures c.args.output.now c.put_reply.new.self bytes Write)
+          (ap (λ (s : State). put s c.plain-turn.result) c.self.view_is ∙ ap (put old) c.plain-turn.ensures) c.in_err-put_reply-in-Live.ensures.err;
+    }))

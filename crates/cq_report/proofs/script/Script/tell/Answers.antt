@@ -5,8 +5,8 @@ use Rattle.cq_report.specs.Steps.Turns.{TurnRecord, turn_bytes}
 use Rattle.cq_report.proofs.Asking.{quit_told}
 use Rattle.cq_report.proofs.script.Script.tell.Goals as goal
 
-pub returns-then-is_quit : goal.returns-then-is_quit
-returns-then-is_quit g c =
+pub returns-then-is_quit-clause-told : goal.returns-then-is_quit-clause-told
+returns-then-is_quit-clause-told g c =
     let state = c.args.self.now in
     let ask = c.args.ask.now in
     subst (λ (turn : TurnRecord). IsAskTold state.numbering (serving_of state.stage) state.before ask (turn_bytes state.numbering turn)) (sym c.plain.ensures)

@@ -1,0 +1,150 @@
+//! What the commands of a script do, and what is asked of it.
+
+ghost use Rattle.std.specs.Prelude.{◌≡◌, true, string_bytes, OnErr, IfOk};
+ghost use Rattle.cq_report.specs.declared.stage.Stage.TheVariants.{Serving};
+ghost use Rattle.cq_desk.specs.declared.event.Event.TheVariants.{Enter, Look, Publish};
+ghost use Rattle.cq_report.specs.Live.{IsAskTold, needs_memory};
+ghost use Rattle.cq_report.specs.Machine.{happen, opened, prepare, serving_of};
+ghost use Rattle.cq_report.specs.Steps.Turns.{IsPage, turn_after, turn_bytes};
+
+use crate::floors::{BoardFloor, SESSION, entered, look, open};
+use crate::numbering::Numbering;
+use crate::outcome::{Outcome, Turn};
+use crate::refusal::Refusal;
+use crate::script::Script;
+use crate::setup::Setup;
+use crate::stage::Stage;
+use cq_ask::{Ask, tell, tell_data};
+use cq_atom::{Edit, Name};
+use cq_text::SetupLine;
+use std::alloc::{AllocError, Allocator};
+use std::mem;
+
+/// Returns the answer to what is asked of a floor, in lines or as a member of a JSON object.
+fn page_of<A: Allocator + Copy>(
+    alloc: A,
+    numbering: Numbering,
+    floor: &BoardFloor<A>,
+    before: u64,
+    ask: &Ask<A>,
+) -> Result<String<A>, AllocError>
+    ensures { IfOk result (λ page. IsPage numbering floor.now before ask.now (string_bytes page)) }
+{
+    match numbering {
+        Numbering::Json => tell_data(alloc, floor, before, ask),
+        Numbering::Plain | Numbering::Numbered => tell(alloc, floor, before, ask),
+    }
+}
+
+impl<A: Allocator + Copy> Script<A> {
+    /// Takes a line of a setup, and gives what comes of it.
+    pub(crate) fn prepare(&mut self, line: &SetupLine<Name<A>>) -> Result<Outcome, AllocError>
+        ensures state { IfOk result (λ outcome. self.new ≡ record self.old { stage = (prepare self.old.stage self.old.heading line.now).0 }) }
+        ensures outcome { IfOk result (λ outcome. outcome ≡ (prepare self.old.stage self.old.heading line.now).1) }
+        ensures err { OnErr result (self.new ≡ self.old) }
+    {
+        match &mut self.stage {
+            Stage::Setup(setup) if !self.is_closed => setup.set_up(self.heading, line),
+            _ => Ok(Outcome::Refused(Refusal::Late)),
+        }
+    }
+
+    /// Publishes what was entered, and gives what comes of it. A setup ends by it, and its floor opens later, so that no memory is taken.
+    pub(crate) fn publish(&mut self) -> Outcome
+        ensures state { self.new ≡ record self.old { stage = (happen self.old.stage Publish).0 } }
+        ensures outcome { result ≡ (happen self.old.stage Publish).1 }
+    {
+        match &mut self.stage {
+            Stage::Serving(floor) => Outcome::Published(floor.publish()),
+            Stage::Setup(_) => {
+                self.is_closed = true;
+                Outcome::Published(0)
+            }
+        }
+    }
+
+    /// Serves the lines from now on with this floor.
+    fn serve_on(&mut self, floor: BoardFloor<A>)
+        ensures { self.new ≡ record self.old { stage = Serving floor } }
+    {
+        mem::drop(mem::replace(&mut self.stage, Stage::Serving(floor)));
+    }
+
+    /// Enters the edit that comes first. A floor is large, and is in the frame of this call and that of `show_first`
+    /// alone: so no other line pays for it. The setup is kept until the edit is entered or refused.
+    #[cold]
+    #[inline(never)]
+    pub(crate) fn enter_first(
+        &mut self,
+        setup: Setup<A>,
+        edit: Edit<A>,
+    ) -> Result<Outcome, AllocError>
+        requires { serving_of self.old.stage ≡ opened setup }
+        ensures state { IfOk result (λ outcome. self.new ≡ record self.old { stage = (happen self.old.stage (Enter 0 edit)).0 }) }
+        ensures outcome { IfOk result (λ outcome. outcome ≡ (happen self.old.stage (Enter 0 edit)).1) }
+        ensures err { OnErr result (self.new ≡ self.old) }
+    {
+        let mut floor = open(self.alloc, setup)?;
+        let outcome = entered(floor.enter(SESSION, edit))?;
+        self.serve_on(floor);
+        Ok(outcome)
+    }
+
+    /// Shows the board that the setup opens.
+    #[cold]
+    #[inline(never)]
+    fn show_first(&mut self, setup: Setup<A>) -> Result<Turn<A>, AllocError>
+        requires { serving_of self.old.stage ≡ opened setup }
+        ensures state { IfOk result (λ turn. self.new ≡ record self.old { stage = (happen self.old.stage (Look 0)).0 }) }
+        ensures turn { IfOk result (λ turn. turn ≡ turn_after self.old.numbering (happen self.old.stage (Look 0))) }
+        ensures err { OnErr result (self.new ≡ self.old) }
+    {
+        let mut floor = open(self.alloc, setup)?;
+        let turn = look(self.alloc, self.numbering, &mut floor)?;
+        self.serve_on(floor);
+        Ok(turn)
+    }
+
+    /// Shows the published board, and gives the reply.
+    pub(crate) fn show(&mut self) -> Result<Turn<A>, AllocError>
+        ensures state { IfOk result (λ turn. self.new ≡ record self.old { stage = (happen self.old.stage (Look 0)).0 }) }
+        ensures turn { IfOk result (λ turn. turn ≡ turn_after self.old.numbering (happen self.old.stage (Look 0))) }
+        ensures err { OnErr result (self.new ≡ self.old) }
+    {
+        match &mut self.stage {
+            Stage::Serving(floor) => look(self.alloc, self.numbering, floor),
+            Stage::Setup(setup) => {
+                let setup = setup.copy()?;
+                self.show_first(setup)
+            }
+        }
+    }
+
+    /// Returns the answer to what is asked of what is published. A setup opens a floor for it, which is let go.
+    fn page(&self, ask: &Ask<A>) -> Result<String<A>, AllocError>
+        ensures { IfOk result (λ page. IsPage self.now.numbering (serving_of self.now.stage) self.now.before ask.now (string_bytes page)) }
+    {
+        match &self.stage {
+            Stage::Setup(setup) => {
+                let floor = open(self.alloc, setup.copy()?)?;
+                page_of(self.alloc, self.numbering, &floor, self.before, ask)
+            }
+            Stage::Serving(floor) => page_of(self.alloc, self.numbering, floor, self.before, ask),
+        }
+    }
+
+    /// Returns the reply to what is asked, of what is published. That to `quit` takes no memory.
+    pub(crate) fn tell(&self, ask: &Ask<A>) -> Result<Turn<A>, AllocError>
+        ensures told { IfOk result (λ turn. IsAskTold self.now.numbering (serving_of self.now.stage) self.now.before ask.now (turn_bytes self.now.numbering turn)) }
+        ensures wants { OnErr result (needs_memory ask.now.kind ≡ true) }
+    {
+        if ask.is_quit() {
+            return Ok(Turn::plain(self.alloc, Outcome::Quit));
+        }
+        let page = self.page(ask)?;
+        Ok(Turn {
+            outcome: Outcome::Answered(ask.kind()),
+            page,
+        })
+    }
+}
