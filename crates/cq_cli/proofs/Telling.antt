@@ -19,8 +19,8 @@ use Rattle.cq_cli.specs.declared.rows.RowsFault.TheVariants as rows
 use Rattle.cq_cli.specs.declared.status.Status.TheVariants.{Done, Failed, Usage, NoMemory, BadRecord, Unserved, NotSo, Undecided, BadFile, LineRefused}
 use Rattle.cq_going.specs.declared.telling.Outcome.{Outcome}
 use Rattle.cq_going.specs.declared.telling.Outcome.TheVariants as sought
-use Rattle.cq_cli.specs.Status.{IsRefused, IsTold, ended, over_file, status_of_outcome, status_of_choices, status_of_rows, status_of_run}
-use Rattle.cq_cli.specs.Devices.{DeviceCounts, EndsRun, LeavesRefused, ReportsFailures, ReportsWriting}
+use Rattle.cq_cli.specs.Status.{IsRefused, IsTold, ended, over_file, over_source, status_of_outcome, status_of_choices, status_of_rows, status_of_run}
+use Rattle.cq_cli.specs.Devices.{DeviceCounts, EndsRun, LeavesRefused, ReportsFailures, ReportsOver, ReportsWriting}
 use Rattle.cq_cli.specs.Rows.{MatchFault, IsOfReader}
 use Rattle.cq_cli.specs.Rows as rows_failures
 use Rattle.cq_ask.specs.Choices.{StandForChoices}
@@ -173,4 +173,43 @@ pub file_reported : (before after : DeviceCounts) (status : Status) (whole : Boo
 file_reported before after status whole is told = record {
   write = λ rises. ap (λ (s : Status). over_file s whole) (told.write rises) ∙ ap (over_file Failed) (is ∙ not_below before.write_failures after.write_failures rises);
   failed = λ failed. below before.write_failures after.write_failures (sym is ∙ over_failed status whole failed);
+}
+
+over_file_refused : (status : Status) (whole : Bool) → IsRefused (over_file status whole) → IsRefused status
+over_file_refused Failed true is = is
+over_file_refused Failed false is = is
+over_file_refused Done whole is = is
+over_file_refused Usage whole is = is
+over_file_refused NoMemory whole is = is
+over_file_refused BadRecord whole is = is
+over_file_refused Unserved whole is = is
+over_file_refused NotSo whole is = is
+over_file_refused Undecided whole is = is
+over_file_refused BadFile whole is = is
+over_file_refused LineRefused whole is = is
+
+over_file_usage : (status : Status) (whole : Bool) → over_file status whole ≡ Usage → status ≡ Usage
+over_file_usage Failed true is = cc
+over_file_usage Failed false is = cc
+over_file_usage Done whole is = is
+over_file_usage Usage whole is = is
+over_file_usage NoMemory whole is = is
+over_file_usage BadRecord whole is = is
+over_file_usage Unserved whole is = is
+over_file_usage NotSo whole is = is
+over_file_usage Undecided whole is = is
+over_file_usage BadFile whole is = is
+over_file_usage LineRefused whole is = is
+
+-- what a task reports is reported of a file or of standard input
+pub over_reported : (is_file : Bool) (before after : DeviceCounts) (status : Status) → ReportsFailures before after status → ReportsOver is_file before after (over_source is_file (nat_le after.write_failures before.write_failures) status)
+over_reported false before after status told = told
+over_reported true before after status told = file_reported before after status (nat_le after.write_failures before.write_failures) refl told
+
+-- what a task leaves when it is refused it leaves over a file too
+pub over_refused : {R W : Type 0} (is_file whole : Bool) (source source' : R) (sink sink' : W) (status : Status) → LeavesRefused source source' sink sink' status → LeavesRefused source source' sink sink' (over_source is_file whole status)
+over_refused false whole source source' sink sink' status left = left
+over_refused true whole source source' sink sink' status left = record {
+  refused = λ is. left.refused (over_file_refused status whole is);
+  unread = λ is. left.unread (over_file_usage status whole is);
 }

@@ -1,5 +1,5 @@
 -- What the devices of the program did, and how that is reported. (this project's profile)
-use Rattle.std.specs.Prelude.{◌≡◌, ◌<◌, ◌+◌, ◌^◌, ℕ, ◌⊎◌, List, Option, Result, MatchResult, IfErr}
+use Rattle.std.specs.Prelude.{◌≡◌, ◌<◌, ◌+◌, ◌^◌, ℕ, ◌⊎◌, Bool, true, false, List, Option, Result, MatchResult, IfErr}
 use Rattle.std.specs.Io.KnownBytes.{prepend_known}
 use Rattle.cq_devices.specs.declared.stop.Stop.{Stop}
 use Rattle.cq_devices.specs.Device.{FailedAtTurn, IfAtTurn, IsAtTurn, write_failures_of}
@@ -66,6 +66,11 @@ pub record ReportsWriting (before after : ℕ) (status : Status) : Type 0 where
   pub write : before < after → status ≡ Failed
   -- and nowhere else.
   pub failed : status ≡ Failed → before < after
+
+-- The status reports that a device failed: over a file, that the sink did.
+abbrev pub ReportsOver : (is_file : Bool) → (before after : DeviceCounts) → Status → Type 0
+ReportsOver false before after status = ReportsFailures before after status
+ReportsOver true before after status = ReportsWriting before.write_failures after.write_failures status
 
 -- What was refused left the devices as they were.
 pub record LeavesRefused {R W : Type 0} (source source' : R) (sink sink' : W) (status : Status) : Type 0 where

@@ -111,6 +111,11 @@ over_file Undecided whole = Undecided
 over_file BadFile whole = BadFile
 over_file LineRefused whole = LineRefused
 
+-- Over a file, such a failure is the file's; over standard input, each status stays.
+abbrev pub over_source : (is_file whole : Bool) → Status → Status
+over_source true whole status = over_file status whole
+over_source false whole status = status
+
 -- How the program ends after a script, of which a line may have been refused.
 abbrev pub status_after : (is_strict has_refused : Bool) → Status
 status_after true true = LineRefused

@@ -1,19 +1,22 @@
-//! The program `board`: replays a script, turns CSV into the insert lines of one, serves files, or tells something of the board that a script leaves.
+//! The program `board`: replays a script, turns CSV into the insert lines of a script, serves files, or reports on the board that a script leaves.
 //!
-//! `wanted` says what the words ask for, `sizes` reads numbers of bytes from words, and `choices` choices. `replaying` replays a script, `rows` writes the insert lines of CSV,
-//! `views` says what is told of a board, `drawing` draws it, `absent` tells of names under which no query is pending, `noting` of choices that are none by
-//! themselves, and `looking` reads a script and writes that. `ahead` looks at the front of a script before it is read, `progress` tells how much of it was read,
-//! `prompting` prompts at a terminal, and `answering` turns words, a source and two sinks into the status that `status` numbers; `main` only opens the three standard
-//! streams. What a script means stands in the crates below.
+//! `main` reads the words, opens the file that they name, chooses the heap, and calls `perform`. A line of a script passes `main`, `perform`, `replay` and then
+//! `run` of `cq_report`.
+//!
+//! `wanted` reads what the words ask for, `sizes` numbers of bytes, and `choices` choices. `planning` makes of the words a task and what it is performed over, and
+//! `performing` performs the task: `replaying` replays a script, `rows` writes the insert lines of CSV, `sessions` serves files, and `looking` reads a script and writes
+//! what `views`, `drawing`, `absent` and `noting` make of its board. `ahead` looks at the first bytes of a script before they are read, `progress` reports how
+//! much of it was read, `prompting` prompts at a terminal, `writing` writes texts, and `status` numbers the ways to end. What a script means is in the crates below.
 #![tactic(auto)]
 
 mod absent;
 mod ahead;
-mod answering;
 mod choices;
 mod drawing;
 mod looking;
 mod noting;
+mod performing;
+mod planning;
 mod progress;
 mod prompting;
 mod replaying;
@@ -25,14 +28,17 @@ mod views;
 mod wanted;
 mod writing;
 
+ghost use Rattle.std.specs.Prelude.{◌<◌, ◌^◌};
+
 use crate::ahead::Ahead;
-use crate::answering::answer;
+use crate::performing::perform;
+use crate::planning::{Input, plan};
 use crate::progress::{Watching, watched_on};
 use crate::prompting::Prompting;
 use crate::status::Status;
 use crate::writing::tell;
-use cq_devices::Counted;
-use std::alloc::Allocator;
+use cq_budget::Budget;
+use cq_devices::{Counted, Sink};
 use std::env;
 use std::env::Env;
 use std::io::{ErrorKind, IsTerminal};
@@ -53,54 +59,51 @@ fn words<R: Env + Alloc>(rt: &R) -> Result<Vec<String<R::A>, R::A>, Status> {
     }
 }
 
-/// Whether the words ask for lines to be answered on and on.
-fn is_live<A: Allocator>(words: &[String<A>]) -> bool {
-    match words.get(1) {
-        Some(word) => word.as_str() == "live",
-        None => false,
-    }
-}
-
-/// Whether the words ask to be told how much of a script was read. Behind `--` stand names and files, whatever they look like.
-fn is_watched<A: Allocator>(words: &[String<A>]) -> bool {
-    words
-        .iter()
-        .take_while(|word| word.as_str() != "--")
-        .any(|word| word.as_str() == "--progress")
+/// Reports that there are no words, and returns how the program ends.
+fn wordless<E: Sink>(status: Status, errors: &mut E) -> ExitCode
+    requires { E.write_failures errors.old < 2 ^ 62 }
+{
+    let text = match status {
+        Status::Usage => NO_TEXT,
+        _ => "board: out of memory\n",
+    };
+    tell(errors, text);
+    ExitCode::from(status.code())
 }
 
 fn main(rt: HostRuntime) -> ExitCode {
     let mut errors = Counted::new(rt.stderr());
     let words = match words(&rt) {
         Ok(words) => words,
-        Err(Status::Usage) => {
-            tell(&mut errors, NO_TEXT);
-            return ExitCode::from(Status::Usage.code());
-        }
-        Err(status) => {
-            tell(&mut errors, "board: out of memory\n");
-            return ExitCode::from(status.code());
-        }
+        Err(status) => return wordless(status, &mut errors),
     };
-    let input = rt.stdin();
-    let prompts = if is_live(&words) && input.is_terminal() {
+    let plan = plan(&rt, rt.alloc(), &words);
+    let prompts = if plan.is_prompted && rt.stdin().is_terminal() {
         Some(rt.stderr())
     } else {
         None
     };
-    let at_terminal = rt.stderr().is_terminal();
-    let watched = watched_on(&rt, at_terminal && is_watched(&words));
-    let mut source = Ahead::new(Watching::new(Prompting::new(input, prompts), watched));
+    let watched = watched_on(&rt, plan.is_watched && rt.stderr().is_terminal());
+    let input = Input::new(Prompting::new(rt.stdin(), prompts), plan.file);
+    let mut source = Ahead::new(Watching::new(input, watched));
     let mut sink = Counted::new(rt.stdout());
-    let status = answer(
-        &rt,
-        rt.alloc(),
-        rt.alloc(),
-        &words,
-        at_terminal,
-        &mut source,
-        &mut sink,
-        &mut errors,
-    );
+    let (task, file) = (&plan.task, plan.origin.as_deref());
+    let (source, sink, errors) = (&mut source, &mut sink, &mut errors);
+    let status = match plan.bytes {
+        None => perform(
+            &rt,
+            rt.alloc(),
+            rt.alloc(),
+            task,
+            file,
+            source,
+            sink,
+            errors,
+        ),
+        Some(bytes) => {
+            let budget = Budget::new(rt.alloc(), bytes);
+            perform(&rt, rt.alloc(), &budget, task, file, source, sink, errors)
+        }
+    };
     ExitCode::from(status.code())
 }

@@ -6,7 +6,7 @@ ghost use Rattle.cq_render.specs.Report.{line};
 ghost use Rattle.cq_report.specs.Machine.{State};
 ghost use Rattle.cq_report.specs.Output.{Heard, left_in};
 ghost use Rattle.cq_report.specs.Summary.{summary};
-ghost use Rattle.cq_cli.specs.Devices.{counts, EndsRun, HaveRoom, LeavesRefused, ReportsFailures, ReportsWriting};
+ghost use Rattle.cq_cli.specs.Devices.{counts, HaveRoom, LeavesRefused, ReportsFailures, ReportsWriting};
 ghost use Rattle.cq_cli.specs.Status.{status_after, IsRefused};
 ghost use Rattle.cq_cli.specs.Told.{end_words, told_lines, summary_if, IsReplayed, status_of_text, IsToldOf};
 ghost use Rattle.cq_cli.specs.Views.{ToldOn};
@@ -249,8 +249,8 @@ fn replay_text<A: Allocator + Copy, W: Sink, E: Sink>(
     }
 }
 
-/// Reads the script that the source gives to its end, replays it, and tells what is wrong with its lines.
-fn answer_told<A: Allocator + Copy, R: Source, W: Sink, E: Sink>(
+/// Reads the script that the source gives to its end, replays it, and reports what is wrong with its lines.
+pub(crate) fn replay_explained<A: Allocator + Copy, R: Source, W: Sink, E: Sink>(
     alloc: Global,
     heap: A,
     origin: &str,
@@ -273,27 +273,8 @@ fn answer_told<A: Allocator + Copy, R: Source, W: Sink, E: Sink>(
     }
 }
 
-/// Runs the script that the source gives, and says whether a byte order mark stands in front of it.
-fn run_marked<A: Allocator + Copy, R: LookAhead, W: Sink>(
-    heap: A,
-    replaying: Replaying,
-    source: &mut R,
-    sink: &mut W,
-) -> Result<(bool, Script<A>), Stop>
-    requires devices { HaveRoom (counts R.reads_made R.failures_met W.write_failures source.old sink.old) }
-    ensures mark { IfOk result (λ ran. IfSome (R.left source.old) (λ input. ran.0 ≡ is_mark [] input)) }
-    ensures heard { IfOk result (λ ran. IfSome (R.left source.old) (λ input. Heard replaying.is_strict replaying.numbering input (W.taken sink.old) (W.taken sink.new) ran.1)) }
-    ensures failures { EndsRun (counts R.reads_made R.failures_met W.write_failures source.old sink.old) (counts R.reads_made R.failures_met W.write_failures source.new sink.new) result }
-{
-    let Ok(is_marked) = source.has_mark() else {
-        return Err(Stop::Read { turn: 1 });
-    };
-    let ran = run(heap, replaying.numbering, replaying.is_strict, source, sink)?;
-    Ok((is_marked, ran))
-}
-
-/// Replays the script that the source gives, and tells what there is to tell in the end, or a fault.
-fn answer_heard<A: Allocator + Copy, R: LookAhead, W: Sink, E: Sink>(
+/// Replays the script that the source gives, and reports what there is to report in the end, or an error.
+pub(crate) fn replay<A: Allocator + Copy, R: LookAhead, W: Sink, E: Sink>(
     alloc: Global,
     heap: A,
     origin: &str,
@@ -308,35 +289,15 @@ fn answer_heard<A: Allocator + Copy, R: LookAhead, W: Sink, E: Sink>(
     ensures failures { ReportsFailures (counts R.reads_made R.failures_met W.write_failures source.old sink.old) (counts R.reads_made R.failures_met W.write_failures source.new sink.new) result }
     ensures refused { LeavesRefused source.old source.new sink.old sink.new result }
 {
-    match run_marked(heap, replaying, source, sink) {
-        Ok((is_marked, ran)) => {
-            end_replay(alloc, heap, origin, is_marked, replaying, ran, errors)
-        }
+    let Ok(is_marked) = source.has_mark() else {
+        tell_fault(alloc, origin, &Stop::Read { turn: 1 }, errors);
+        return Status::Failed;
+    };
+    match run(heap, replaying.numbering, replaying.is_strict, source, sink) {
+        Ok(ran) => end_replay(alloc, heap, origin, is_marked, replaying, ran, errors),
         Err(fault) => {
             tell_fault(alloc, origin, &fault, errors);
             Status::of_run(fault)
         }
-    }
-}
-
-/// Replays the script that the source gives, and tells a fault of it.
-pub(crate) fn answer_replay<A: Allocator + Copy, R: LookAhead, W: Sink, E: Sink>(
-    alloc: Global,
-    heap: A,
-    origin: &str,
-    replaying: Replaying,
-    source: &mut R,
-    sink: &mut W,
-    errors: &mut E,
-) -> Status
-    requires devices { HaveRoom (counts R.reads_made R.failures_met W.write_failures source.old sink.old) }
-    requires errors { E.write_failures errors.old < 2 ^ 62 }
-    ensures failures { ReportsFailures (counts R.reads_made R.failures_met W.write_failures source.old sink.old) (counts R.reads_made R.failures_met W.write_failures source.new sink.new) result }
-    ensures refused { LeavesRefused source.old source.new sink.old sink.new result }
-{
-    if replaying.is_told {
-        answer_told(alloc, heap, origin, replaying, source, sink, errors)
-    } else {
-        answer_heard(alloc, heap, origin, replaying, source, sink, errors)
     }
 }

@@ -1,6 +1,6 @@
 use Rattle.std.proofs.Common.{refl}
 use Rattle.cq_cli.proofs.Telling.{sink_reported}
-use Rattle.cq_cli.proofs.answering.answer.Goals as goal
+use Rattle.cq_cli.proofs.performing.perform.Goals as goal
 
 pub returns-in-Err-clause-failures : goal.returns-in-Err-clause-failures
 returns-in-Err-clause-failures g c = sink_reported _ _ _ refl c.answer_words.ensures.failures

@@ -1,5 +1,5 @@
 use Rattle.cq_cli.proofs.Telling.{not_refused, run_not_refused, run_reported}
-use Rattle.cq_cli.proofs.replaying.answer_heard.Goals as goal
+use Rattle.cq_cli.proofs.replaying.replay.Goals as goal
 
 pub returns-in-Err-clause-failures : goal.returns-in-Err-clause-failures
 returns-in-Err-clause-failures g c =

@@ -1,30 +1,26 @@
-//! What the program does with its words.
+//! Performs the task that the words ask for.
 
-ghost use Rattle.std.specs.Prelude.{◌≡◌, ◌<◌, ◌^◌};
+ghost use Rattle.std.specs.Prelude.{◌≡◌, ◌<◌, ◌^◌, nat_le};
+ghost use Rattle.std.specs.Option.{is_some};
 ghost use Rattle.cq_cli.specs.declared.status.Status.{Status};
-ghost use Rattle.cq_cli.specs.Status.{IsRefused};
-ghost use Rattle.cq_cli.specs.Devices.{counts, HaveRoom, LeavesRefused, ReportsFailures, ReportsWriting};
+ghost use Rattle.cq_cli.specs.Status.{over_source, IsRefused};
+ghost use Rattle.cq_cli.specs.Devices.{counts, HaveRoom, LeavesRefused, ReportsFailures, ReportsOver, ReportsWriting};
 
-use crate::ahead::{Ahead, LookAhead};
+use crate::ahead::LookAhead;
 use crate::looking::answer_look;
-use crate::progress::{Watching, watched_on};
-use crate::replaying::answer_replay;
+use crate::planning::NoTask;
+use crate::replaying::{replay, replay_explained};
 use crate::rows::{Hint, RowsFault, SheetWords, write_rows};
 use crate::sessions::{FileFault, serve_files};
-use crate::sizes::size_of;
 use crate::status::Status;
-use crate::wanted::{Task, VERSION_LINE, Wanted, read_words};
+use crate::wanted::{Task, VERSION_LINE};
 use crate::writing::{tell, tell_fault, write_text};
 use clap::Error;
 use clap::error::ErrorKind;
-use cq_budget::Budget;
 use cq_devices::{Sink, Source, Stop};
 use cq_report::{Numbering, live};
 use std::alloc::{Allocator, Global};
-use std::convert::AsStr;
-use std::fs;
 use std::fs::Files;
-use std::rt::Clock;
 use std::sync::Wait;
 use std::thread::Threads;
 
@@ -103,7 +99,7 @@ For more information, try '--help'.
 }
 
 /// Answers the lines that the source gives, and tells a fault of it.
-fn answer_live<A: Allocator + Copy, R: Source, W: Sink, E: Sink>(
+fn answer_lines<A: Allocator + Copy, R: Source, W: Sink, E: Sink>(
     alloc: Global,
     heap: A,
     origin: &str,
@@ -199,8 +195,47 @@ fn answer_sessions<
     Status::of_files(fault)
 }
 
-/// Does a task.
-fn answer_task<
+/// Reports why there is no task, or writes the help or the version that the words ask for.
+fn answer_no_task<W: Sink, E: Sink>(
+    alloc: Global,
+    no_task: &NoTask<'_>,
+    sink: &mut W,
+    errors: &mut E,
+) -> Status
+    requires sink { W.write_failures sink.old < 2 ^ 62 }
+    requires errors { E.write_failures errors.old < 2 ^ 62 }
+    ensures failures { ReportsWriting (W.write_failures sink.old) (W.write_failures sink.new) result }
+    ensures refused { IsRefused result → (sink.new ≡ sink.old) }
+{
+    match no_task {
+        NoTask::Words(error) => answer_words(alloc, error, sink, errors),
+        NoTask::BadSize(word) => {
+            tell_size(alloc, word, errors);
+            Status::Usage
+        }
+        NoTask::BadFile(path) => {
+            tell_fault(alloc, "", &FileFault::Open { path: *path }, errors);
+            Status::Unserved
+        }
+        NoTask::NoMemory => starved(errors),
+    }
+}
+
+/// How the program ends after a task that ended so: over a file, what failed is the file if the sink has failed no more often than before.
+fn end_over<W: Sink>(file: Option<&str>, before: u64, status: Status, sink: &W) -> Status
+    ensures { result ≡ over_source (is_some file) (nat_le (W.write_failures sink.now) before) status }
+{
+    if file.is_some() {
+        status.over_file(sink.failures() <= before)
+    } else {
+        status
+    }
+}
+
+/// Performs the task, or reports why there is none. Texts of errors go to the sink of errors, each one line; help goes to the other sink.
+/// `file` is the text in front of the errors of the file that the source reads, if it does not read standard input.
+/// The words and the texts use `alloc`, since the reader of words has no other allocator; the task uses `heap`.
+pub(crate) fn perform<
     H: Files + Threads + Wait + Sync,
     A: Allocator + Copy + Send + Sync,
     R: LookAhead,
@@ -210,168 +245,40 @@ fn answer_task<
     host: &H,
     alloc: Global,
     heap: A,
-    origin: &str,
-    task: &Task<'_>,
+    task: &Result<Task<'_>, NoTask<'_>>,
+    file: Option<&str>,
     source: &mut R,
     sink: &mut W,
     errors: &mut E,
 ) -> Status
     requires devices { HaveRoom (counts R.reads_made R.failures_met W.write_failures source.old sink.old) }
     requires errors { E.write_failures errors.old < 2 ^ 62 }
-    ensures failures { ReportsFailures (counts R.reads_made R.failures_met W.write_failures source.old sink.old) (counts R.reads_made R.failures_met W.write_failures source.new sink.new) result }
+
+    // If a read of standard input failed, or a write to the sink, of help too, the status reports it, and it reports nothing else; over a file, only a write.
+    ensures failures { ReportsOver (is_some file) (counts R.reads_made R.failures_met W.write_failures source.old sink.old) (counts R.reads_made R.failures_met W.write_failures source.new sink.new) result }
+
+    // For words that ask for nothing and records at fault nothing is written to the sink, and for such words nothing is read.
     ensures refused { LeavesRefused source.old source.new sink.old sink.new result }
 {
-    match task {
-        Task::Replay(replaying) => {
-            answer_replay(alloc, heap, origin, *replaying, source, sink, errors)
+    let origin = file.unwrap_or("");
+    let before = sink.failures();
+    let status = match task {
+        Err(no_task) => answer_no_task(alloc, no_task, sink, errors),
+        Ok(Task::Replay(replaying)) if replaying.is_told => {
+            replay_explained(alloc, heap, origin, *replaying, source, sink, errors)
         }
-        Task::Live { numbering } => answer_live(
-            alloc, heap, origin, *numbering, source, sink, errors,
-        ),
-        Task::Rows(words) => answer_rows(alloc, heap, origin, words, source, sink, errors),
-        Task::Sessions { setup, files } => {
+        Ok(Task::Replay(replaying)) => {
+            replay(alloc, heap, origin, *replaying, source, sink, errors)
+        }
+        Ok(Task::Live { numbering }) => {
+            answer_lines(alloc, heap, origin, *numbering, source, sink, errors)
+        }
+        Ok(Task::Rows(words)) => answer_rows(alloc, heap, origin, words, source, sink, errors),
+        Ok(Task::Sessions { setup, files }) => {
             answer_sessions(host, alloc, heap, setup, files, sink, errors)
         }
-        Task::Look(wanted) => answer_look(alloc, heap, origin, wanted, source, sink, errors),
-        Task::Version => say(alloc, VERSION_LINE, sink, errors),
-    }
-}
-
-/// Does what is wanted over the file of that path in the place of the source, which is not read.
-fn answer_file<
-    H: Clock + Eprint + Files + Threads + Wait + Sync,
-    A: Allocator + Copy + Send + Sync,
-    W: Sink,
-    E: Sink,
->(
-    host: &H,
-    alloc: Global,
-    heap: A,
-    wanted: &Wanted<'_>,
-    path: &str,
-    sink: &mut W,
-    errors: &mut E,
-) -> Status
-    requires sink { W.write_failures sink.old < 2 ^ 62 }
-    requires errors { E.write_failures errors.old < 2 ^ 62 }
-    ensures failures { ReportsWriting (W.write_failures sink.old) (W.write_failures sink.new) result }
-    ensures refused { IsRefused result → (sink.new ≡ sink.old) }
-{
-    let Ok(file) = fs::open(host, path) else {
-        tell_fault(alloc, "", &FileFault::Open { path }, errors);
-        return Status::Unserved;
+        Ok(Task::Look(look)) => answer_look(alloc, heap, origin, look, source, sink, errors),
+        Ok(Task::Version) => say(alloc, VERSION_LINE, sink, errors),
     };
-    let Ok(origin) = format!(in alloc; "{path}: ") else {
-        return starved(errors);
-    };
-    let before = sink.failures();
-    let mut source = Ahead::new(Watching::new(file, watched_on(host, wanted.is_watched)));
-    let status = answer_task(
-        host,
-        alloc,
-        heap,
-        &origin,
-        &wanted.task,
-        &mut source,
-        sink,
-        errors,
-    );
-    status.over_file(sink.failures() <= before)
-}
-
-/// Does what is wanted over the file that is named, or else over the source.
-fn answer_over<
-    H: Clock + Eprint + Files + Threads + Wait + Sync,
-    A: Allocator + Copy + Send + Sync,
-    R: LookAhead,
-    W: Sink,
-    E: Sink,
->(
-    host: &H,
-    alloc: Global,
-    heap: A,
-    wanted: &Wanted<'_>,
-    source: &mut R,
-    sink: &mut W,
-    errors: &mut E,
-) -> Status
-    requires devices { HaveRoom (counts R.reads_made R.failures_met W.write_failures source.old sink.old) }
-    requires errors { E.write_failures errors.old < 2 ^ 62 }
-    ensures failures { ReportsFailures (counts R.reads_made R.failures_met W.write_failures source.old sink.old) (counts R.reads_made R.failures_met W.write_failures source.new sink.new) result }
-    ensures refused { LeavesRefused source.old source.new sink.old sink.new result }
-{
-    match wanted.file {
-        Some(path) if path != "-" => { answer_file(host, alloc, heap, wanted, path, sink, errors) }
-        _ => answer_task(host, alloc, heap, "", &wanted.task, source, sink, errors),
-    }
-}
-
-/// Does what is wanted, with no more than so many bytes of the heap out at a time, in all threads together, where a number of
-/// them is told.
-fn answer_wanted<
-    H: Clock + Eprint + Files + Threads + Wait + Sync,
-    A: Allocator + Copy + Send + Sync,
-    R: LookAhead,
-    W: Sink,
-    E: Sink,
->(
-    host: &H,
-    alloc: Global,
-    heap: A,
-    wanted: &Wanted<'_>,
-    source: &mut R,
-    sink: &mut W,
-    errors: &mut E,
-) -> Status
-    requires devices { HaveRoom (counts R.reads_made R.failures_met W.write_failures source.old sink.old) }
-    requires errors { E.write_failures errors.old < 2 ^ 62 }
-    ensures failures { ReportsFailures (counts R.reads_made R.failures_met W.write_failures source.old sink.old) (counts R.reads_made R.failures_met W.write_failures source.new sink.new) result }
-    ensures refused { LeavesRefused source.old source.new sink.old sink.new result }
-{
-    let Some(word) = wanted.memory else {
-        return answer_over(host, alloc, heap, wanted, source, sink, errors);
-    };
-    let Some(bytes) = size_of(word) else {
-        tell_size(alloc, word, errors);
-        return Status::Usage;
-    };
-    let budget = Budget::new(heap, bytes);
-    answer_over(host, alloc, &budget, wanted, source, sink, errors)
-}
-
-/// Does what the words say. Texts of faults go to the sink of errors, each one line; help goes to the other.
-/// The words and the texts use `alloc`, since the reader of words knows no other allocator; the run uses `heap`.
-pub(crate) fn answer<
-    H: Clock + Eprint + Files + Threads + Wait + Sync,
-    S: AsStr,
-    A: Allocator + Copy + Send + Sync,
-    R: LookAhead,
-    W: Sink,
-    E: Sink,
->(
-    host: &H,
-    alloc: Global,
-    heap: A,
-    words: &[S],
-    at_terminal: bool,
-    source: &mut R,
-    sink: &mut W,
-    errors: &mut E,
-) -> Status
-    requires devices { HaveRoom (counts R.reads_made R.failures_met W.write_failures source.old sink.old) }
-    requires errors { E.write_failures errors.old < 2 ^ 62 }
-
-    // Where a read failed, or a write to the sink, of help too, the status tells it, and it tells nothing else.
-    ensures failures { ReportsFailures (counts R.reads_made R.failures_met W.write_failures source.old sink.old) (counts R.reads_made R.failures_met W.write_failures source.new sink.new) result }
-
-    // Words that ask for nothing and records at fault have nothing written to the sink, and such words nothing read.
-    ensures refused { LeavesRefused source.old source.new sink.old sink.new result }
-{
-    match read_words(alloc, words) {
-        Err(error) => answer_words(alloc, &error, sink, errors),
-        Ok(mut wanted) => {
-            wanted.is_watched &= at_terminal;
-            answer_wanted(host, alloc, heap, &wanted, source, sink, errors)
-        }
-    }
+    end_over(file, before, status, sink)
 }

@@ -1,0 +1,145 @@
+//! Plans what the program does: a task, over standard input or a file, with how much memory.
+
+use crate::sizes::size_of;
+use crate::wanted::{Task, read_words};
+use clap::Error;
+use std::alloc::Global;
+use std::convert::AsStr;
+use std::fs;
+use std::fs::Files;
+use std::io::{self, Read};
+
+/// Why there is no task.
+#[derive(Drop, Debug)]
+pub(crate) enum NoTask<'a> {
+    /// The words are at fault, or ask for help or for the version.
+    Words(Error),
+    /// This value of `--memory` is no number of bytes.
+    BadSize(&'a str),
+    /// The file of this path does not open.
+    BadFile(&'a str),
+    /// An allocation failed.
+    NoMemory,
+}
+
+/// A reader of a file, if there is one, and of standard input otherwise.
+#[derive(Drop)]
+pub(crate) struct Input<S, F> {
+    standard: S,
+    file: Option<F>,
+}
+
+impl<S, F> Input<S, F> {
+    /// Nothing was read yet.
+    pub(crate) fn new(standard: S, file: Option<F>) -> Self {
+        Input { standard, file }
+    }
+}
+
+impl<S: Read, F: Read> Read for Input<S, F> {
+    fn read(&mut self, buf: &mut [u8]) -> io::Result<usize> {
+        match &mut self.file {
+            Some(file) => file.read(buf),
+            None => self.standard.read(buf),
+        }
+    }
+}
+
+/// What the program does.
+#[derive(Drop)]
+pub(crate) struct Plan<'a, F> {
+    /// The task, or why there is none.
+    pub(crate) task: Result<Task<'a>, NoTask<'a>>,
+    /// The most bytes of memory, if there is a bound.
+    pub(crate) bytes: Option<usize>,
+    /// The file that is read, if it is not standard input.
+    pub(crate) file: Option<F>,
+    /// The text in front of the errors of that file.
+    pub(crate) origin: Option<String<Global>>,
+    /// Whether prompts are written at a terminal.
+    pub(crate) is_prompted: bool,
+    /// Whether it is reported at a terminal how much was read.
+    pub(crate) is_watched: bool,
+}
+
+/// The number of bytes that the value of `--memory` is, if there is a value.
+fn bytes_of<'a>(memory: Option<&'a str>) -> Result<Option<usize>, NoTask<'a>> {
+    let Some(word) = memory else {
+        return Ok(None);
+    };
+    match size_of(word) {
+        Some(bytes) => Ok(Some(bytes)),
+        None => Err(NoTask::BadSize(word)),
+    }
+}
+
+/// Opens the file of that path, and makes the text in front of its errors.
+fn open<'a, H: Files>(
+    host: &H,
+    alloc: Global,
+    path: &'a str,
+) -> Result<(H::File, String<Global>), NoTask<'a>> {
+    let Ok(file) = fs::open(host, path) else {
+        return Err(NoTask::BadFile(path));
+    };
+    match format!(in alloc; "{path}: ") {
+        Ok(origin) => Ok((file, origin)),
+        Err(_) => Err(NoTask::NoMemory),
+    }
+}
+
+/// Opens the file that is named, if it is not standard input.
+fn open_named<'a, H: Files>(
+    host: &H,
+    alloc: Global,
+    path: Option<&'a str>,
+) -> Result<(Option<H::File>, Option<String<Global>>), NoTask<'a>> {
+    match path {
+        Some(path) if path != "-" => {
+            let (file, origin) = open(host, alloc, path)?;
+            Ok((Some(file), Some(origin)))
+        }
+        _ => Ok((None, None)),
+    }
+}
+
+/// Plans a task.
+fn plan_task<'a, H: Files, S: AsStr>(
+    host: &H,
+    alloc: Global,
+    words: &'a [S],
+) -> Result<Plan<'a, H::File>, NoTask<'a>> {
+    let wanted = match read_words(alloc, words) {
+        Ok(wanted) => wanted,
+        Err(error) => return Err(NoTask::Words(error)),
+    };
+    let bytes = bytes_of(wanted.memory)?;
+    let (file, origin) = open_named(host, alloc, wanted.file)?;
+    Ok(Plan {
+        is_prompted: matches!(&wanted.task, Task::Live { .. }),
+        is_watched: wanted.is_watched,
+        task: Ok(wanted.task),
+        bytes,
+        file,
+        origin,
+    })
+}
+
+/// Plans what the words ask for, and opens the file that they name; no file is opened for words at fault.
+pub(crate) fn plan<'a, H: Files, S: AsStr>(
+    host: &H,
+    alloc: Global,
+    words: &'a [S],
+) -> Plan<'a, H::File> {
+    match plan_task(host, alloc, words) {
+        Ok(plan) => plan,
+        Err(no_task) => Plan {
+            task: Err(no_task),
+            bytes: None,
+            file: None,
+            origin: None,
+            is_prompted: false,
+            is_watched: false,
+        },
+    }
+}
