@@ -1,5 +1,5 @@
 -- What the devices of the program did, and how that is reported. (this project's profile)
-use Rattle.std.specs.Prelude.{◌≡◌, ◌<◌, ◌+◌, ◌^◌, ℕ, ◌⊎◌, Bool, true, false, List, Option, Result, MatchResult, IfErr}
+use Rattle.std.specs.Prelude.{◌≡◌, ◌<◌, ◌+◌, ◌^◌, ℕ, ◌⊎◌, Bool, true, false, List, Option, Some, None, Result, MatchResult, IfErr}
 use Rattle.std.specs.Io.KnownBytes.{prepend_known}
 use Rattle.cq_devices.specs.declared.stop.Stop.{Stop}
 use Rattle.cq_devices.specs.Device.{FailedAtTurn, IfAtTurn, IsAtTurn, write_failures_of}
@@ -18,6 +18,11 @@ pub record AheadRecord (D : Type 0) : Type 0 where
 -- The bytes that are still to be read: those that it gave, and those that it has left.
 abbrev pub left_of : {D : Type 0} → (remaining : D → Option (List ℕ)) → AheadRecord D → Option (List ℕ)
 left_of remaining ahead = prepend_known ahead.held (remaining ahead.device)
+
+-- The bytes that are still to be read of the file, if there is one, and of standard input otherwise.
+abbrev pub left_of_input : {S F : Type 0} → (left_standard : S → Option (List ℕ)) → (left_file : F → Option (List ℕ)) → S → Option F → Option (List ℕ)
+left_of_input left_standard left_file standard None = left_standard standard
+left_of_input left_standard left_file standard (Some file) = left_file file
 
 -- What was counted: the reads of a source, those of them that failed, and the calls of a sink that failed.
 pub record DeviceCounts : Type 0 where

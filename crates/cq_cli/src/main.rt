@@ -32,7 +32,7 @@ ghost use Rattle.std.specs.Prelude.{◌<◌, ◌^◌};
 
 use crate::ahead::Ahead;
 use crate::performing::perform;
-use crate::planning::{Input, plan};
+use crate::planning::{Input, make_plan};
 use crate::progress::{Watching, watched_on};
 use crate::prompting::Prompting;
 use crate::status::Status;
@@ -77,7 +77,7 @@ fn main(rt: HostRuntime) -> ExitCode {
         Ok(words) => words,
         Err(status) => return wordless(status, &mut errors),
     };
-    let plan = plan(&rt, rt.alloc(), &words);
+    let plan = make_plan(&rt, rt.alloc(), &words);
     let prompts = if plan.is_prompted && rt.stdin().is_terminal() {
         Some(rt.stderr())
     } else {
@@ -87,9 +87,10 @@ fn main(rt: HostRuntime) -> ExitCode {
     let input = Input::new(Prompting::new(rt.stdin(), prompts), plan.file);
     let mut source = Ahead::new(Watching::new(input, watched));
     let mut sink = Counted::new(rt.stdout());
+    let bytes = plan.bytes;
     let (task, file) = (&plan.task, plan.origin.as_deref());
     let (source, sink, errors) = (&mut source, &mut sink, &mut errors);
-    let status = match plan.bytes {
+    let status = match bytes {
         None => perform(
             &rt,
             rt.alloc(),

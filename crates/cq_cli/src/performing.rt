@@ -223,7 +223,7 @@ fn answer_no_task<W: Sink, E: Sink>(
 
 /// How the program ends after a task that ended so: over a file, what failed is the file if the sink has failed no more often than before.
 fn end_over<W: Sink>(file: Option<&str>, before: u64, status: Status, sink: &W) -> Status
-    ensures { result ≡ over_source (is_some file) (nat_le (W.write_failures sink.now) before) status }
+    ensures { result ≡ over_source (is_some file.entry) (nat_le (W.write_failures sink.now) before) status }
 {
     if file.is_some() {
         status.over_file(sink.failures() <= before)
@@ -255,7 +255,7 @@ pub(crate) fn perform<
     requires errors { E.write_failures errors.old < 2 ^ 62 }
 
     // If a read of standard input failed, or a write to the sink, of help too, the status reports it, and it reports nothing else; over a file, only a write.
-    ensures failures { ReportsOver (is_some file) (counts R.reads_made R.failures_met W.write_failures source.old sink.old) (counts R.reads_made R.failures_met W.write_failures source.new sink.new) result }
+    ensures failures { ReportsOver (is_some file.entry) (counts R.reads_made R.failures_met W.write_failures source.old sink.old) (counts R.reads_made R.failures_met W.write_failures source.new sink.new) result }
 
     // For words that ask for nothing and records at fault nothing is written to the sink, and for such words nothing is read.
     ensures refused { LeavesRefused source.old source.new sink.old sink.new result }

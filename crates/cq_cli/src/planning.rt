@@ -1,5 +1,7 @@
 //! Plans what the program does: a task, over standard input or a file, with how much memory.
 
+ghost use Rattle.std.specs.Prelude.{◌≡◌};
+
 use crate::sizes::size_of;
 use crate::wanted::{Task, read_words};
 use clap::Error;
@@ -31,12 +33,18 @@ pub(crate) struct Input<S, F> {
 
 impl<S, F> Input<S, F> {
     /// Nothing was read yet.
-    pub(crate) fn new(standard: S, file: Option<F>) -> Self {
+    pub(crate) fn new(standard: S, file: Option<F>) -> Self
+        ensures { result ≡ record { standard = standard; file = file } }
+    {
         Input { standard, file }
     }
 }
 
 impl<S: Read, F: Read> Read for Input<S, F> {
+    ghost use Rattle.cq_cli.specs.Devices.{left_of_input};
+
+    ghost remaining = { λ i. left_of_input S.remaining F.remaining i.standard i.file };
+
     fn read(&mut self, buf: &mut [u8]) -> io::Result<usize> {
         match &mut self.file {
             Some(file) => file.read(buf),
@@ -126,7 +134,7 @@ fn plan_task<'a, H: Files, S: AsStr>(
 }
 
 /// Plans what the words ask for, and opens the file that they name; no file is opened for words at fault.
-pub(crate) fn plan<'a, H: Files, S: AsStr>(
+pub(crate) fn make_plan<'a, H: Files, S: AsStr>(
     host: &H,
     alloc: Global,
     words: &'a [S],
