@@ -59,7 +59,7 @@ fn words<R: Env + Alloc>(rt: &R) -> Result<Vec<String<R::A>, R::A>, Status> {
     }
 }
 
-/// Reports that there are no words, and returns how the program ends.
+/// Reports why the words were not read, and returns how the program ends.
 fn wordless<E: Sink>(status: Status, errors: &mut E) -> ExitCode
     requires { E.write_failures errors.old < 2 ^ 62 }
 {

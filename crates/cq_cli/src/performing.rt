@@ -221,7 +221,7 @@ fn answer_no_task<W: Sink, E: Sink>(
     }
 }
 
-/// How the program ends after a task that ended so: over a file, what failed is the file if the sink has failed no more often than before.
+/// Returns how the program ends after a task of that status. Over a file, a failure is the file's if the sink failed no more often than before.
 fn end_over<W: Sink>(file: Option<&str>, before: u64, status: Status, sink: &W) -> Status
     ensures { result ≡ over_source (is_some file.entry) (nat_le (W.write_failures sink.now) before) status }
 {

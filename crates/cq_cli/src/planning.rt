@@ -1,4 +1,4 @@
-//! Plans what the program does: a task, over standard input or a file, with how much memory.
+//! Plans a task: what it reads, standard input or a file, and how much memory it may have.
 
 ghost use Rattle.std.specs.Prelude.{◌≡◌};
 
@@ -11,7 +11,7 @@ use std::fs;
 use std::fs::Files;
 use std::io::{self, Read};
 
-/// Why there is no task.
+/// The reason why there is no task.
 #[derive(Drop, Debug)]
 pub(crate) enum NoTask<'a> {
     /// The words are at fault, or ask for help or for the version.
@@ -32,7 +32,7 @@ pub(crate) struct Input<S, F> {
 }
 
 impl<S, F> Input<S, F> {
-    /// Nothing was read yet.
+    /// Returns a reader that has read nothing yet.
     pub(crate) fn new(standard: S, file: Option<F>) -> Self
         ensures { result ≡ record { standard = standard; file = file } }
     {
@@ -53,10 +53,10 @@ impl<S: Read, F: Read> Read for Input<S, F> {
     }
 }
 
-/// What the program does.
+/// A task, what it reads, and how much memory it may have.
 #[derive(Drop)]
 pub(crate) struct Plan<'a, F> {
-    /// The task, or why there is none.
+    /// The task, or the reason why there is none.
     pub(crate) task: Result<Task<'a>, NoTask<'a>>,
     /// The most bytes of memory, if there is a bound.
     pub(crate) bytes: Option<usize>,
@@ -70,7 +70,7 @@ pub(crate) struct Plan<'a, F> {
     pub(crate) is_watched: bool,
 }
 
-/// The number of bytes that the value of `--memory` is, if there is a value.
+/// Returns the number of bytes that the value of `--memory` denotes, if there is a value.
 fn bytes_of<'a>(memory: Option<&'a str>) -> Result<Option<usize>, NoTask<'a>> {
     let Some(word) = memory else {
         return Ok(None);
@@ -96,7 +96,7 @@ fn open<'a, H: Files>(
     }
 }
 
-/// Opens the file that is named, if it is not standard input.
+/// Opens the named file, if it is not standard input.
 fn open_named<'a, H: Files>(
     host: &H,
     alloc: Global,
@@ -111,7 +111,7 @@ fn open_named<'a, H: Files>(
     }
 }
 
-/// Plans a task.
+/// Plans the task that the words ask for.
 fn plan_task<'a, H: Files, S: AsStr>(
     host: &H,
     alloc: Global,
@@ -133,7 +133,7 @@ fn plan_task<'a, H: Files, S: AsStr>(
     })
 }
 
-/// Plans what the words ask for, and opens the file that they name; no file is opened for words at fault.
+/// Plans the task that the words ask for, and opens the file that they name. Opens no file if the words are at fault.
 pub(crate) fn make_plan<'a, H: Files, S: AsStr>(
     host: &H,
     alloc: Global,
