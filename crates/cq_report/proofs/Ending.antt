@@ -3,7 +3,7 @@ use Rattle.std.proofs.Common.{◌≡◌, ◌+◌, ℕ, List, [], ◌++◌, Optio
 use Rattle.std.specs.Prelude.{Result, Ok, Err, IfErr, MatchResult}
 use Rattle.std.specs.Io.KnownBytes.{Appends, Consumes}
 use Rattle.std.proofs.KnownBytes.{Consumes-trans}
-use Rattle.cq_devices.specs.Device.{IfAtTurn, IfMemory, IsAtTurn, FailedAtTurn, write_failures_of}
+use Rattle.cq_devices.specs.Device.{IfAtTurn, IsAtTurn, FailedAtTurn, write_failures_of}
 use Rattle.cq_devices.specs.Limits.{max_reads}
 use Rattle.cq_devices.specs.declared.stop.Stop.{Stop}
 use Rattle.cq_devices.specs.declared.stop.Stop.TheVariants as stops
@@ -20,21 +20,11 @@ Passes-all taken taken' held bytes held' p none none' =
     let e : p.front ≡ bytes = sym (append-nil p.front) ∙ ap (λ (l : List ℕ). p.front ++ l) (sym none') ∙ p.whole ∙ ap (λ (l : List ℕ). l ++ bytes) none in
     subst (Appends taken taken') e p.took
 
-pub IfAtTurn-weaker : (fault : Stop) (P Q : ℕ → Type 0) → ((turn : ℕ) → P turn → Q turn) → IfAtTurn fault P → IfAtTurn fault Q
-IfAtTurn-weaker (stops.Read turn) P Q f h = f turn h
-IfAtTurn-weaker stops.Write P Q f h = tt
-IfAtTurn-weaker stops.NoMemory P Q f h = tt
-
 -- known bytes, of which a front was read
 pub Consumes-front : (left left' : Option (List ℕ)) (bytes : List ℕ) (P : List ℕ → Type 0) → Consumes left left' bytes → ((rest : List ℕ) → P (bytes ++ rest)) → IfSome left P
 Consumes-front None left' bytes P read all = tt
 Consumes-front (Some input) None bytes P read all = absurd read
 Consumes-front (Some input) (Some rest) bytes P read all = subst P (sym read) (all rest)
-
-pub IfMemory-weaker : (stop : Stop) (P Q : Type 0) → (P → Q) → IfMemory stop P → IfMemory stop Q
-IfMemory-weaker (stops.Read turn) P Q f h = tt
-IfMemory-weaker stops.Write P Q f h = tt
-IfMemory-weaker stops.NoMemory P Q f h = f h
 
 -- ---- of the end of a run
 

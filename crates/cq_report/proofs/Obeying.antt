@@ -1,6 +1,6 @@
 -- What comes of what a line says.
-use Rattle.std.proofs.Common.{◌≡◌, ◌+◌, ◌∙◌, ℕ, Bool, true, false, List, [], length, nat_le, Option, None, Some, inl, inr, refl, sym, ap, subst}
-use Rattle.std.specs.Prelude.{◌≢◌, Result, Ok, Err, OnOk, OnErr, if◌then◌else◌}
+use Rattle.std.proofs.Common.{◌≡◌, ◌+◌, ◌∙◌, ℕ, Bool, true, false, List, [], ◌∷◌, length, nat_le, Option, None, Some, inl, inr, refl, sym, ap, subst, arith}
+use Rattle.std.specs.Prelude.{◌≢◌, codes, fold, Result, Ok, Err, OnOk, OnErr, if◌then◌else◌}
 use Rattle.cq_rel.specs.declared.fault.CatalogFault.{CatalogFault}
 use Rattle.cq_rel.specs.Tables.{Declaration, declaration, declare_fault}
 use Rattle.cq_text.specs.declared.form.Form.{Form}
@@ -21,6 +21,9 @@ use Rattle.cq_desk.specs.declared.reply.Reply.TheVariants as replies
 use Rattle.cq_desk.specs.Machine.{answer_to}
 use Rattle.cq_desk.specs.Standing.{IsTold, replied, stepped}
 use Rattle.std.specs.Option.{option_map}
+use Rattle.cq_ask.specs.declared.counts.Counts.{Counts}
+use Rattle.cq_ask.specs.Answer.{FloorRecord, IsTold as IsTextTold, IsToldOf, count_line, counts_of, published_pool}
+use Rattle.cq_ask.specs.Data.{IsMember, IsMemberOf, count_json, member_text}
 use Rattle.cq_ask.specs.Ask.{AskRecord, asked, takes_no_names}
 use Rattle.cq_ask.specs.declared.ask.AskKind.{AskKind}
 use Rattle.cq_ask.specs.declared.ask.AskKind.TheVariants as kinds
@@ -28,18 +31,19 @@ use Rattle.cq_report.specs.Live.{needs_memory}
 use Rattle.cq_report.specs.declared.manner.Manner.{Manner}
 use Rattle.cq_report.specs.declared.manner.Manner.TheVariants as manners
 use Rattle.cq_report.specs.declared.numbering.Numbering.{Numbering}
+use Rattle.cq_report.specs.declared.numbering.Numbering.TheVariants.{Plain, Numbered, Json}
 use Rattle.cq_report.specs.declared.outcome.Outcome.{Outcome}
 use Rattle.cq_report.specs.declared.outcome.Outcome.TheVariants as outcomes
 use Rattle.cq_report.specs.declared.said.Said.{Said}
 use Rattle.cq_report.specs.declared.said.Said.TheVariants as saids
 use Rattle.cq_report.specs.declared.stage.Stage.TheVariants.{Setup, Serving}
 use Rattle.cq_report.specs.Reading.{Reading, Reads, Faulty, IsReading}
-use Rattle.cq_report.specs.Machine.{State, Staged, SetupRecord, ServingRecord, after, before_after, board_named, counted, declared, form_in, headed, next, numbered, outcome, page_of, prepare, serving_of, shown, staged}
+use Rattle.cq_report.specs.Machine.{State, Staged, SetupRecord, ServingRecord, after, before_after, board_named, counted, declared, form_in, headed, next, numbered, opened, outcome, page_of, prepare, serving_of, shown, staged}
 use Rattle.cq_report.specs.Refusals.{tallied}
 use Rattle.cq_report.specs.Reply.{event_outcome, refusal, reply_outcome}
 use Rattle.cq_report.specs.Live.{Turn, Served as ReadsAs, Asked, IsTurn, MayStarve, is_done, turned, turn_reply}
 use Rattle.cq_report.specs.Steps.Serving.{IsLine, MayBeStarved}
-use Rattle.cq_report.specs.Steps.Turns.{TurnRecord, IsObeyed, IsRead, IsSaid, MayFail, plain_turn, staged_by, turn_bytes, turn_in}
+use Rattle.cq_report.specs.Steps.Turns.{TurnRecord, IsObeyed, IsRead, IsSaid, MayFail, IsPage, counts_page, plain_turn, staged_by, turn_bytes, turn_in}
 use Rattle.cq_report.proofs.Served.{same_starve, turn_of_line}
 
 -- ---- the stage
@@ -53,6 +57,30 @@ serving_by false (Serving serving) = refl
 pub serving_stays : (closed : Bool) (serving : ServingRecord) → staged_by closed (Serving serving) ≡ Serving serving
 serving_stays true serving = refl
 serving_stays false serving = refl
+
+-- nothing has happened at first
+no_rows : (xs : List Declaration) (n : ℕ) → fold (λ count declared. count + 0) n xs ≡ n
+no_rows [] n = refl
+no_rows (x ∷ xs) n = no_rows xs (n + 0) ∙ omega arith
+
+pub nothing_counted : (setup : SetupRecord) → (let none : Counts = record { queries = 0; matched = 0; waiting = 0; rows = 0; entries = 0; unpublished = 0 } in none) ≡ counts_of (opened setup)
+nothing_counted setup =
+    ap (λ (n : ℕ). let counts : Counts = record { queries = 0; matched = 0; waiting = 0; rows = n; entries = 0; unpublished = 0 } in counts) (sym (no_rows setup.catalog 0))
+
+-- ---- counts
+
+module _ (floor : FloorRecord) (before : ℕ) (ask : AskRecord) (is : kinds.Count ≡ ask.kind) where
+  counts_as_text : IsTextTold floor before ask (count_line (counts_of floor))
+  counts_as_text = subst (λ (kind : AskKind). IsToldOf floor (published_pool floor) before kind ask.names ask.text (count_line (counts_of floor))) is refl
+
+  counts_as_member : IsMember floor before ask (member_text (codes "count", count_json (counts_of floor)))
+  counts_as_member = ((codes "count", count_json (counts_of floor)), subst (λ (kind : AskKind). IsMemberOf floor (published_pool floor) before kind ask.names ask.text (codes "count", count_json (counts_of floor))) is refl, refl)
+
+  -- counts are the answer that is asked for
+  pub counts_told : (numbering : Numbering) → IsPage numbering floor before ask (counts_page numbering (counts_of floor))
+  counts_told Plain = counts_as_text
+  counts_told Numbered = counts_as_text
+  counts_told Json = counts_as_member
 
 -- ---- replies without a page
 
@@ -183,7 +211,7 @@ may_by manners.Live form (Some line) said is may live all known = same_starve li
 
 -- a line that needs memory to be read asks for what needs memory
 kind_wants : (kind : AskKind) → takes_no_names kind ≡ false → needs_memory kind ≡ true
-kind_wants kinds.Count h = refl
+kind_wants kinds.Count h = absurd cc
 kind_wants kinds.Status h = refl
 kind_wants kinds.Query h = refl
 kind_wants kinds.Explain h = refl

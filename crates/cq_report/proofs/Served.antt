@@ -67,11 +67,6 @@ keeps_on (Some f) None pending more h k =
 keeps_on (Some f) (Some l) pending more h (inl k) = k ∙ ap (λ (bytes : List ℕ). kept (bytes ++ more)) h ∙ kept_again pending more
 keeps_on (Some f) (Some l) pending more h (inr (none, k)) = k ∙ h ∙ ap kept (sym (append-nil pending) ∙ ap (λ (bytes : List ℕ). pending ++ bytes) (sym none))
 
--- no bytes more leave what is kept
-pub keeps_none : (line : Option (List ℕ)) (bytes : List ℕ) → length bytes ≡ 0 → KeepsOn line bytes line
-keeps_none None bytes none = tt
-keeps_none (Some l) bytes none = inr (nil_from_length bytes none, refl)
-
 -- bytes that were kept are no line that begins
 never_new : (b : ℕ) (bs more : List ℕ) (P : Type 0) → KeepsOn (Some (b ∷ bs)) more (Some []) → P
 never_new b bs more P (inl k) = absurd (let none = kept_none ((b ∷ bs) ++ more) (ap length (sym k)) in omega (arith, none))

@@ -1,5 +1,12 @@
 -- Texts put part by part.
-use Rattle.std.proofs.Common.{◌≡◌, ◌++◌, ◌∙◌, ℕ, List, sym, ap, append_assoc}
+use Rattle.std.proofs.Common.{◌≡◌, ◌<◌, ◌+◌, ◌++◌, ◌∙◌, ℕ, List, drop, get_or, length, sym, ap, append_assoc}
+use Rattle.std.specs.List.{flat_map}
+use Rattle.std.proofs.lemmas.List.{get_or_default}
+use Rattle.cq_board.proofs.CallerLemmas.{pieces_at, read_at}
+
+-- the piece at a place, and those after it
+pub piece_at : {X : Type 0} (f : X → List ℕ) (xs : List X) (i : ℕ) (d : X) → i < length xs → flat_map f (drop i xs) ≡ f (get_or xs i d) ++ flat_map f (drop (i + 1) xs)
+piece_at f xs i d low = pieces_at f xs i (get_or xs i d) (read_at xs i (get_or xs i d) low (get_or_default xs i d (get_or xs i d) low))
 
 pub three_put : (page a b c last : List ℕ) → page ++ (a ++ (b ++ c)) ++ last ≡ page ++ (a ++ b ++ c ++ last)
 three_put page a b c last = append_assoc page (a ++ (b ++ c)) last ∙ ap (λ (l : List ℕ). page ++ (l ++ last)) (sym (append_assoc a b c))

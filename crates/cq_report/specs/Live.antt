@@ -42,8 +42,9 @@ IsAskTold Plain floor before ask told = IsAnswer floor before ask told
 IsAskTold Numbered floor before ask told = IsAnswer floor before ask told
 IsAskTold Json floor before ask told = IsMember floor before ask told
 
--- All that is asked needs memory to be told, but that no further line is heard.
+-- What is asked needs memory to be told, unless it is counts, or that no further line is heard.
 abbrev pub needs_memory : AskKind → Bool
+needs_memory kinds.Count = false
 needs_memory kinds.Quit = false
 needs_memory _ = true
 
@@ -61,7 +62,7 @@ is_done (manners.Script is_strict) state = is_strict && is_some state.tally.firs
 abbrev pub line_room : ℕ
 line_room = 64
 
--- An allocation may fail at any line that is longer than that, and at any other but `quit`.
+-- An allocation may fail at any line that is longer than that, and at any other but `count` and `quit`.
 abbrev pub MayStarve : List ℕ → Type 0
 MayStarve line = (line_room < length line) ⊎ ((ask : AskRecord) → asked line ≡ Some ask → needs_memory ask.kind ≡ true)
 

@@ -223,7 +223,3 @@ spoken_after numbering after = spoken numbering after.1 (page_of numbering (show
 -- The reply to a line.
 abbrev pub reply : State → Reading → List ℕ
 reply state reading = numbered state.numbering state.lines (spoken_after state.numbering (staged state.stage state.heading reading))
-
--- The pool that a look would show in this state: where the setup lasts, the opening pool.
-abbrev pub pool_shown : State → PoolRecord
-pool_shown state = shown (serving_of state.stage)

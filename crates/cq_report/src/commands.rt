@@ -4,6 +4,7 @@ ghost use Rattle.std.specs.Prelude.{◌≡◌, true, string_bytes, OnErr, IfOk};
 ghost use Rattle.cq_report.specs.declared.stage.Stage.TheVariants.{Serving};
 ghost use Rattle.cq_desk.specs.declared.event.Event.TheVariants.{Enter, Look, Publish};
 ghost use Rattle.cq_report.specs.Live.{IsAskTold, needs_memory};
+ghost use Rattle.cq_ask.specs.Answer.{counts_of};
 ghost use Rattle.cq_report.specs.Machine.{happen, opened, prepare, serving_of};
 ghost use Rattle.cq_report.specs.Steps.Turns.{IsPage, turn_after, turn_bytes};
 
@@ -14,11 +15,21 @@ use crate::refusal::Refusal;
 use crate::script::Script;
 use crate::setup::Setup;
 use crate::stage::Stage;
-use cq_ask::{Ask, tell, tell_data};
+use cq_ask::{Ask, AskKind, Counts, counts_of, tell, tell_data};
 use cq_atom::{Edit, Name};
 use cq_text::SetupLine;
 use std::alloc::{AllocError, Allocator};
 use std::mem;
+
+/// The counts of a board at which nothing has happened.
+const NO_COUNTS: Counts = Counts {
+    queries: 0,
+    matched: 0,
+    waiting: 0,
+    rows: 0,
+    entries: 0,
+    unpublished: 0,
+};
 
 /// Returns the answer to what is asked of a floor, in lines or as a member of a JSON object.
 fn page_of<A: Allocator + Copy>(
@@ -133,7 +144,17 @@ impl<A: Allocator + Copy> Script<A> {
         }
     }
 
-    /// Returns the reply to what is asked, of what is published. That to `quit` takes no memory.
+    /// Returns the counts of what is published. That takes no memory.
+    fn counts(&self) -> Counts
+        ensures { result ≡ counts_of (serving_of self.now.stage) }
+    {
+        match &self.stage {
+            Stage::Setup(_) => NO_COUNTS,
+            Stage::Serving(floor) => counts_of(floor),
+        }
+    }
+
+    /// Returns the reply to what is asked, of what is published. Those to `count` and `quit` take no memory.
     pub(crate) fn tell(&self, ask: &Ask<A>) -> Result<Turn<A>, AllocError>
         ensures told { IfOk result (λ turn. IsAskTold self.now.numbering (serving_of self.now.stage) self.now.before ask.now (turn_bytes self.now.numbering turn)) }
         ensures wants { OnErr result (needs_memory ask.now.kind ≡ true) }
@@ -141,10 +162,10 @@ impl<A: Allocator + Copy> Script<A> {
         if ask.is_quit() {
             return Ok(Turn::plain(self.alloc, Outcome::Quit));
         }
+        if matches!(ask.kind(), AskKind::Count) {
+            return Ok(Turn::of_counts(self.alloc, self.numbering, self.counts()));
+        }
         let page = self.page(ask)?;
-        Ok(Turn {
-            outcome: Outcome::Answered(ask.kind()),
-            page,
-        })
+        Ok(Turn::of_text(Outcome::Answered(ask.kind()), page))
     }
 }

@@ -83,10 +83,7 @@ pub(crate) fn look<A: Allocator + Copy>(
     let count = floor.published_count();
     let page = board_page(alloc, numbering, count, floor.board())?;
     let _count = floor.look(SESSION);
-    Ok(Turn {
-        outcome: Outcome::Shown(count),
-        page,
-    })
+    Ok(Turn::of_text(Outcome::Shown(count), page))
 }
 
 /// Returns what comes of an edit that the session enters. The session is there, so an edit without a reply is out of memory.

@@ -2,11 +2,14 @@
 
 ghost use Rattle.std.specs.Prelude.{◌≡◌, string_bytes, IfOk};
 ghost use Rattle.cq_report.specs.Reply.{reply_outcome, answer_outcome, refusal, outcome_line};
-ghost use Rattle.cq_report.specs.Steps.Turns.{plain_turn, is_silent};
+ghost use Rattle.cq_report.specs.Steps.Turns.{counts_page, plain_turn, is_silent};
+ghost use Rattle.cq_ask.specs.declared.ask.AskKind.TheVariants.{Count};
+ghost use Rattle.cq_report.specs.declared.outcome.Outcome.TheVariants.{Answered};
 
+use crate::numbering::Numbering;
 use crate::refusal::Refusal;
 use crate::reply::words_of;
-use cq_ask::{AskKind, ending};
+use cq_ask::{AskKind, Counts, ending};
 use cq_board::Why;
 use cq_desk::{Answer, Reply};
 use std::alloc::{AllocError, Allocator};
@@ -80,20 +83,22 @@ impl Outcome {
     }
 }
 
-/// The reply to a line before it is written: what comes of the line, and the page that goes with it, which is empty except for a look and an answer.
+/// The reply to a line before it is written: what comes of the line, and the page that goes with it, which is empty except for a look and an answer. The page is
+/// a text, or counts as they are told so.
 #[derive(Drop)]
 pub(crate) struct Turn<A: Allocator> {
     pub(crate) outcome: Outcome,
-    pub(crate) page: String<A>,
+    pub(crate) text: String<A>,
+    pub(crate) counts: Option<(Numbering, Counts)>,
 }
 
 impl<A: Allocator> Model for Turn<A> {
     ghost use Rattle.std.specs.Prelude.{string_bytes};
-    ghost use Rattle.cq_report.specs.Steps.Turns.{TurnRecord};
+    ghost use Rattle.cq_report.specs.Steps.Turns.{TurnRecord, paged};
 
     ghost Value = { TurnRecord };
 
-    ghost view = { λ t. record { outcome = t.outcome; page = string_bytes t.page } };
+    ghost view = { λ t. record { outcome = t.outcome; page = paged t.counts (string_bytes t.text) } };
 }
 
 impl<A: Allocator> Turn<A> {
@@ -103,7 +108,30 @@ impl<A: Allocator> Turn<A> {
     {
         Turn {
             outcome,
-            page: String::new(alloc),
+            text: String::new(alloc),
+            counts: None,
+        }
+    }
+
+    /// A reply whose page is this text.
+    pub(crate) fn of_text(outcome: Outcome, text: String<A>) -> Turn<A>
+        ensures { result ≡ record { outcome = outcome; page = string_bytes text } }
+    {
+        Turn {
+            outcome,
+            text,
+            counts: None,
+        }
+    }
+
+    /// A reply that tells counts. It does not allocate.
+    pub(crate) fn of_counts(alloc: A, numbering: Numbering, counts: Counts) -> Turn<A>
+        ensures { result ≡ record { outcome = Answered Count; page = counts_page numbering counts } }
+    {
+        Turn {
+            outcome: Outcome::Answered(AskKind::Count),
+            text: String::new(alloc),
+            counts: Some((numbering, counts)),
         }
     }
 
@@ -111,9 +139,12 @@ impl<A: Allocator> Turn<A> {
     pub(crate) fn is_silent(&self) -> bool
         ensures { result ≡ is_silent self.now }
     {
+        if self.counts.is_some() {
+            return false;
+        }
         match self.outcome {
-            Outcome::Silent | Outcome::Quit => self.page.is_empty(),
-            Outcome::Answered(kind) => self.page.is_empty() && ending(kind).is_empty(),
+            Outcome::Silent | Outcome::Quit => self.text.is_empty(),
+            Outcome::Answered(kind) => self.text.is_empty() && ending(kind).is_empty(),
             Outcome::Accepted
             | Outcome::Entered(_)
             | Outcome::Published(_)

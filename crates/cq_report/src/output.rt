@@ -1,6 +1,8 @@
 //! A buffer before a writer.
 
 ghost use Rattle.std.specs.Prelude.{◌≡◌, ◌<◌, ◌+◌, ◌^◌, ℕ, List, ◌++◌, [], OnOk, OnErr};
+ghost use Rattle.std.specs.List.{flat_map};
+ghost use Rattle.cq_ask.specs.Answer.{part_bytes};
 ghost use Rattle.cq_devices.specs.declared.stop.Stop.TheVariants.{Write};
 ghost use Rattle.cq_report.specs.Machine.{numbered};
 ghost use Rattle.cq_report.specs.Steps.Lines.{number_bytes, line_bytes};
@@ -10,6 +12,7 @@ ghost use Rattle.cq_report.specs.Steps.Written.{Puts, Breaks};
 use crate::numbering::Numbering;
 use crate::outcome::Turn;
 use crate::reply::{ReplyLine, after_page, before_page};
+use cq_ask::{CountPart, count_members, count_parts};
 use cq_devices::{Failed, Sink, write_all};
 use itoa::Buffer;
 use std::alloc::Allocator;
@@ -103,6 +106,46 @@ impl<'w, W: Sink, A: Allocator> Output<'w, W, A> {
         self.put_part(line.before_number, wide(line.number), line.end)
     }
 
+    /// Puts a piece of the answer that tells counts.
+    fn put_count(&mut self, part: &CountPart) -> Result<(), Failed>
+        requires { W.write_failures self.old.sink.now < 2 ^ 62 }
+        ensures ok { OnOk result (Puts W.taken W.write_failures self.old self.new (part_bytes part.now)) }
+        ensures err { OnErr result (Breaks W.taken W.write_failures self.old self.new (part_bytes part.now) Write) }
+    {
+        self.put(part.words.as_bytes())?;
+        match part.number {
+            None => self.put(b""),
+            Some(number) => { self.put_part(part.mark, Some(number), part.mark) }
+        }
+    }
+
+    /// Puts such pieces.
+    fn put_counts(&mut self, parts: &[CountPart]) -> Result<(), Failed>
+        requires { W.write_failures self.old.sink.now < 2 ^ 62 }
+        ensures ok { OnOk result (Puts W.taken W.write_failures self.old self.new (flat_map part_bytes parts.now)) }
+        ensures err { OnErr result (Breaks W.taken W.write_failures self.old self.new (flat_map part_bytes parts.now) Write) }
+    {
+        for part in parts {
+            self.put_count(part)?;
+        }
+        Ok(())
+    }
+
+    /// Puts the page of a reply.
+    fn put_page(&mut self, turn: &Turn<A>) -> Result<(), Failed>
+        requires { W.write_failures self.old.sink.now < 2 ^ 62 }
+        ensures ok { OnOk result (Puts W.taken W.write_failures self.old self.new turn.now.page) }
+        ensures err { OnErr result (Breaks W.taken W.write_failures self.old self.new turn.now.page Write) }
+    {
+        match turn.counts {
+            None => self.put(turn.text.as_str().as_bytes()),
+            Some((Numbering::Json, counts)) => self.put_counts(&count_members(&counts)),
+            Some((Numbering::Plain | Numbering::Numbered, counts)) => self.put_counts(&count_parts(
+                &counts,
+            )),
+        }
+    }
+
     /// Puts a reply without a number, and a tail after it.
     fn put_turn(&mut self, numbering: Numbering, turn: &Turn<A>, tail: &str) -> Result<(), Failed>
         requires { W.write_failures self.old.sink.now < 2 ^ 62 }
@@ -110,12 +153,8 @@ impl<'w, W: Sink, A: Allocator> Output<'w, W, A> {
         ensures err { OnErr result (Breaks W.taken W.write_failures self.old self.new (turn_bytes numbering turn.now ++ tail.now) Write) }
     {
         self.put_line(&before_page(numbering, turn.outcome))?;
-        self.put_part(
-            turn.page.as_str(),
-            None,
-            after_page(numbering, turn.outcome),
-        )?;
-        self.put(tail.as_bytes())
+        self.put_page(turn)?;
+        self.put_part(after_page(numbering, turn.outcome), None, tail)
     }
 
     /// Puts the reply to a line before which so many came. That takes no memory.

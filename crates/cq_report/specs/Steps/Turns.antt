@@ -1,10 +1,11 @@
 -- What a line says, and the reply to it before it is written.
-use Rattle.std.specs.Prelude.{◌≡◌, ℕ, ◌==◌, Bool, true, List, [], ◌++◌, length, Option, Some, None, ⊤}
+use Rattle.std.specs.Prelude.{◌≡◌, ℕ, ◌==◌, Bool, true, List, [], ◌++◌, length, codes, Option, Some, None, ⊤}
 use Rattle.cq_text.specs.declared.form.Form.{Form}
 use Rattle.cq_text.specs.Grammar.{CommandContent}
 use Rattle.cq_ask.specs.Ask.{AskRecord, is_quit}
-use Rattle.cq_ask.specs.Answer.{FloorRecord, IsTold}
-use Rattle.cq_ask.specs.Data.{IsMember}
+use Rattle.cq_ask.specs.declared.counts.Counts.{Counts}
+use Rattle.cq_ask.specs.Answer.{FloorRecord, IsTold, count_line}
+use Rattle.cq_ask.specs.Data.{IsMember, count_json, member_text}
 use Rattle.cq_report.specs.declared.manner.Manner.{Manner}
 use Rattle.cq_report.specs.declared.said.Said.{Said}
 use Rattle.cq_report.specs.declared.said.Said.TheVariants as saids
@@ -21,6 +22,17 @@ use Rattle.cq_report.specs.Machine.{State, Staged, opened, serving_of, shown, pa
 pub record TurnRecord : Type 0 where
   pub outcome : Outcome
   pub page : List ℕ
+
+-- Counts, in a line or as a member of a JSON object.
+abbrev pub counts_page : Numbering → Counts → List ℕ
+counts_page Plain counts = count_line counts
+counts_page Numbered counts = count_line counts
+counts_page Json counts = member_text (codes "count", count_json counts)
+
+-- A page that is a text, or counts in their place.
+abbrev pub paged : Option (Numbering × Counts) → List ℕ → List ℕ
+paged None text = text
+paged (Some told) text = counts_page told.0 told.1
 
 -- No page.
 abbrev pub plain_turn : Outcome → TurnRecord

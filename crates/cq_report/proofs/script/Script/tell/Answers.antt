@@ -1,8 +1,19 @@
-use Rattle.std.proofs.Common.{◌∙◌, sym, subst}
+use Rattle.std.proofs.Common.{◌≡◌, ◌∙◌, ℕ, List, refl, ap, sym, subst, append-nil}
+use Rattle.cq_ask.specs.declared.ask.AskKind.{AskKind}
+use Rattle.cq_ask.specs.declared.ask.AskKind.TheVariants.{Count}
+use Rattle.cq_ask.specs.declared.counts.Counts.{Counts}
+use Rattle.cq_ask.specs.Ask.{AskRecord}
+use Rattle.cq_ask.specs.Answer.{FloorRecord, counts_of}
+use Rattle.cq_ask.specs.Data.{IsMember}
+use Rattle.cq_report.specs.declared.numbering.Numbering.{Numbering}
+use Rattle.cq_report.specs.declared.numbering.Numbering.TheVariants.{Plain, Numbered, Json}
+use Rattle.cq_report.specs.declared.outcome.Outcome.TheVariants.{Answered}
 use Rattle.cq_report.specs.Live.{IsAskTold}
-use Rattle.cq_report.specs.Machine.{serving_of}
-use Rattle.cq_report.specs.Steps.Turns.{TurnRecord, turn_bytes}
+use Rattle.cq_report.specs.Machine.{State, serving_of}
+use Rattle.cq_report.specs.Steps.Turns.{IsPage, TurnRecord, counts_page, turn_bytes}
 use Rattle.cq_report.proofs.Asking.{quit_told}
+use Rattle.cq_report.proofs.Obeying.{counts_told}
+use Rattle.cq_report.proofs.script.Script.tell.Goals.{in-Count, in_default}
 use Rattle.cq_report.proofs.script.Script.tell.Goals as goal
 
 pub returns-then-is_quit-clause-told : goal.returns-then-is_quit-clause-told
@@ -11,3 +22,25 @@ returns-then-is_quit-clause-told g c =
     let ask = c.args.ask.now in
     subst (λ (turn : TurnRecord). IsAskTold state.numbering (serving_of state.stage) state.before ask (turn_bytes state.numbering turn)) (sym c.plain.ensures)
     (quit_told (serving_of state.stage) state.before ask (sym c.is_quit.ensures ∙ c.if-is_quit.true) state.numbering)
+
+-- a page is an answer, with what ends it
+told_of : (numbering : Numbering) (floor : FloorRecord) (before : ℕ) (ask : AskRecord) (page : List ℕ) → IsPage numbering floor before ask page → IsAskTold numbering floor before ask (turn_bytes numbering (record { outcome = Answered ask.kind; page = page }))
+told_of Plain floor before ask page is = (page, is, refl)
+told_of Numbered floor before ask page is = (page, is, refl)
+told_of Json floor before ask page is = subst (λ (bytes : List ℕ). IsMember floor before ask bytes) (sym (append-nil page)) is
+
+pub returns-then-matches-clause-told : goal.returns-then-matches-clause-told
+returns-then-matches-clause-told g c =
+    let state = c.args.self.now in
+    let floor = serving_of state.stage in
+    let ask = c.args.ask.now in
+    let is : Count ≡ ask.kind = elim c.match-matches.branch [
+      | in-Count w ↦ sym w.in-Count.is ∙ c.kind.ensures
+      | in_default w ↦ absurd (let never = sym w.matches-is ∙ c.if-matches.true in cc)
+    ] in
+    let d = c.self.inside in
+    subst (λ (turn : TurnRecord). IsAskTold state.numbering floor state.before ask (turn_bytes state.numbering turn)) (sym (c.of_counts.ensures
+    ∙ ap (λ (kind : AskKind). let turn : TurnRecord = record { outcome = Answered kind; page = counts_page d.numbering c.counts.result } in turn) is
+    ∙ ap (λ (s : State). let turn : TurnRecord = record { outcome = Answered ask.kind; page = counts_page s.numbering c.counts.result } in turn) c.self.view_is
+    ∙ ap (λ (counts : Counts). let turn : TurnRecord = record { outcome = Answered ask.kind; page = counts_page state.numbering counts } in turn) c.counts.ensures))
+    (told_of state.numbering floor state.before ask (counts_page state.numbering (counts_of floor)) (counts_told floor state.before ask is state.numbering))
