@@ -10,10 +10,10 @@ use std::alloc::{AllocError, Global};
 use std::convert::AsStr;
 
 /// What `--version` tells: the number, of which CHANGELOG.md says what came with it, and the logic in which the program is proved.
-const VERSION: &str = "0.8.1, proved in the logic dac8208d650f15bf";
+const VERSION: &str = "0.8.2, proved in the logic dac8208d650f15bf";
 
 /// What `version` writes.
-pub(crate) const VERSION_LINE: &str = "board 0.8.1, proved in the logic dac8208d650f15bf
+pub(crate) const VERSION_LINE: &str = "board 0.8.2, proved in the logic dac8208d650f15bf
 ";
 
 const ABOUT: &str = "A live coordination board for entangled queries.";

@@ -1,4 +1,4 @@
-//! What the commands of a script do, and what is asked of it.
+//! Commands of a script, and questions about its board.
 
 ghost use Rattle.std.specs.Prelude.{◌≡◌, true, string_bytes, OnErr, IfOk};
 ghost use Rattle.cq_report.specs.declared.stage.Stage.TheVariants.{Serving};
@@ -31,7 +31,7 @@ const NO_COUNTS: Counts = Counts {
     unpublished: 0,
 };
 
-/// Returns the answer to what is asked of a floor, in lines or as a member of a JSON object.
+/// Returns the answer to a question about a floor, in lines or as a member of a JSON object.
 fn page_of<A: Allocator + Copy>(
     alloc: A,
     numbering: Numbering,
@@ -48,7 +48,7 @@ fn page_of<A: Allocator + Copy>(
 }
 
 impl<A: Allocator + Copy> Script<A> {
-    /// Takes a line of a setup, and gives what comes of it.
+    /// Takes a line of a setup, and returns the outcome.
     pub(crate) fn prepare(&mut self, line: &SetupLine<Name<A>>) -> Result<Outcome, AllocError>
         ensures state { IfOk result (λ outcome. self.new ≡ record self.old { stage = (prepare self.old.stage self.old.heading line.now).0 }) }
         ensures outcome { IfOk result (λ outcome. outcome ≡ (prepare self.old.stage self.old.heading line.now).1) }
@@ -60,7 +60,7 @@ impl<A: Allocator + Copy> Script<A> {
         }
     }
 
-    /// Publishes what was entered, and gives what comes of it. A setup ends by it, and its floor opens later, so that no memory is taken.
+    /// Publishes all entries, and returns the outcome. It ends a setup, whose floor opens later: so this does not allocate.
     pub(crate) fn publish(&mut self) -> Outcome
         ensures state { self.new ≡ record self.old { stage = (happen self.old.stage Publish).0 } }
         ensures outcome { result ≡ (happen self.old.stage Publish).1 }
@@ -81,8 +81,8 @@ impl<A: Allocator + Copy> Script<A> {
         mem::drop(mem::replace(&mut self.stage, Stage::Serving(floor)));
     }
 
-    /// Enters the edit that comes first. A floor is large, and is in the frame of this call and that of `show_first`
-    /// alone: so no other line pays for it. The setup is kept until the edit is entered or refused.
+    /// Enters the first edit. A floor is large; only the frames of this call and of `show_first` hold one, so no other
+    /// line pays for it. The setup is kept until the edit is entered or refused.
     #[cold]
     #[inline(never)]
     pub(crate) fn enter_first(
@@ -116,7 +116,7 @@ impl<A: Allocator + Copy> Script<A> {
         Ok(turn)
     }
 
-    /// Shows the published board, and gives the reply.
+    /// Shows the published board, and returns the reply.
     pub(crate) fn show(&mut self) -> Result<Turn<A>, AllocError>
         ensures state { IfOk result (λ turn. self.new ≡ record self.old { stage = (happen self.old.stage (Look 0)).0 }) }
         ensures turn { IfOk result (λ turn. turn ≡ turn_after self.old.numbering (happen self.old.stage (Look 0))) }
@@ -131,7 +131,7 @@ impl<A: Allocator + Copy> Script<A> {
         }
     }
 
-    /// Returns the answer to what is asked of what is published. A setup opens a floor for it, which is let go.
+    /// Returns the answer to a question about the published board. A setup opens a floor for it, and drops it.
     fn page(&self, ask: &Ask<A>) -> Result<String<A>, AllocError>
         ensures { IfOk result (λ page. IsPage self.now.numbering (serving_of self.now.stage) self.now.before ask.now (string_bytes page)) }
     {
@@ -144,7 +144,7 @@ impl<A: Allocator + Copy> Script<A> {
         }
     }
 
-    /// Returns the counts of what is published. That takes no memory.
+    /// Returns the counts of the published board. Does not allocate.
     fn counts(&self) -> Counts
         ensures { result ≡ counts_of (serving_of self.now.stage) }
     {
@@ -154,7 +154,7 @@ impl<A: Allocator + Copy> Script<A> {
         }
     }
 
-    /// Returns the reply to what is asked, of what is published. Those to `count` and `quit` take no memory.
+    /// Returns the reply to a question about the published board. Does not allocate for `count` and `quit`.
     pub(crate) fn tell(&self, ask: &Ask<A>) -> Result<Turn<A>, AllocError>
         ensures told { IfOk result (λ turn. IsAskTold self.now.numbering (serving_of self.now.stage) self.now.before ask.now (turn_bytes self.now.numbering turn)) }
         ensures wants { OnErr result (needs_memory ask.now.kind ≡ true) }

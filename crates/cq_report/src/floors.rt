@@ -52,7 +52,7 @@ fn report_page<A: Allocator + Copy>(alloc: A, board: &Board<A>) -> Result<String
     Ok(page)
 }
 
-/// Returns what a look shows of a board that so many entries leave.
+/// Returns the page of a look at a board after that many entries.
 fn board_page<A: Allocator + Copy>(
     alloc: A,
     numbering: Numbering,
@@ -86,7 +86,7 @@ pub(crate) fn look<A: Allocator + Copy>(
     Ok(Turn::of_text(Outcome::Shown(count), page))
 }
 
-/// Returns what comes of an edit that the session enters. The session is there, so an edit without a reply is out of memory.
+/// Returns the outcome of an edit that the session enters. The session exists, so an edit without a reply is out of memory.
 pub(crate) fn entered(reply: Result<Reply<Why>, StepFault>) -> Result<Outcome, AllocError>
     ensures outcome { IfOk result (λ outcome. outcome ≡ event_outcome (replied reply)) }
     ensures some { OnOk result (reply ≢ Err NoMemory) }

@@ -8,7 +8,7 @@ use cq_atom::Name;
 use cq_text::{Command, CommandKind, Form, SetupLine};
 use std::alloc::Allocator;
 
-/// The form in which the next line is read, where this one is settled, if any.
+/// Returns the form in which the next line is read, if this one is settled, or none.
 pub fn form_of(heading: Option<Form>) -> Form
     ensures { result ≡ form_of heading }
 {
@@ -38,7 +38,7 @@ fn named_form<A: Allocator>(line: &SetupLine<Name<A>>) -> Form
     }
 }
 
-/// The form that a command settles, where it is the first one, if any.
+/// Returns the form that the first command settles, if it settles one.
 fn settled<A: Allocator>(command: &Command<A>) -> Option<Form>
     ensures { result ≡ headed None (Reads command.now) }
 {

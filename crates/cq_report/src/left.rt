@@ -27,7 +27,7 @@ impl<A: Allocator + Copy> Model for Played<A> {
 }
 
 impl<A: Allocator + Copy> Played<A> {
-    /// This floor, after so many lines, of which these were refused.
+    /// Returns this floor after that many lines, of which these were refused.
     pub(crate) fn new(floor: BoardFloor<A>, lines: u128, tally: Tally) -> Played<A>
         ensures { result ≡ record { floor = floor; lines = lines; tally = tally } }
     {

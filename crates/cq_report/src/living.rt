@@ -17,13 +17,14 @@ use std::mem;
 
 /// Answers lines one at a time, as long as there are any.
 ///
-/// A line that [asks](cq_ask::read_ask) is answered of the board that is published, and changes nothing; after `quit` no line is answered, and nothing is read
-/// after the read that brought it. The others are those of a script, and are answered as [`run`](crate::run) answers them. Each is answered before the next read. A line at which an allocation fails is answered `refused Memory`. It changes nothing, and the lines after it are
-/// answered as if it had not been.
+/// A line that [asks](cq_ask::read_ask) is answered from the published board, and changes nothing. After `quit` no line is answered, and nothing is read
+/// after the read that brought it. Other lines are those of a script, with the replies of [`run`](crate::run). Each line is answered before the next read.
+/// A line at which an allocation fails is answered `refused Memory` and changes nothing. Lines of up to 64 bytes that say `count`, `quit`, or `publish` with nothing to
+/// publish need no memory.
 ///
 /// # Errors
-/// `Read` has the number, from 1, of the read that failed: all whole lines before it are answered. `Write` says that the writer
-/// failed. `NoMemory` says that there was no memory to begin with: nothing was read then.
+/// `Read` has the number, from 1, of the read that failed: all whole lines before it are answered. `Write` if the writer
+/// fails. `NoMemory` if the first two allocations fail: then nothing was read.
 pub fn live<A: Allocator + Copy, R: Source, W: Sink>(
     alloc: A,
     numbering: Numbering,
@@ -40,7 +41,7 @@ pub fn live<A: Allocator + Copy, R: Source, W: Sink>(
     // No byte was read after the read that brought `quit`.
     ensures quits { OnOk result (ReadNoFurther numbering (R.left reader.old) (R.left reader.new) (W.taken writer.old) (W.taken writer.new)) }
 
-    // And else those that the fault tells of.
+    // After a fault all whole lines were answered, or a front of the replies was written.
     ensures leaves { IfErr result (λ fault. Leaves numbering fault (R.left reader.old) (R.left reader.new) (W.taken writer.old) (W.taken writer.new)) }
 
     // Whose fault it was.

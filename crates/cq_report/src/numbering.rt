@@ -5,8 +5,8 @@
 pub enum Numbering {
     /// Not at all.
     Plain,
-    /// The number and `: ` stand before a reply that is not empty.
+    /// The number and `: ` are in front of a reply that is not empty.
     Numbered,
-    /// Number and reply are members of a JSON object, which stands in a line of its own.
+    /// Number and reply are members of a JSON object, in a line of its own.
     Json,
 }

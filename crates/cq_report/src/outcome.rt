@@ -26,7 +26,7 @@ pub enum Outcome {
     Entered(u64),
     /// So many entries are published.
     Published(u64),
-    /// The board is shown, which so many published entries leave.
+    /// The board is shown, after that many published entries.
     Shown(u64),
     /// A line that asks is answered.
     Answered(AskKind),
@@ -83,8 +83,8 @@ impl Outcome {
     }
 }
 
-/// The reply to a line before it is written: what comes of the line, and the page that goes with it, which is empty except for a look and an answer. The page is
-/// a text, or counts as they are told so.
+/// The reply to a line before it is written: the outcome of the line and a page, which is empty except for a look and an answer. The page is
+/// a text, or counts in words or as JSON.
 #[derive(Drop)]
 pub(crate) struct Turn<A: Allocator> {
     pub(crate) outcome: Outcome,
@@ -102,7 +102,7 @@ impl<A: Allocator> Model for Turn<A> {
 }
 
 impl<A: Allocator> Turn<A> {
-    /// A reply without a page. It does not allocate.
+    /// Returns a reply without a page. Does not allocate.
     pub(crate) fn plain(alloc: A, outcome: Outcome) -> Turn<A>
         ensures { result ≡ plain_turn outcome }
     {
@@ -113,7 +113,7 @@ impl<A: Allocator> Turn<A> {
         }
     }
 
-    /// A reply whose page is this text.
+    /// Returns a reply with this text as its page.
     pub(crate) fn of_text(outcome: Outcome, text: String<A>) -> Turn<A>
         ensures { result ≡ record { outcome = outcome; page = string_bytes text } }
     {
@@ -124,7 +124,7 @@ impl<A: Allocator> Turn<A> {
         }
     }
 
-    /// A reply that tells counts. It does not allocate.
+    /// Returns a reply with these counts. Does not allocate.
     pub(crate) fn of_counts(alloc: A, numbering: Numbering, counts: Counts) -> Turn<A>
         ensures { result ≡ record { outcome = Answered Count; page = counts_page numbering counts } }
     {

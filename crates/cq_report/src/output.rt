@@ -66,7 +66,7 @@ impl<'w, W: Sink, A: Allocator> Output<'w, W, A> {
         Ok(())
     }
 
-    /// Puts a number, where there is one.
+    /// Puts a number, if there is one.
     fn put_number(&mut self, number: Option<u128>) -> Result<(), Failed>
         requires { W.write_failures self.old.sink.now < 2 ^ 62 }
         ensures ok { OnOk result (Puts W.taken W.write_failures self.old self.new (number_bytes number)) }
@@ -79,7 +79,7 @@ impl<'w, W: Sink, A: Allocator> Output<'w, W, A> {
         }
     }
 
-    /// Puts words, a number, where there is one, and what ends them. That takes no memory.
+    /// Puts words, a number if there is one, and an end. Does not allocate.
     pub(crate) fn put_part(
         &mut self,
         words: &str,
@@ -106,7 +106,7 @@ impl<'w, W: Sink, A: Allocator> Output<'w, W, A> {
         self.put_part(line.before_number, wide(line.number), line.end)
     }
 
-    /// Puts a piece of the answer that tells counts.
+    /// Puts a piece of the answer to `count`.
     fn put_count(&mut self, part: &CountPart) -> Result<(), Failed>
         requires { W.write_failures self.old.sink.now < 2 ^ 62 }
         ensures ok { OnOk result (Puts W.taken W.write_failures self.old self.new (part_bytes part.now)) }
@@ -157,7 +157,7 @@ impl<'w, W: Sink, A: Allocator> Output<'w, W, A> {
         self.put_part(after_page(numbering, turn.outcome), None, tail)
     }
 
-    /// Puts the reply to a line before which so many came. That takes no memory.
+    /// Puts the reply to a line after that many others. Does not allocate.
     pub(crate) fn put_reply(
         &mut self,
         numbering: Numbering,

@@ -20,7 +20,7 @@ use cq_text::one_reading;
 use std::alloc::Allocator;
 use std::mem;
 
-/// What is left of a script that ended so: its floor, which opens where the setup lasts.
+/// Returns the floor after a run that ended so. It opens if the setup lasts.
 fn left_by<A: Allocator + Copy>(
     script: Script<A>,
     ended: Result<(), Stop>,
@@ -45,7 +45,7 @@ fn left_by<A: Allocator + Copy>(
 /// Where no line ends the setup, the board is the one that the setup opens.
 ///
 /// # Errors
-/// `Read` tells the number, from 1, of the read that failed, and 1,048,577 where no read failed and none came to the end;
+/// `Read` has the number, from 1, of the read that failed, or 1,048,577 if no read failed and none came to the end;
 /// `NoMemory` says that an allocation failed. No board is left with either.
 pub fn read_script<A: Allocator + Copy, R: Source>(
     alloc: A,

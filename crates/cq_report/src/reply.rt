@@ -35,7 +35,7 @@ impl Model for ReplyLine {
     ghost view = { λ l. reply_bytes l.front.now l.word.now l.before_part.now l.part.now l.before_number.now l.number l.end.now };
 }
 
-/// A part of a query in words, with what stands before it.
+/// Returns a part of a query in words, with the text before it.
 fn part_words(part: Option<&'static str>) -> (&'static str, &'static str)
     ensures { result.0.now ++ result.1.now ≡ part_words (option_map (λ part. part.now) part.entry) }
 {
@@ -45,7 +45,7 @@ fn part_words(part: Option<&'static str>) -> (&'static str, &'static str)
     }
 }
 
-/// A place in words, with what stands before it.
+/// Returns a place in words, with the text before it.
 fn place_words(place: Option<Place>) -> (&'static str, Option<u64>)
     ensures { result.0.now ++ number_bytes result.1 ≡ place_words place }
 {
@@ -56,7 +56,7 @@ fn place_words(place: Option<Place>) -> (&'static str, Option<u64>)
     }
 }
 
-/// A part of a query as a member, with what stands before it, which ends the word; the text of the member is ended after it.
+/// Returns a part of a query as a member, with the text before it, which ends the word; the text of the member is ended after it.
 fn part_member(part: Option<&'static str>) -> (&'static str, &'static str)
     ensures { result.0.now ++ (result.1.now ++ codes "\"") ≡ codes "\"" ++ part_member (option_map (λ part. part.now) part.entry) }
 {
@@ -66,7 +66,7 @@ fn part_member(part: Option<&'static str>) -> (&'static str, &'static str)
     }
 }
 
-/// A place as a member, with what stands before it, which ends a text.
+/// Returns a place as a member, with the text before it, which ends a text.
 fn place_member(place: Option<Place>) -> (&'static str, Option<u64>)
     ensures { result.0.now ++ number_bytes result.1 ≡ codes "\"" ++ place_member place }
 {
@@ -100,7 +100,7 @@ impl ReplyLine {
         }
     }
 
-    /// A refusal in words, with what stands before and after it.
+    /// Returns a refusal in words, with the texts before and after it.
     pub(crate) fn of_words(front: &'static str, refusal: Refusal, end: &'static str) -> ReplyLine
         ensures { result ≡ front.now ++ (refusal_words refusal ++ end.now) }
     {

@@ -26,7 +26,7 @@ fn first_end(bytes: &[u8]) -> Option<usize>
     memchr(b'\n', bytes)
 }
 
-/// The first line of the bytes without its LF, and what stands after that, where there is an LF.
+/// Returns the first line of the bytes without its LF, and the bytes after that, if there is an LF.
 pub fn first_line(bytes: &[u8]) -> Option<(&[u8], &[u8])>
     ensures cut { IfSome result (λ parts. bytes.now ≡ parts.0.now ++ (10 ∷ parts.1.now)) }
     ensures line { IfSome result (λ parts. HasNoEnd parts.0.now) }
@@ -54,20 +54,20 @@ fn run_of<A: Allocator + Copy>(
     }
 }
 
-/// Runs a script: reads it to its end, writes what its lines answer, and gives what they leave.
+/// Runs a script: reads it to its end, writes the replies to its lines, and returns the script after them.
 ///
-/// The bytes are cut into lines at LF. Each line has its reply before the next read; a last line
-/// without LF has its reply at the end, and then the writer is flushed once. Reads are of up to
-/// 4,096 bytes, and there are at most 1,048,576 of them. Where replies are numbered, the number of the line, from 1, and `: `
-/// stand before each reply that is not empty, once, also where it has several lines; blank lines and comments count. A strict script ends at the first
-/// line that is refused, once its reply is written: no line after it is heard, and nothing more is read.
+/// The bytes are cut into lines at LF. Each line is answered before the next read; a last line
+/// without LF is answered at the end, and then the writer is flushed once. Reads are of up to
+/// 4,096 bytes, and there are at most 1,048,576 of them. If replies are numbered, each reply that is not empty begins with the number of its line, from 1, and
+/// `: `, once even if it has several lines; blank lines and comments count. A strict script ends at the first
+/// line that is refused, once its reply is written: no later line is heard, and nothing more is read.
 ///
 /// # Errors
 ///
-/// `Read` tells the number, from 1, of the read that failed, and 1,048,577 where no read failed and
-/// none came to the end. `Write` says that the writer failed, and `NoMemory` that an allocation
-/// failed: all lines before the one that met it have their replies then, and it has no part of its own. Lines
-/// that a fault cut off have no reply.
+/// `Read` has the number, from 1, of the read that failed, or 1,048,577 if no read failed and
+/// none came to the end. `Write` if the writer fails. `NoMemory` if an allocation
+/// fails: then all lines before that one were answered, and nothing of that one. Lines
+/// that a fault cut off are not answered.
 pub fn run<A: Allocator + Copy, R: Source, W: Sink>(
     alloc: A,
     numbering: Numbering,

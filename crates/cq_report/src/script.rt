@@ -104,7 +104,7 @@ impl<A: Allocator + Copy> Script<A> {
         }
     }
 
-    // ---- what a line says
+    // ---- readings of lines
 
     /// Reads a line that does not ask.
     fn read_text(&self, line: &[u8]) -> Said<Ask<A>, Command<A>>
@@ -139,7 +139,7 @@ impl<A: Allocator + Copy> Script<A> {
         }
     }
 
-    // ---- what it does
+    // ---- effects of lines
 
     /// Counts a line whose outcome this is, and keeps it if it is the first that is refused.
     fn keep(&mut self, heading: Option<Form>, before: u64, outcome: Outcome)

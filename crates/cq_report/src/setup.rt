@@ -14,7 +14,7 @@ use cq_text::{Form, SetupLine};
 use std::alloc::{AllocError, Allocator};
 use std::marker::Model;
 
-/// What comes of a line that names the form, where this one was settled before it, if any.
+/// Returns the outcome of a line that names the form, if this one was settled before it, or none.
 fn board_named(heading: Option<Form>) -> Outcome
     ensures { result ≡ board_named heading }
 {
@@ -77,7 +77,7 @@ impl<A: Allocator + Clone> Setup<A> {
     /// An equal setup, on the same allocator.
     ///
     /// # Errors
-    /// `AllocError` where an allocation failed.
+    /// `AllocError` if an allocation fails.
     pub(crate) fn copy(&self) -> Result<Setup<A>, AllocError>
         ensures { IfOk result (λ setup. setup ≡ self.now) }
     {
@@ -87,10 +87,10 @@ impl<A: Allocator + Clone> Setup<A> {
         })
     }
 
-    /// Takes a line of the setup, where this form was settled before it, if any, and gives what comes of it.
+    /// Takes a line of the setup, and returns the outcome. This form was settled before it, or none.
     ///
     /// # Errors
-    /// `AllocError` where an allocation failed. The setup stays as it was then.
+    /// `AllocError` if an allocation fails. The setup stays as it was then.
     pub fn set_up(
         &mut self,
         heading: Option<Form>,
