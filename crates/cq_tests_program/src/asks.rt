@@ -1,7 +1,5 @@
 //! Lines that ask: each kind answered once, and with each allocation refused in turn.
 
-ghost use Rattle.std.specs.Prelude.{◌≡◌, IfSome};
-
 use cq_ask::{ending, read_ask, tell, tell_data};
 use cq_board::{Board, Limits};
 use cq_desk::{Event, Floor};
@@ -111,8 +109,7 @@ const ASKED: &[Asked] = &[
 ];
 
 /// A floor at which nothing has happened, where there was memory for that.
-fn begun<A: Allocator + Copy>(alloc: A) -> Option<BoardFloor<A>>
-{
+fn begun<A: Allocator + Copy>(alloc: A) -> Option<BoardFloor<A>> {
     let Ok(board) = Board::begin(alloc, Catalog::empty(alloc), LIMITS) else {
         return None;
     };
@@ -123,8 +120,7 @@ fn begun<A: Allocator + Copy>(alloc: A) -> Option<BoardFloor<A>>
 }
 
 /// Posts the query and publishes it, where there is memory for that.
-fn post<A: Allocator + Copy>(alloc: A, floor: &mut BoardFloor<A>) -> Option<()>
-{
+fn post<A: Allocator + Copy>(alloc: A, floor: &mut BoardFloor<A>) -> Option<()> {
     let Ok(CommandKind::Edit(edit)) = read_command(alloc, POST, Form::One) else {
         return None;
     };
@@ -138,8 +134,7 @@ fn post<A: Allocator + Copy>(alloc: A, floor: &mut BoardFloor<A>) -> Option<()>
 }
 
 /// The query is posted and published, where there was memory for that.
-fn floor_of<A: Allocator + Copy>(alloc: A) -> Option<BoardFloor<A>>
-{
+fn floor_of<A: Allocator + Copy>(alloc: A) -> Option<BoardFloor<A>> {
     let mut floor = begun(alloc)?;
     post(alloc, &mut floor)?;
     Some(floor)
@@ -150,8 +145,7 @@ fn is_answered<A: Allocator + Copy>(
     alloc: A,
     floor: &BoardFloor<A>,
     asked: &Asked,
-) -> Result<bool, AllocError>
-{
+) -> Result<bool, AllocError> {
     let Some(ask) = read_ask(alloc, asked.line)? else {
         return Ok(false);
     };
@@ -164,8 +158,7 @@ fn is_answered<A: Allocator + Copy>(
     )
 }
 
-fn answered<A: Allocator + Copy>(alloc: A, floor: &BoardFloor<A>, asked: &Asked) -> Outcome
-{
+fn answered<A: Allocator + Copy>(alloc: A, floor: &BoardFloor<A>, asked: &Asked) -> Outcome {
     match is_answered(alloc, floor, asked) {
         Ok(right) => Outcome::done_if(right),
         Err(_) => Outcome::refused_if(is_answered(alloc, floor, asked) == Ok(true)),

@@ -1,36 +1,37 @@
 //! Lines that are answered on and on while an allocation fails.
 
-use crate::devices::OneLine;
+use crate::devices::Pieces;
 use cq_devices::Counted;
 use cq_refusing::{ENOUGH, Refusing};
 use cq_report::{Numbering, live};
 use std::alloc::{Allocator, Global};
 use std::io::{self, ErrorKind, Write};
 
-const LINES: &[u8] = b"relation T 1\ninsert T(1)\npost a {} R(x) <- T(x)\npublish\nshow\n";
+const LINES: &[u8] =
+    b"relation T 1\ninsert T(1)\npost a {} R(x) <- T(x)\npublish\nshow\ncount\nquit\n";
 
 /// How many texts of answers there are.
 const TEXTS: usize = 5;
 
-/// The answers where no allocation fails, and where one does at the first line, the second, the third and the last. A publish takes
+/// The answers if no allocation fails, and if one does at the first line, the second, the third and the look. `publish`, `count` and `quit` take
 /// no memory.
 const ANSWERS: [&[u8]; TEXTS] = [
     b"ok\nok 1\nok 2\npublished 2\nshow 2\nrelation T 1 rows 1\nquery a matched
-  text {} R(x) <- T(x)\n  groundings 1 (x)\n    (1)\nend\n",
-    b"refused Memory\nrefused UnknownRelation 0\nrefused UnknownRelation 0\npublished 0\nshow 0\nend\n",
+  text {} R(x) <- T(x)\n  groundings 1 (x)\n    (1)\nend\nqueries 1 matched 1 waiting 0 rows 1 entries 2 unpublished 0\n",
+    b"refused Memory\nrefused UnknownRelation 0\nrefused UnknownRelation 0\npublished 0\nshow 0\nend\nqueries 0 matched 0 waiting 0 rows 0 entries 0 unpublished 0\n",
     b"ok\nrefused Memory\nok 1\npublished 1\nshow 1\nrelation T 1 rows 0\nquery a waiting
-  text {} R(x) <- T(x)\n  groundings 0 (x)\nend\n",
-    b"ok\nok 1\nrefused Memory\npublished 1\nshow 1\nrelation T 1 rows 1\nend\n",
-    b"ok\nok 1\nok 2\npublished 2\nrefused Memory\n",
+  text {} R(x) <- T(x)\n  groundings 0 (x)\nend\nqueries 1 matched 0 waiting 1 rows 0 entries 1 unpublished 0\n",
+    b"ok\nok 1\nrefused Memory\npublished 1\nshow 1\nrelation T 1 rows 1\nend\nqueries 0 matched 0 waiting 0 rows 1 entries 1 unpublished 0\n",
+    b"ok\nok 1\nok 2\npublished 2\nrefused Memory\nqueries 1 matched 1 waiting 0 rows 1 entries 2 unpublished 0\n",
 ];
 
 /// The same as JSON objects.
 const OBJECTS: [&[u8]; TEXTS] = [
-    b"{\"line\":1,\"ok\":true}\n{\"line\":2,\"ok\":1}\n{\"line\":3,\"ok\":2}\n{\"line\":4,\"published\":2}\n{\"line\":5,\"board\":{\"entries\":2,\"relations\":[{\"name\":\"T\",\"arity\":1,\"rows\":1}],\"queries\":[{\"name\":\"a\",\"state\":\"matched\",\"text\":\"{} R(x) <- T(x)\",\"heads\":[{\"relation\":\"R\",\"terms\":[{\"variable\":\"x\"}]}],\"postconditions\":[],\"body\":[{\"relation\":\"T\",\"terms\":[{\"variable\":\"x\"}]}],\"variables\":[\"x\"],\"groundings\":[[1]]}]}}\n",
-    b"{\"line\":1,\"refused\":\"Memory\"}\n{\"line\":2,\"refused\":\"UnknownRelation\",\"place\":0}\n{\"line\":3,\"refused\":\"UnknownRelation\",\"place\":0}\n{\"line\":4,\"published\":0}\n{\"line\":5,\"board\":{\"entries\":0,\"relations\":[],\"queries\":[]}}\n",
-    b"{\"line\":1,\"ok\":true}\n{\"line\":2,\"refused\":\"Memory\"}\n{\"line\":3,\"ok\":1}\n{\"line\":4,\"published\":1}\n{\"line\":5,\"board\":{\"entries\":1,\"relations\":[{\"name\":\"T\",\"arity\":1,\"rows\":0}],\"queries\":[{\"name\":\"a\",\"state\":\"waiting\",\"text\":\"{} R(x) <- T(x)\",\"heads\":[{\"relation\":\"R\",\"terms\":[{\"variable\":\"x\"}]}],\"postconditions\":[],\"body\":[{\"relation\":\"T\",\"terms\":[{\"variable\":\"x\"}]}],\"variables\":[\"x\"],\"groundings\":[]}]}}\n",
-    b"{\"line\":1,\"ok\":true}\n{\"line\":2,\"ok\":1}\n{\"line\":3,\"refused\":\"Memory\"}\n{\"line\":4,\"published\":1}\n{\"line\":5,\"board\":{\"entries\":1,\"relations\":[{\"name\":\"T\",\"arity\":1,\"rows\":1}],\"queries\":[]}}\n",
-    b"{\"line\":1,\"ok\":true}\n{\"line\":2,\"ok\":1}\n{\"line\":3,\"ok\":2}\n{\"line\":4,\"published\":2}\n{\"line\":5,\"refused\":\"Memory\"}\n",
+    b"{\"line\":1,\"ok\":true}\n{\"line\":2,\"ok\":1}\n{\"line\":3,\"ok\":2}\n{\"line\":4,\"published\":2}\n{\"line\":5,\"board\":{\"entries\":2,\"relations\":[{\"name\":\"T\",\"arity\":1,\"rows\":1}],\"queries\":[{\"name\":\"a\",\"state\":\"matched\",\"text\":\"{} R(x) <- T(x)\",\"heads\":[{\"relation\":\"R\",\"terms\":[{\"variable\":\"x\"}]}],\"postconditions\":[],\"body\":[{\"relation\":\"T\",\"terms\":[{\"variable\":\"x\"}]}],\"variables\":[\"x\"],\"groundings\":[[1]]}]}}\n{\"line\":6,\"count\":{\"queries\":1,\"matched\":1,\"waiting\":0,\"rows\":1,\"entries\":2,\"unpublished\":0}}\n{\"line\":7,\"quit\":true}\n",
+    b"{\"line\":1,\"refused\":\"Memory\"}\n{\"line\":2,\"refused\":\"UnknownRelation\",\"place\":0}\n{\"line\":3,\"refused\":\"UnknownRelation\",\"place\":0}\n{\"line\":4,\"published\":0}\n{\"line\":5,\"board\":{\"entries\":0,\"relations\":[],\"queries\":[]}}\n{\"line\":6,\"count\":{\"queries\":0,\"matched\":0,\"waiting\":0,\"rows\":0,\"entries\":0,\"unpublished\":0}}\n{\"line\":7,\"quit\":true}\n",
+    b"{\"line\":1,\"ok\":true}\n{\"line\":2,\"refused\":\"Memory\"}\n{\"line\":3,\"ok\":1}\n{\"line\":4,\"published\":1}\n{\"line\":5,\"board\":{\"entries\":1,\"relations\":[{\"name\":\"T\",\"arity\":1,\"rows\":0}],\"queries\":[{\"name\":\"a\",\"state\":\"waiting\",\"text\":\"{} R(x) <- T(x)\",\"heads\":[{\"relation\":\"R\",\"terms\":[{\"variable\":\"x\"}]}],\"postconditions\":[],\"body\":[{\"relation\":\"T\",\"terms\":[{\"variable\":\"x\"}]}],\"variables\":[\"x\"],\"groundings\":[]}]}}\n{\"line\":6,\"count\":{\"queries\":1,\"matched\":0,\"waiting\":1,\"rows\":0,\"entries\":1,\"unpublished\":0}}\n{\"line\":7,\"quit\":true}\n",
+    b"{\"line\":1,\"ok\":true}\n{\"line\":2,\"ok\":1}\n{\"line\":3,\"refused\":\"Memory\"}\n{\"line\":4,\"published\":1}\n{\"line\":5,\"board\":{\"entries\":1,\"relations\":[{\"name\":\"T\",\"arity\":1,\"rows\":1}],\"queries\":[]}}\n{\"line\":6,\"count\":{\"queries\":0,\"matched\":0,\"waiting\":0,\"rows\":1,\"entries\":1,\"unpublished\":0}}\n{\"line\":7,\"quit\":true}\n",
+    b"{\"line\":1,\"ok\":true}\n{\"line\":2,\"ok\":1}\n{\"line\":3,\"ok\":2}\n{\"line\":4,\"published\":2}\n{\"line\":5,\"refused\":\"Memory\"}\n{\"line\":6,\"count\":{\"queries\":1,\"matched\":1,\"waiting\":0,\"rows\":1,\"entries\":2,\"unpublished\":0}}\n{\"line\":7,\"quit\":true}\n",
 ];
 
 /// Takes the bytes of any of the texts, and fails at others. It takes no memory.
@@ -80,13 +81,14 @@ impl Write for AnyOf {
     }
 }
 
-/// Which of the texts the lines are answered with; none where there was no memory to begin with, or they are answered otherwise.
+/// Which of the texts the lines are answered with, read in pieces of so many bytes; none if there was no memory to begin with, or they are answered otherwise.
 fn answered<A: Allocator + Copy>(
     alloc: A,
     numbering: Numbering,
+    most: usize,
     texts: [&'static [u8]; TEXTS],
 ) -> Option<usize> {
-    let mut reader = Counted::new(OneLine(LINES));
+    let mut reader = Counted::new(Pieces { rest: LINES, most });
     let mut writer = Counted::new(AnyOf::new(texts));
     match live(alloc, numbering, &mut reader, &mut writer) {
         Ok(()) => writer.into_inner().whole(),
@@ -94,16 +96,17 @@ fn answered<A: Allocator + Copy>(
     }
 }
 
-/// Which of the texts are met while each allocation is refused in turn, but for the first one, without which nothing begins.
+/// Which of the texts are met while each allocation is refused in turn, but for the first two, without which nothing begins.
 fn met(
     alloc: Global,
     numbering: Numbering,
+    most: usize,
     texts: [&'static [u8]; TEXTS],
 ) -> Option<[bool; TEXTS]> {
     let mut met = [false; TEXTS];
-    for left in 1..ENOUGH {
+    for left in 2..ENOUGH {
         let heap = Refusing::new(alloc, left);
-        let text = answered(&heap, numbering, texts)?;
+        let text = answered(&heap, numbering, most, texts)?;
         if text < TEXTS {
             met[text] = true;
         }
@@ -114,10 +117,16 @@ fn met(
     None
 }
 
-// A failed allocation is answered, and changes nothing: the lines after it are answered as if its line had not been.
+// A failed allocation is answered, and changes nothing: the lines after it are answered as if its line had not been. It is the same however the
+// lines are cut by reads.
 #[test]
 fn failed_allocation_in_live(rt: HostRuntime) {
-    assert!(rt; met(rt.alloc(), Numbering::Plain, ANSWERS) == Some([true; TEXTS]));
-    assert!(rt; met(rt.alloc(), Numbering::Json, OBJECTS) == Some([true; TEXTS]));
-    assert!(rt; answered(&Refusing::new(rt.alloc(), 0), Numbering::Json, OBJECTS).is_none());
+    let heap = rt.alloc();
+    for most in [1, 7, LINES.len()] {
+        assert!(rt; met(heap, Numbering::Plain, most, ANSWERS) == Some([true; TEXTS]));
+        assert!(rt; met(heap, Numbering::Json, most, OBJECTS) == Some([true; TEXTS]));
+    }
+    for left in 0..2 {
+        assert!(rt; answered(&Refusing::new(heap, left), Numbering::Json, 7, OBJECTS).is_none());
+    }
 }
