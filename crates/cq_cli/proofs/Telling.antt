@@ -4,7 +4,7 @@ use Rattle.std.proofs.lemmas.Bool.Decides.{nat_tests}
 use Rattle.std.specs.Prelude.{◌⊎◌, Result, Ok, Err, IfOk, IfErr, IfSome}
 use Rattle.std.proofs.lemmas.Option.{IfSome_then}
 use Rattle.cq_board.specs.Choice.{ChoiceRecord}
-use Rattle.cq_report.specs.Live.{ReadsFailed}
+use Rattle.cq_report.specs.Live.{ReadsFailed, max_live_reads}
 use Rattle.cq_devices.specs.declared.stop.Stop.{Stop}
 use Rattle.cq_devices.specs.declared.stop.Stop.TheVariants as stops
 use Rattle.cq_devices.specs.Device.{FailedAtTurn, IfAtTurn, IsAtTurn, write_failures_of}
@@ -102,7 +102,7 @@ not_refused source source' sink sink' status other = record {
 }
 
 -- the status after a fault of lines that were answered on and on reports it
-pub live_reported : (before after : DeviceCounts) (fault : Stop) → ReadsFailed fault before.reads after.reads before.read_failures after.read_failures → after.write_failures ≡ before.write_failures + write_failures_of fault
+pub live_reported : (before after : DeviceCounts) (fault : Stop) → ReadsFailed max_live_reads fault before.reads after.reads before.read_failures after.read_failures → after.write_failures ≡ before.write_failures + write_failures_of fault
     → ReportsFailures before after (status_of_run fault)
 live_reported before after (stops.Read n) (inl failed) writes = record { read = λ _. refl; write = λ _. refl; failed = λ _. inr (inl (n, inl failed)) }
 live_reported before after (stops.Read n) (inr endless) writes = record { read = λ _. refl; write = λ _. refl; failed = λ _. inr (inr endless.1) }
