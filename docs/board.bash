@@ -6,7 +6,7 @@ _board_words() {
     case $1 in
     '') options='-h --help -V --version' takes='commands' ;;
     replay) options='--number --strict --summary --why --progress --memory -h --help' valued='--memory' takes='files' ;;
-    live) options='--json --memory -h --help' valued='--memory' takes='files' ;;
+    live) options='--json --checkpoint --memory -h --help' valued='--checkpoint --memory' takes='files' ;;
     rows) options='--header --delimiter --memory -h --help' valued='--delimiter --memory' takes='files' ;;
     sessions) options='--memory -h --help' valued='--memory' takes='files' ;;
     explain) options='--tree --roots --file --progress --memory -h --help' valued='--file --memory' filed='--file' ;;

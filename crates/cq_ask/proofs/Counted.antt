@@ -71,40 +71,46 @@ field words n ts rest is = ap (λ (z : List ℕ). words ++ z) (value_then n ts �
 piece : (p w t rest rest' : List ℕ) → p ≡ w ++ t → rest ≡ rest' → p ++ rest ≡ w ++ (t ++ rest')
 piece p w t rest rest' is then = (λ i. is i ++ then i) ∙ append_assoc w t rest'
 
--- six such pieces, and words at the end
-module _ (t : ℕ → List ℕ) (counts : Counts) (a b c d e f g : List ℕ) (p q r s u v w : List ℕ) where
-  pieces : p ≡ a ++ t counts.queries → q ≡ b ++ t counts.matched → r ≡ c ++ t counts.waiting → s ≡ d ++ t counts.rows → u ≡ e ++ t counts.entries → v ≡ f ++ t counts.unpublished → w ≡ g
-      → p ++ (q ++ (r ++ (s ++ (u ++ (v ++ (w ++ []))))))
-      ≡ a ++ (t counts.queries ++ (b ++ (t counts.matched ++ (c ++ (t counts.waiting ++ (d ++ (t counts.rows ++ (e ++ (t counts.entries ++ (f ++ (t counts.unpublished ++ g)))))))))))
-  pieces one two three four five six last =
-      piece p a (t counts.queries) _ _ one (piece q b (t counts.matched) _ _ two (piece r c (t counts.waiting) _ _ three (piece s d (t counts.rows) _ _ four (piece u e (t counts.entries) _ _ five (piece v f (t counts.unpublished) _ _ six (append-nil w ∙ last))))))
+-- ten such pieces, and words at the end
+module _ (t : ℕ → List ℕ) (counts : Counts) (a b c d e f g h i j z : List ℕ) (p1 p2 p3 p4 p5 p6 p7 p8 p9 p10 w : List ℕ) where
+  pieces : p1 ≡ a ++ t counts.queries → p2 ≡ b ++ t counts.matched → p3 ≡ c ++ t counts.waiting → p4 ≡ d ++ t counts.rows → p5 ≡ e ++ t counts.entries → p6 ≡ f ++ t counts.unpublished → p7 ≡ g ++ t counts.since → p8 ≡ h ++ t counts.relations → p9 ≡ i ++ t counts.pool → p10 ≡ j ++ t counts.journal → w ≡ z
+      → p1 ++ (p2 ++ (p3 ++ (p4 ++ (p5 ++ (p6 ++ (p7 ++ (p8 ++ (p9 ++ (p10 ++ (w ++ []))))))))))
+      ≡ a ++ (t counts.queries ++ (b ++ (t counts.matched ++ (c ++ (t counts.waiting ++ (d ++ (t counts.rows ++ (e ++ (t counts.entries ++ (f ++ (t counts.unpublished ++ (g ++ (t counts.since ++ (h ++ (t counts.relations ++ (i ++ (t counts.pool ++ (j ++ (t counts.journal ++ (z))))))))))))))))))))
+  pieces one two three four five six seven eight nine ten last =
+      piece p1 a (t counts.queries) _ _ one (piece p2 b (t counts.matched) _ _ two (piece p3 c (t counts.waiting) _ _ three (piece p4 d (t counts.rows) _ _ four (piece p5 e (t counts.entries) _ _ five (piece p6 f (t counts.unpublished) _ _ six (piece p7 g (t counts.since) _ _ seven (piece p8 h (t counts.relations) _ _ eight (piece p9 i (t counts.pool) _ _ nine (piece p10 j (t counts.journal) _ _ ten (append-nil w ∙ last))))))))))
 
-regroup : (a b c d e f g h i j k l m : List ℕ) → a ++ (b ++ (c ++ (d ++ (e ++ (f ++ (g ++ (h ++ (i ++ (j ++ (k ++ (l ++ m))))))))))) ≡ (a ++ b ++ c ++ d ++ e ++ f ++ g ++ h ++ i ++ j ++ k ++ l) ++ m
-regroup a b c d e f g h i j k l m = simp append_assoc
+regroup : (x0 x1 x2 x3 x4 x5 x6 x7 x8 x9 x10 x11 x12 x13 x14 x15 x16 x17 x18 x19 x20 : List ℕ) → x0 ++ (x1 ++ (x2 ++ (x3 ++ (x4 ++ (x5 ++ (x6 ++ (x7 ++ (x8 ++ (x9 ++ (x10 ++ (x11 ++ (x12 ++ (x13 ++ (x14 ++ (x15 ++ (x16 ++ (x17 ++ (x18 ++ (x19 ++ (x20)))))))))))))))))))) ≡ (x0 ++ x1 ++ x2 ++ x3 ++ x4 ++ x5 ++ x6 ++ x7 ++ x8 ++ x9 ++ x10 ++ x11 ++ x12 ++ x13 ++ x14 ++ x15 ++ x16 ++ x17 ++ x18 ++ x19) ++ x20
+regroup x0 x1 x2 x3 x4 x5 x6 x7 x8 x9 x10 x11 x12 x13 x14 x15 x16 x17 x18 x19 x20 = simp append_assoc
 
-module _ (counts : Counts) (p q r s u v w : List ℕ) where
-  pub line_pieces : p ≡ codes "queries " ++ decimal counts.queries → q ≡ codes " matched " ++ decimal counts.matched → r ≡ codes " waiting " ++ decimal counts.waiting → s ≡ codes " rows " ++ decimal counts.rows
-      → u ≡ codes " entries " ++ decimal counts.entries → v ≡ codes " unpublished " ++ decimal counts.unpublished → w ≡ codes "\n"
-      → p ++ (q ++ (r ++ (s ++ (u ++ (v ++ (w ++ [])))))) ≡ count_line counts
-  line_pieces one two three four five six last =
-      pieces decimal counts (codes "queries ") (codes " matched ") (codes " waiting ") (codes " rows ") (codes " entries ") (codes " unpublished ") (codes "\n") p q r s u v w one two three four five six last
-      ∙ regroup (codes "queries ") (decimal counts.queries) (codes " matched ") (decimal counts.matched) (codes " waiting ") (decimal counts.waiting) (codes " rows ") (decimal counts.rows) (codes " entries ") (decimal counts.entries) (codes " unpublished ") (decimal counts.unpublished) (codes "\n")
+module _ (counts : Counts) (p1 p2 p3 p4 p5 p6 p7 p8 p9 p10 w : List ℕ) where
+  pub line_pieces : p1 ≡ codes "queries " ++ decimal counts.queries → p2 ≡ codes " matched " ++ decimal counts.matched → p3 ≡ codes " waiting " ++ decimal counts.waiting → p4 ≡ codes " rows " ++ decimal counts.rows → p5 ≡ codes " entries " ++ decimal counts.entries → p6 ≡ codes " unpublished " ++ decimal counts.unpublished → p7 ≡ codes " since " ++ decimal counts.since → p8 ≡ codes " relations " ++ decimal counts.relations → p9 ≡ codes " limits " ++ decimal counts.pool → p10 ≡ codes " " ++ decimal counts.journal → w ≡ codes "\n"
+      → p1 ++ (p2 ++ (p3 ++ (p4 ++ (p5 ++ (p6 ++ (p7 ++ (p8 ++ (p9 ++ (p10 ++ (w ++ [])))))))))) ≡ count_line counts
+  line_pieces one two three four five six seven eight nine ten last =
+      pieces decimal counts (codes "queries ") (codes " matched ") (codes " waiting ") (codes " rows ") (codes " entries ") (codes " unpublished ") (codes " since ") (codes " relations ") (codes " limits ") (codes " ") (codes "\n") p1 p2 p3 p4 p5 p6 p7 p8 p9 p10 w one two three four five six seven eight nine ten last
+      ∙ regroup (codes "queries ") (decimal counts.queries) (codes " matched ") (decimal counts.matched) (codes " waiting ") (decimal counts.waiting) (codes " rows ") (decimal counts.rows) (codes " entries ") (decimal counts.entries) (codes " unpublished ") (decimal counts.unpublished) (codes " since ") (decimal counts.since) (codes " relations ") (decimal counts.relations) (codes " limits ") (decimal counts.pool) (codes " ") (decimal counts.journal) (codes "\n")
 
-  pub member_pieces : p ≡ codes ",\"count\":{\"queries\":" ++ value_text counts.queries → q ≡ codes ",\"matched\":" ++ value_text counts.matched → r ≡ codes ",\"waiting\":" ++ value_text counts.waiting → s ≡ codes ",\"rows\":" ++ value_text counts.rows
-      → u ≡ codes ",\"entries\":" ++ value_text counts.entries → v ≡ codes ",\"unpublished\":" ++ value_text counts.unpublished → w ≡ codes "}"
-      → p ++ (q ++ (r ++ (s ++ (u ++ (v ++ (w ++ [])))))) ≡ member_text (codes "count", count_json counts)
+  pub member_pieces : p1 ≡ codes ",\"count\":{\"queries\":" ++ value_text counts.queries → p2 ≡ codes ",\"matched\":" ++ value_text counts.matched → p3 ≡ codes ",\"waiting\":" ++ value_text counts.waiting → p4 ≡ codes ",\"rows\":" ++ value_text counts.rows → p5 ≡ codes ",\"entries\":" ++ value_text counts.entries → p6 ≡ codes ",\"unpublished\":" ++ value_text counts.unpublished → p7 ≡ codes ",\"since\":" ++ value_text counts.since → p8 ≡ codes ",\"relations\":" ++ value_text counts.relations → p9 ≡ codes ",\"pool_limit\":" ++ value_text counts.pool → p10 ≡ codes ",\"journal_limit\":" ++ value_text counts.journal → w ≡ codes "}"
+      → p1 ++ (p2 ++ (p3 ++ (p4 ++ (p5 ++ (p6 ++ (p7 ++ (p8 ++ (p9 ++ (p10 ++ (w ++ [])))))))))) ≡ member_text (codes "count", count_json counts)
   unfolding print_from escape_byte
-  member_pieces one two three four five six last =
-      let six_on : List Token = end_object ∷ [] in
-      let five_on : List Token = key (codes "unpublished") ∷ (json_tokens (total counts.unpublished) ++ six_on) in
-      let four_on : List Token = key (codes "entries") ∷ (json_tokens (total counts.entries) ++ five_on) in
-      let three_on : List Token = key (codes "rows") ∷ (json_tokens (total counts.rows) ++ four_on) in
-      let two_on : List Token = key (codes "waiting") ∷ (json_tokens (total counts.waiting) ++ three_on) in
-      let one_on : List Token = key (codes "matched") ∷ (json_tokens (total counts.matched) ++ two_on) in
-      pieces value_text counts (codes ",\"count\":{\"queries\":") (codes ",\"matched\":") (codes ",\"waiting\":") (codes ",\"rows\":") (codes ",\"entries\":") (codes ",\"unpublished\":") (codes "}") p q r s u v w one two three four five six last
-      ∙ sym (field (codes ",\"count\":{\"queries\":") counts.queries one_on _
-      (field (codes ",\"matched\":") counts.matched two_on _
-      (field (codes ",\"waiting\":") counts.waiting three_on _
-      (field (codes ",\"rows\":") counts.rows four_on _
-      (field (codes ",\"entries\":") counts.entries five_on _
-      (field (codes ",\"unpublished\":") counts.unpublished six_on (codes "}") refl))))))
+  member_pieces one two three four five six seven eight nine ten last =
+      let on10 : List Token = end_object ∷ [] in
+      let on9 : List Token = key (codes "journal_limit") ∷ (json_tokens (total counts.journal) ++ on10) in
+      let on8 : List Token = key (codes "pool_limit") ∷ (json_tokens (total counts.pool) ++ on9) in
+      let on7 : List Token = key (codes "relations") ∷ (json_tokens (total counts.relations) ++ on8) in
+      let on6 : List Token = key (codes "since") ∷ (json_tokens (total counts.since) ++ on7) in
+      let on5 : List Token = key (codes "unpublished") ∷ (json_tokens (total counts.unpublished) ++ on6) in
+      let on4 : List Token = key (codes "entries") ∷ (json_tokens (total counts.entries) ++ on5) in
+      let on3 : List Token = key (codes "rows") ∷ (json_tokens (total counts.rows) ++ on4) in
+      let on2 : List Token = key (codes "waiting") ∷ (json_tokens (total counts.waiting) ++ on3) in
+      let on1 : List Token = key (codes "matched") ∷ (json_tokens (total counts.matched) ++ on2) in
+      pieces value_text counts (codes ",\"count\":{\"queries\":") (codes ",\"matched\":") (codes ",\"waiting\":") (codes ",\"rows\":") (codes ",\"entries\":") (codes ",\"unpublished\":") (codes ",\"since\":") (codes ",\"relations\":") (codes ",\"pool_limit\":") (codes ",\"journal_limit\":") (codes "}") p1 p2 p3 p4 p5 p6 p7 p8 p9 p10 w one two three four five six seven eight nine ten last
+      ∙ sym (field (codes ",\"count\":{\"queries\":") counts.queries on1 _
+      (field (codes ",\"matched\":") counts.matched on2 _
+      (field (codes ",\"waiting\":") counts.waiting on3 _
+      (field (codes ",\"rows\":") counts.rows on4 _
+      (field (codes ",\"entries\":") counts.entries on5 _
+      (field (codes ",\"unpublished\":") counts.unpublished on6 _
+      (field (codes ",\"since\":") counts.since on7 _
+      (field (codes ",\"relations\":") counts.relations on8 _
+      (field (codes ",\"pool_limit\":") counts.pool on9 _
+      (field (codes ",\"journal_limit\":") counts.journal on10 (codes "}") refl))))))))))

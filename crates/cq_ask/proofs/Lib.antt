@@ -1,7 +1,6 @@
 pub mod Names
 pub mod Unasked
 pub mod Counted
-pub mod Replays
 pub mod Splitting
 pub mod Chosen
 pub mod Words

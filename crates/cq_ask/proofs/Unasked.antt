@@ -4,7 +4,7 @@ use Rattle.std.specs.Prelude.{◌&&◌}
 use Rattle.std.specs.List.{list_all}
 use Rattle.cq_atom.specs.Text.{is_name}
 use Rattle.cq_ask.specs.declared.ask.AskKind.{AskKind}
-use Rattle.cq_ask.specs.declared.ask.AskKind.TheVariants.{Count, Status, Query, Explain, Near, Choice, Choose, Groups, Changes, Graph, Json, Help, Quit, Unfit}
+use Rattle.cq_ask.specs.declared.ask.AskKind.TheVariants.{Count, Status, Query, Explain, Near, Choice, Choose, Groups, Changes, Graph, Json, Checkpoint, Help, Quit, Unfit}
 use Rattle.cq_ask.specs.Ask.{takes, takes_no_names, words_of, post_of, asked_of_names, near_asked, asked_of_post, asked_of}
 
 pub by_bool : (b : Bool) (P : Type 0) → (b ≡ true → P) → (b ≡ false → P) → P
@@ -40,6 +40,7 @@ names_stay Groups text off = stay Groups (words_of text) off
 names_stay Changes text off = stay Changes (words_of text) off
 names_stay Graph text off = stay Graph (words_of text) off
 names_stay Json text off = stay Json (words_of text) off
+names_stay Checkpoint text off = stay Checkpoint (words_of text) off
 names_stay Help text off = stay Help (words_of text) off
 names_stay Quit text off = stay Quit (words_of text) off
 names_stay Unfit text off = stay Unfit (words_of text) off

@@ -8,8 +8,7 @@ use Rattle.cq_rel.specs.Tables.{TablesRecord, rows_in}
 use Rattle.cq_board.specs.Pool.{PoolRecord, name_of}
 use Rattle.cq_board.specs.Edits.{pool_after}
 use Rattle.cq_board.specs.Named.{matched_named, matched_names}
-use Rattle.cq_desk.specs.Machine.{published_content}
-use Rattle.cq_desk.specs.Standing.{StandingRecord}
+use Rattle.cq_desk.specs.Machine.{MachineRecord, published_content, published_count}
 use Rattle.cq_render.specs.Report.{line, block_of}
 use Rattle.cq_render.specs.Data.{standing_word}
 use Rattle.cq_render.specs.declared.extent.Extent.TheVariants.{All}
@@ -20,7 +19,7 @@ use Rattle.cq_going.specs.declared.telling.Outcome.{Outcome}
 use Rattle.cq_going.specs.Going.{IsSoughtTold}
 use Rattle.cq_going.specs.Grouping.{AreGroupsTold}
 use Rattle.cq_ask.specs.declared.ask.AskKind.{AskKind}
-use Rattle.cq_ask.specs.declared.ask.AskKind.TheVariants.{Count, Status, Query, Explain, Near, Choice, Choose, Groups, Changes, Graph, Json, Help, Quit, Unfit}
+use Rattle.cq_ask.specs.declared.ask.AskKind.TheVariants.{Count, Status, Query, Explain, Near, Choice, Choose, Groups, Changes, Graph, Json, Checkpoint, Help, Quit, Unfit}
 use Rattle.cq_ask.specs.declared.counts.Counts.{Counts}
 use Rattle.cq_ask.specs.declared.counts.CountPart.{CountPart}
 use Rattle.cq_ask.specs.Ask.{AskRecord}
@@ -28,11 +27,11 @@ use Rattle.cq_ask.specs.Choices.{AreCoordinating, AreNotCoordinating, StandForNo
 
 -- A floor over a pool.
 abbrev pub FloorRecord : Type 0
-FloorRecord = StandingRecord PoolRecord Edit
+FloorRecord = MachineRecord PoolRecord Edit
 
 -- The pool that is published: of it all answers are.
 abbrev pub published_pool : FloorRecord → PoolRecord
-published_pool floor = published_content pool_after floor.opening floor.machine
+published_pool floor = published_content pool_after floor
 
 -- The last line of an answer of several lines.
 abbrev pub end_line : List ℕ
@@ -44,7 +43,8 @@ end_line = line (codes "end")
 abbrev pub row_count : TablesRecord → ℕ
 row_count tables = fold (λ count declared. count + length (rows_in declared.relation tables)) 0 tables.catalog
 
--- The queries, those that are matched, the others, and the rows of the published pool; the entries that are published, and those that are not yet.
+-- The queries, those that are matched, the others, and the rows of the published pool; the entries that are published, those that are not yet, and those
+-- since the last checkpoint; the relations; and the limits of the pool and of the journal.
 abbrev pub counts_of : FloorRecord → Counts
 counts_of floor =
     let pool = published_pool floor in
@@ -53,15 +53,20 @@ counts_of floor =
       matched = length (matched_names pool);
       waiting = length pool.pending - length (matched_names pool);
       rows = row_count pool.tables;
-      entries = floor.machine.published;
-      unpublished = length floor.machine.journal - floor.machine.published;
+      entries = published_count floor;
+      unpublished = length floor.journal - floor.published;
+      since = length floor.journal;
+      relations = length pool.tables.catalog;
+      pool = pool.limits.pool;
+      journal = floor.limit;
     }
 
 -- The counts in a line.
 abbrev pub count_line : Counts → List ℕ
 count_line counts =
     line (codes "queries " ++ decimal counts.queries ++ codes " matched " ++ decimal counts.matched ++ codes " waiting " ++ decimal counts.waiting
-    ++ codes " rows " ++ decimal counts.rows ++ codes " entries " ++ decimal counts.entries ++ codes " unpublished " ++ decimal counts.unpublished)
+    ++ codes " rows " ++ decimal counts.rows ++ codes " entries " ++ decimal counts.entries ++ codes " unpublished " ++ decimal counts.unpublished
+    ++ codes " since " ++ decimal counts.since ++ codes " relations " ++ decimal counts.relations ++ codes " limits " ++ decimal counts.pool ++ codes " " ++ decimal counts.journal)
 
 -- A number in decimal digits between two equal marks, if there is one.
 abbrev pub number_bytes : List ℕ → Option ℕ → List ℕ
@@ -88,10 +93,6 @@ abbrev pub absent_lines : PoolRecord → List (List ℕ) → List ℕ
 absent_lines pool names = flat_map (λ name. absent_line name (matched_named name pool)) names
 
 -- ---- changes
-
--- The floor when so many entries were published.
-abbrev pub floor_at : FloorRecord → ℕ → FloorRecord
-floor_at floor count = record floor { machine = record floor.machine { published = count } }
 
 -- A query went, if none is pending under its name.
 abbrev pub went_line : List ℕ → Option Bool → List ℕ
@@ -123,7 +124,7 @@ changes before now =
 abbrev pub help_text : List ℕ
 help_text =
     codes
-    "count                queries, rows and entries\nstatus NAME..        whether queries are matched, waiting or absent\nquery NAME           its block of the report\nexplain [NAME..]     why queries wait\nnear NAME POST       which heads nearly supply a postcondition\nchoice CHOICE..      whether a choice coordinates, as in choice a(1) b(1)\nchoose [NAME..]      a coordinating choice that has the queries\ngroups               groups of queries, and whether each can go\nchanges              queries that came, went or turned at the last publish\ngraph                who can supply whom, for Graphviz\njson                 the board as JSON\nhelp                 these lines\nquit                 ends; no later line is answered\nAll other lines are those of a script.\n"
+    "count                queries, rows and entries\nstatus NAME..        whether queries are matched, waiting or absent\nquery NAME           its block of the report\nexplain [NAME..]     why queries wait\nnear NAME POST       which heads nearly supply a postcondition\nchoice CHOICE..      whether a choice coordinates, as in choice a(1) b(1)\nchoose [NAME..]      a coordinating choice that has the queries\ngroups               groups of queries, and whether each can go\nchanges              queries that came, went or turned at the last publish\ngraph                who can supply whom, for Graphviz\njson                 the board as JSON\ncheckpoint           begins a new journal over what is published\nhelp                 these lines\nquit                 ends; no later line is answered\nAll other lines are those of a script.\n"
 
 -- Why queries wait: those of these names, and which of the names are absent; where there is no name, all that wait.
 pub record IsWhyTold (pool : PoolRecord) (names : List (List ℕ)) (text : List ℕ) : Type 0 where
@@ -162,32 +163,34 @@ pub record IsSoughtAnswer (pool : PoolRecord) (names : List (List ℕ)) (text : 
   pub outcome : Outcome
   pub sought : IsSoughtTold pool names outcome text
 
--- The text tells what is asked of the floor and its pool; before the last publish so many entries were published.
-abbrev pub IsToldOf : FloorRecord → PoolRecord → ℕ → AskKind → List (List ℕ) → List ℕ → List ℕ → Type 0
-IsToldOf floor pool before Count names choices text = text ≡ count_line (counts_of floor)
-IsToldOf floor pool before Status names choices text = text ≡ flat_map (status_line pool) names
-IsToldOf floor pool before Query names choices text = text ≡ flat_map (block_of pool) names ++ absent_lines pool names
-IsToldOf floor pool before Explain names choices text = IsWhyTold pool names text
-IsToldOf floor pool before (Near post) names choices text = IsNearAnswer pool post names text
-IsToldOf floor pool before Choice names choices text = IsChoiceTold pool (choice_words choices) text
-IsToldOf floor pool before Choose names choices text = IsSoughtAnswer pool names text
-IsToldOf floor pool before Groups names choices text = AreGroupsTold pool text
-IsToldOf floor pool before Changes names choices text = text ≡ changes (published_pool (floor_at floor before)) pool
-IsToldOf floor pool before Graph names choices text = text ≡ graph pool
-IsToldOf floor pool before Json names choices text = text ≡ print (json_tokens (json_of floor.machine.published pool))
-IsToldOf floor pool before Help names choices text = text ≡ help_text
-IsToldOf floor pool before Quit names choices text = text ≡ []
-IsToldOf floor pool before Unfit names choices text = text ≡ unfit_line
+-- The text tells what is asked of the floor and its pool. A floor answers a checkpoint, and nothing else is told.
+abbrev pub IsToldOf : FloorRecord → PoolRecord → AskKind → List (List ℕ) → List ℕ → List ℕ → Type 0
+IsToldOf floor pool Count names choices text = text ≡ count_line (counts_of floor)
+IsToldOf floor pool Status names choices text = text ≡ flat_map (status_line pool) names
+IsToldOf floor pool Query names choices text = text ≡ flat_map (block_of pool) names ++ absent_lines pool names
+IsToldOf floor pool Explain names choices text = IsWhyTold pool names text
+IsToldOf floor pool (Near post) names choices text = IsNearAnswer pool post names text
+IsToldOf floor pool Choice names choices text = IsChoiceTold pool (choice_words choices) text
+IsToldOf floor pool Choose names choices text = IsSoughtAnswer pool names text
+IsToldOf floor pool Groups names choices text = AreGroupsTold pool text
+IsToldOf floor pool Changes names choices text = text ≡ changes floor.earlier pool
+IsToldOf floor pool Graph names choices text = text ≡ graph pool
+IsToldOf floor pool Json names choices text = text ≡ print (json_tokens (json_of (published_count floor) pool))
+IsToldOf floor pool Checkpoint names choices text = text ≡ []
+IsToldOf floor pool Help names choices text = text ≡ help_text
+IsToldOf floor pool Quit names choices text = text ≡ []
+IsToldOf floor pool Unfit names choices text = text ≡ unfit_line
 
 -- The text tells what is asked of the floor, of the pool that it publishes.
-abbrev pub IsTold : FloorRecord → ℕ → AskRecord → List ℕ → Type 0
-IsTold floor before ask text = IsToldOf floor (published_pool floor) before ask.kind ask.names ask.text text
+abbrev pub IsTold : FloorRecord → AskRecord → List ℕ → Type 0
+IsTold floor ask text = IsToldOf floor (published_pool floor) ask.kind ask.names ask.text text
 
 -- What ends an answer in lines: the line `end` where it may have several, and the end of the line of a board as JSON.
 abbrev pub ending : AskKind → List ℕ
 ending Count = []
 ending Choice = []
 ending Json = codes "\n"
+ending Checkpoint = []
 ending Quit = []
 ending Unfit = []
 ending _ = end_line

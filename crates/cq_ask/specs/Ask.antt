@@ -9,7 +9,7 @@ use Rattle.cq_text.specs.Limits.{max_bytes}
 use Rattle.cq_text.specs.Lexing.{is_space}
 use Rattle.cq_text.specs.Field.{value_of_field}
 use Rattle.cq_ask.specs.declared.ask.AskKind.{AskKind}
-use Rattle.cq_ask.specs.declared.ask.AskKind.TheVariants.{Count, Status, Query, Explain, Near, Choice, Choose, Groups, Changes, Graph, Json, Help, Quit, Unfit}
+use Rattle.cq_ask.specs.declared.ask.AskKind.TheVariants.{Count, Status, Query, Explain, Near, Choice, Choose, Groups, Changes, Graph, Json, Checkpoint, Help, Quit, Unfit}
 
 -- What is asked, and the names that it is asked of, or the text that has the choices.
 pub record AskRecord : Type 0 where
@@ -36,7 +36,7 @@ abbrev pub kind_of : List ℕ → Option AskKind
 kind_of word =
     if bytes_eq word (codes "count") then Some Count else (if bytes_eq word (codes "status") then Some Status else (if bytes_eq word (codes "query") then Some Query
     else (if bytes_eq word (codes "explain") then Some Explain else (if bytes_eq word (codes "near") then Some (Near 0) else (if bytes_eq word (codes "choice") then Some Choice else (if bytes_eq word (codes "choose") then Some Choose else (if bytes_eq word (codes "groups") then Some Groups else (if bytes_eq word (codes "changes") then Some Changes else (if bytes_eq word (codes "graph") then Some Graph else (if bytes_eq word (codes "json") then Some Json
-    else (if bytes_eq word (codes "help") then Some Help else (if bytes_eq word (codes "quit") then Some Quit else None))))))))))))
+    else (if bytes_eq word (codes "checkpoint") then Some Checkpoint else (if bytes_eq word (codes "help") then Some Help else (if bytes_eq word (codes "quit") then Some Quit else None)))))))))))))
 
 -- Of how many names it may be asked.
 abbrev pub takes : AskKind → ℕ → Bool
@@ -56,6 +56,7 @@ takes_no_names Groups = true
 takes_no_names Changes = true
 takes_no_names Graph = true
 takes_no_names Json = true
+takes_no_names Checkpoint = true
 takes_no_names Help = true
 takes_no_names Quit = true
 takes_no_names _ = false
@@ -101,3 +102,8 @@ asked line = if nat_le (length line) max_bytes then option_map (λ kind. asked_o
 abbrev pub is_quit : AskKind → Bool
 is_quit Quit = true
 is_quit _ = false
+
+-- Whether a checkpoint is asked for.
+abbrev pub is_checkpoint : AskKind → Bool
+is_checkpoint Checkpoint = true
+is_checkpoint _ = false

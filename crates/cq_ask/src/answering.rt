@@ -6,7 +6,7 @@ ghost use Rattle.cq_board.specs.Named.{matched_named};
 ghost use Rattle.cq_render.specs.Report.{block_of};
 ghost use Rattle.cq_render.specs.Explain.{ArePieces, IsNearTold};
 ghost use Rattle.cq_render.specs.Data.{standing_word};
-ghost use Rattle.cq_ask.specs.Answer.{floor_at, published_pool, changes, status_line, absent_line, absent_lines, help_text, IsWhyTold, IsNearAnswer, IsVerdict, verdict_line, IsChoiceTold, IsSoughtAnswer, IsTold, ending};
+ghost use Rattle.cq_ask.specs.Answer.{published_pool, changes, status_line, absent_line, absent_lines, help_text, IsWhyTold, IsNearAnswer, IsVerdict, verdict_line, IsChoiceTold, IsSoughtAnswer, IsTold, ending};
 ghost use Rattle.cq_ask.specs.Choices.{choice_words};
 
 use crate::ask::{Ask, AskKind};
@@ -241,12 +241,11 @@ fn choose_text<A: Allocator + Copy>(
 fn changes_text<A: Allocator + Copy>(
     alloc: A,
     floor: &BoardFloor<A>,
-    before: u64,
 ) -> Result<String<A>, AllocError>
-    ensures { IfOk result (λ text. string_bytes text ≡ changes (published_pool (floor_at floor.now before)) (published_pool floor.now)) }
+    ensures { IfOk result (λ text. string_bytes text ≡ changes floor.now.earlier (published_pool floor.now)) }
 {
     let mut page = String::new(alloc);
-    put_last_changes(floor, before, &mut page)?;
+    put_last_changes(floor, &mut page)?;
     Ok(page)
 }
 
@@ -254,7 +253,7 @@ fn changes_text<A: Allocator + Copy>(
 pub(crate) fn help() -> &'static str
     ensures { result.now ≡ help_text }
 {
-    "count                queries, rows and entries\nstatus NAME..        whether queries are matched, waiting or absent\nquery NAME           its block of the report\nexplain [NAME..]     why queries wait\nnear NAME POST       which heads nearly supply a postcondition\nchoice CHOICE..      whether a choice coordinates, as in choice a(1) b(1)\nchoose [NAME..]      a coordinating choice that has the queries\ngroups               groups of queries, and whether each can go\nchanges              queries that came, went or turned at the last publish\ngraph                who can supply whom, for Graphviz\njson                 the board as JSON\nhelp                 these lines\nquit                 ends; no later line is answered\nAll other lines are those of a script.\n"
+    "count                queries, rows and entries\nstatus NAME..        whether queries are matched, waiting or absent\nquery NAME           its block of the report\nexplain [NAME..]     why queries wait\nnear NAME POST       which heads nearly supply a postcondition\nchoice CHOICE..      whether a choice coordinates, as in choice a(1) b(1)\nchoose [NAME..]      a coordinating choice that has the queries\ngroups               groups of queries, and whether each can go\nchanges              queries that came, went or turned at the last publish\ngraph                who can supply whom, for Graphviz\njson                 the board as JSON\ncheckpoint           begins a new journal over what is published\nhelp                 these lines\nquit                 ends; no later line is answered\nAll other lines are those of a script.\n"
 }
 
 /// What ends an answer to what is asked.
@@ -262,7 +261,8 @@ pub fn ending(kind: AskKind) -> &'static str
     ensures { result.now ≡ ending kind }
 {
     match kind {
-        AskKind::Count | AskKind::Choice | AskKind::Quit | AskKind::Unfit => "",
+        AskKind::Count | AskKind::Choice | AskKind::Checkpoint | AskKind::Quit | AskKind::Unfit =>
+            "",
         AskKind::Json => "\n",
         AskKind::Status
         | AskKind::Query
@@ -276,19 +276,18 @@ pub fn ending(kind: AskKind) -> &'static str
     }
 }
 
-/// What is told of what is asked, of the board that the floor publishes, without what [ends](ending) the answer; before the last publish so
-/// many entries were published. Its time is that of the text that it has: for `count`, `status` and `help` that of the names, for a query's block
-/// that of a walk over the board, for `changes` that of taking once more the edits that were published before.
+/// What is told of what is asked, of the board that the floor publishes, without what [ends](ending) the answer. Its time is that of the text that it has:
+/// for `count`, `status` and `help` that of the names, for a query's block that of a walk over the board, for `changes` that of
+/// [`Floor::earlier`]. For a checkpoint, which changes the floor, the text is empty.
 ///
 /// # Errors
 /// `AllocError` where an allocation failed.
 pub fn tell<A: Allocator + Copy>(
     alloc: A,
     floor: &Floor<Board<A>, A>,
-    before: u64,
     ask: &Ask<A>,
 ) -> Result<String<A>, AllocError>
-    ensures { IfOk result (λ text. IsTold floor.now before ask.now (string_bytes text)) }
+    ensures { IfOk result (λ text. IsTold floor.now ask.now (string_bytes text)) }
 {
     let board = floor.board();
     let names = ask.names();
@@ -301,11 +300,11 @@ pub fn tell<A: Allocator + Copy>(
         AskKind::Choice => choice_text(alloc, board, ask.text()),
         AskKind::Choose => choose_text(alloc, board, names),
         AskKind::Groups => groups(alloc, board, MOST_STEPS),
-        AskKind::Changes => changes_text(alloc, floor, before),
+        AskKind::Changes => changes_text(alloc, floor),
         AskKind::Graph => graph(alloc, board),
         AskKind::Json => json(alloc, floor.published_count(), board),
         AskKind::Help => Ok(String::from_str(alloc, help())?),
-        AskKind::Quit => Ok(String::new(alloc)),
+        AskKind::Checkpoint | AskKind::Quit => Ok(String::new(alloc)),
         AskKind::Unfit => Ok(String::from_str(alloc, UNFIT)?),
     }
 }

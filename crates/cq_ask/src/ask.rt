@@ -1,7 +1,7 @@
 //! What a line asks.
 
 ghost use Rattle.std.specs.Prelude.{◌≡◌, [], IfOk};
-ghost use Rattle.cq_ask.specs.Ask.{is_quit};
+ghost use Rattle.cq_ask.specs.Ask.{is_checkpoint, is_quit};
 
 use cq_atom::Name;
 use std::alloc::{AllocError, Allocator};
@@ -32,6 +32,8 @@ pub enum AskKind {
     Graph,
     /// What the report tells, in JSON.
     Json,
+    /// That a checkpoint be made.
+    Checkpoint,
     /// Which lines ask.
     Help,
     /// That no further line is heard.
@@ -93,6 +95,13 @@ impl<A: Allocator> Ask<A> {
         ensures { result ≡ is_quit self.now.kind }
     {
         matches!(self.kind, AskKind::Quit)
+    }
+
+    /// Returns true if the line asks for a checkpoint.
+    pub fn is_checkpoint(&self) -> bool
+        ensures { result ≡ is_checkpoint self.now.kind }
+    {
+        matches!(self.kind, AskKind::Checkpoint)
     }
 
     /// The names that it is asked of.

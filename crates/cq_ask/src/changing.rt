@@ -1,15 +1,14 @@
 //! What changed at the last publish.
 
-ghost use Rattle.std.specs.Prelude.{◌≡◌, ◌≤◌, ◌++◌, map, length, take, string_bytes, IfOk, OnOk, option_map};
+ghost use Rattle.std.specs.Prelude.{◌≡◌, ◌++◌, map, string_bytes, IfOk, OnOk, option_map};
 ghost use Rattle.std.specs.List.{flat_map};
 ghost use Rattle.cq_board.specs.Pool.{name_of};
 ghost use Rattle.cq_board.specs.Named.{matched_named};
-ghost use Rattle.cq_board.specs.Journal.{pool_left};
-ghost use Rattle.cq_ask.specs.Answer.{floor_at, published_pool, went_line, change_words, change_line, changes};
+ghost use Rattle.cq_ask.specs.Answer.{published_pool, went_line, change_words, change_line, changes};
 
-use cq_atom::{Edit, Name};
+use cq_atom::Name;
 use cq_board::Board;
-use cq_desk::{Entry, Floor};
+use cq_desk::{Floor, NoMemory};
 use std::alloc::{AllocError, Allocator};
 
 /// Puts a line, where no query is pending under the name now.
@@ -97,42 +96,25 @@ fn put_changes<A: Allocator + Copy>(
     put_each(before, now, &now.names()?, page)
 }
 
-/// Takes the edits of the entries.
-fn play<A: Allocator + Copy>(
-    board: &mut Board<A>,
-    entries: &[Entry<Edit<A>>],
-) -> Result<(), AllocError>
-    ensures { OnOk result (board.new ≡ pool_left board.old entries.now) }
-{
-    for entry in entries {
-        board.admit(&entry.edit)?;
-    }
-    Ok(())
-}
-
-/// Returns the board that was published when so many entries were. Its time is that of taking the edits of these entries once more.
-pub(crate) fn board_at<A: Allocator + Copy>(
+/// Returns the board that was published before the last publish.
+pub(crate) fn earlier_board<A: Allocator + Copy>(
     floor: &Floor<Board<A>, A>,
-    count: u64,
 ) -> Result<Board<A>, AllocError>
-    ensures { IfOk result (λ board. board ≡ published_pool (floor_at floor.now count)) }
+    ensures { IfOk result (λ board. board ≡ floor.now.earlier) }
 {
-    let mut board = floor.opening().copy()?;
-    let journal = floor.journal();
-    let count = (count as usize).min(journal.len());
-    play(&mut board, &journal[..count])?;
-    Ok(board)
+    match floor.earlier() {
+        Ok(board) => Ok(board),
+        Err(NoMemory) => Err(AllocError),
+    }
 }
 
-/// Puts what changed at the last publish, before which so many entries were published. Its time is that of taking the edits of these
-/// entries once more.
+/// Appends what changed at the last publish.
 pub(crate) fn put_last_changes<A: Allocator + Copy>(
     floor: &Floor<Board<A>, A>,
-    before: u64,
     page: &mut String<A>,
 ) -> Result<(), AllocError>
-    ensures { OnOk result (string_bytes page.new ≡ string_bytes page.old ++ changes (published_pool (floor_at floor.now before)) (published_pool floor.now)) }
+    ensures { OnOk result (string_bytes page.new ≡ string_bytes page.old ++ changes floor.now.earlier (published_pool floor.now)) }
 {
-    let past = board_at(floor, before)?;
+    let past = earlier_board(floor)?;
     put_changes(&past, floor.board(), page)
 }

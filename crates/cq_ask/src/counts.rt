@@ -29,7 +29,15 @@ pub struct Counts {
     /// Published entries.
     pub entries: u64,
     /// Entries that are not published yet.
-    pub unpublished: u64,
+    pub unpublished: usize,
+    /// Entries since the last checkpoint, published or not.
+    pub since: usize,
+    /// Relations that are declared.
+    pub relations: usize,
+    /// The most queries that may be pending.
+    pub pool: usize,
+    /// The most entries since the last checkpoint.
+    pub journal: usize,
 }
 
 /// A piece of the answer to `count`: words, and a number after them if there is one.
@@ -75,14 +83,17 @@ pub fn counts_of<A: Allocator + Copy>(floor: &Floor<Board<A>, A>) -> Counts
     let board = floor.board();
     let queries = board.len();
     let matched = board.matched_count();
-    let entries = floor.published_count();
     Counts {
         queries,
         matched,
         waiting: queries.saturating_sub(matched),
         rows: row_count(board.tables()),
-        entries,
-        unpublished: (floor.journal().len() as u64).saturating_sub(entries),
+        entries: floor.published_count(),
+        unpublished: floor.unpublished_count(),
+        since: floor.journal().len(),
+        relations: board.tables().catalog().len(),
+        pool: board.limits().pool,
+        journal: floor.limit(),
     }
 }
 
@@ -126,7 +137,7 @@ fn last_part(words: &'static str) -> CountPart
 }
 
 /// Returns the pieces of the line that tells the counts. Does not allocate.
-pub fn count_parts(counts: &Counts) -> [CountPart; 7]
+pub fn count_parts(counts: &Counts) -> [CountPart; 11]
     ensures { flat_map part_bytes result ≡ count_line counts.now }
 {
     [
@@ -136,13 +147,17 @@ pub fn count_parts(counts: &Counts) -> [CountPart; 7]
         part(" rows ", counts.rows),
         part(" entries ", counts.entries as u128),
         part(" unpublished ", counts.unpublished as u128),
+        part(" since ", counts.since as u128),
+        part(" relations ", counts.relations as u128),
+        part(" limits ", counts.pool as u128),
+        part(" ", counts.journal as u128),
         last_part("\n"),
     ]
 }
 
 /// Returns the pieces of the member that tells the counts in a JSON object, after other members. Does
 /// not allocate.
-pub fn count_members(counts: &Counts) -> [CountPart; 7]
+pub fn count_members(counts: &Counts) -> [CountPart; 11]
     ensures { flat_map part_bytes result ≡ member_text (codes "count", count_json counts.now) }
 {
     [
@@ -152,6 +167,10 @@ pub fn count_members(counts: &Counts) -> [CountPart; 7]
         value_part(",\"rows\":", counts.rows),
         value_part(",\"entries\":", counts.entries as u128),
         value_part(",\"unpublished\":", counts.unpublished as u128),
+        value_part(",\"since\":", counts.since as u128),
+        value_part(",\"relations\":", counts.relations as u128),
+        value_part(",\"pool_limit\":", counts.pool as u128),
+        value_part(",\"journal_limit\":", counts.journal as u128),
         last_part("}"),
     ]
 }

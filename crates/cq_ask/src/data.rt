@@ -10,14 +10,14 @@ ghost use Rattle.cq_render.specs.Graph.{graph};
 ghost use Rattle.cq_render.specs.Json.{array_of, json_of};
 ghost use Rattle.cq_render.specs.Data.{IsPut, IsArray, IsNearOf, AreReasonsJson, standing_json, named_json};
 ghost use Rattle.cq_going.specs.Data.{IsSoughtJson, AreGroupsJson};
-ghost use Rattle.cq_ask.specs.Answer.{published_pool, floor_at, IsVerdict};
+ghost use Rattle.cq_ask.specs.Answer.{published_pool, IsVerdict};
 ghost use Rattle.cq_ask.specs.Data.{change_json, went_json, change_word, changed_json, changes_json, verdict_json, IsToldAs, IsMember};
 ghost use Rattle.cq_ask.specs.Steps.Several.{all_tokens};
 ghost use Rattle.cq_ask.specs.Choices.{choice_words};
 
 use crate::answering::{help, standing_word, verdict};
 use crate::ask::{Ask, AskKind};
-use crate::changing::board_at;
+use crate::changing::earlier_board;
 use crate::choices::choice_words;
 use crate::counts::{count_members, counts_of, parts_text};
 use cq_atom::Name;
@@ -318,11 +318,10 @@ fn put_changes<A: Allocator + Copy>(
 fn changes_member<A: Allocator + Copy>(
     alloc: A,
     floor: &BoardFloor<A>,
-    before: u64,
 ) -> Result<String<A>, AllocError>
-    ensures { IfOk result (λ text. IsToldAs (λ told. told ≡ (codes "changes", changes_json (published_pool (floor_at floor.now before)) (published_pool floor.now))) (string_bytes text)) }
+    ensures { IfOk result (λ text. IsToldAs (λ told. told ≡ (codes "changes", changes_json floor.now.earlier (published_pool floor.now))) (string_bytes text)) }
 {
-    let past = board_at(floor, before)?;
+    let past = earlier_board(floor)?;
     let mut sheet = JsonText::begin(alloc);
     put_changes(&mut sheet, &past, floor.board())?;
     member(alloc, "changes", sheet)
@@ -349,7 +348,7 @@ fn board_member<A: Allocator + Copy>(
     format!(in alloc; ",\"board\":{text}")
 }
 
-/// What is told of what is asked, of the board that the floor publishes, as a member of a JSON object that has others before it. What is asked and when it is of
+/// What is told of what is asked, of the board that the floor publishes, as a member of a JSON object that has others before it. What is asked and of what
 /// are as with [`tell`](crate::tell), and so is its time.
 ///
 /// # Errors
@@ -357,10 +356,9 @@ fn board_member<A: Allocator + Copy>(
 pub fn tell_data<A: Allocator + Copy>(
     alloc: A,
     floor: &Floor<Board<A>, A>,
-    before: u64,
     ask: &Ask<A>,
 ) -> Result<String<A>, AllocError>
-    ensures { IfOk result (λ text. IsMember floor.now before ask.now (string_bytes text)) }
+    ensures { IfOk result (λ text. IsMember floor.now ask.now (string_bytes text)) }
 {
     let board = floor.board();
     let names = ask.names();
@@ -373,9 +371,10 @@ pub fn tell_data<A: Allocator + Copy>(
         AskKind::Choice => choice_member(alloc, board, ask.text()),
         AskKind::Choose => choose_member(alloc, board, names),
         AskKind::Groups => groups_member(alloc, board),
-        AskKind::Changes => changes_member(alloc, floor, before),
+        AskKind::Changes => changes_member(alloc, floor),
         AskKind::Graph => graph_member(alloc, board),
         AskKind::Json => board_member(alloc, floor.published_count(), board),
+        AskKind::Checkpoint => flag_member(alloc, "checkpoint", true),
         AskKind::Help => text_member(alloc, "help", help()),
         AskKind::Quit => flag_member(alloc, "quit", true),
         AskKind::Unfit => text_member(alloc, "refused", "Words"),

@@ -94,6 +94,8 @@ fn kind_of(word: &[u8]) -> Option<AskKind>
         Some(AskKind::Graph)
     } else if is_word(word, "json") {
         Some(AskKind::Json)
+    } else if is_word(word, "checkpoint") {
+        Some(AskKind::Checkpoint)
     } else if is_word(word, "help") {
         Some(AskKind::Help)
     } else if is_word(word, "quit") {
@@ -125,6 +127,7 @@ fn takes_no_names(kind: AskKind) -> bool
         | AskKind::Changes
         | AskKind::Graph
         | AskKind::Json
+        | AskKind::Checkpoint
         | AskKind::Help
         | AskKind::Quit => true,
         _ => false,

@@ -11,7 +11,7 @@ use std::alloc::Allocator;
 /// The working board of a floor. Its edges, crowded postconditions, matched queries and groundings are
 /// those computed from scratch over the queries and rows that the whole journal leaves.
 pub fn working_board<A: Allocator + Copy>(floor: &Floor<Board<A>, A>) -> &Board<A>
-    ensures { board_of result.now ≡ board_of (pool_left floor.now.opening floor.now.machine.journal) }
+    ensures { board_of result.now ≡ board_of (pool_left floor.now.opening floor.now.journal) }
 {
     floor.working()
 }
@@ -20,7 +20,7 @@ pub fn working_board<A: Allocator + Copy>(floor: &Floor<Board<A>, A>) -> &Board<
 /// groundings are those computed from scratch over the queries and rows that the published front of the
 /// journal leaves.
 pub fn published_board<A: Allocator + Copy>(floor: &Floor<Board<A>, A>) -> &Board<A>
-    ensures { board_of result.now ≡ board_of (pool_left floor.now.opening (take floor.now.machine.published floor.now.machine.journal)) }
+    ensures { board_of result.now ≡ board_of (pool_left floor.now.opening (take floor.now.published floor.now.journal)) }
 {
     floor.board()
 }

@@ -15,6 +15,7 @@ use Rattle.cq_going.specs.declared.telling.Outcome.{Outcome}
 use Rattle.cq_going.specs.Going.{IsSoughtTold}
 use Rattle.cq_going.specs.Boxes.{IsBoxed}
 use Rattle.cq_going.specs.Grouping.{AreGroupsTold}
+use Rattle.cq_desk.specs.Machine.{published_count}
 use Rattle.cq_report.specs.Machine.{shown}
 use Rattle.cq_report.specs.Output.{Left}
 use Rattle.cq_report.specs.Summary.{warning}
@@ -56,7 +57,7 @@ IsGraph boxed names left status text notes =
 
 -- What the library for JSON prints of the board, and of how many entries it is, in a line.
 abbrev pub IsJson : Telling
-IsJson left status text notes = (status ≡ Done) × (text ≡ line (print (json_tokens (json_of left.floor.machine.published (shown left.floor))))) × (notes ≡ [])
+IsJson left status text notes = (status ≡ Done) × (text ≡ line (print (json_tokens (json_of (published_count left.floor) (shown left.floor))))) × (notes ≡ [])
 
 -- The groups.
 abbrev pub AreGroups : Telling

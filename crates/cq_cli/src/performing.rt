@@ -35,6 +35,12 @@ const OF_FORM_TWO: &str =
 const HEADED_OF_FORM_TWO: &str = "the first record seems to be a header; --header leaves it out
 board: a relation of more than 8 columns needs a script that begins with `board 2`";
 
+/// What is printed if memory runs out.
+const NO_MEMORY: &str = "board: out of memory\n";
+
+/// What is printed if `--memory` is too small for the first edit of a live board.
+const SMALL_SIZE: &str = "board: out of memory: a live board needs --memory 16384 at least\n";
+
 /// Writes a text, and tells where that failed.
 fn say<W: Sink, E: Sink>(alloc: Global, text: &str, sink: &mut W, errors: &mut E) -> Status
     requires sink { W.write_failures sink.old < 2 ^ 62 }
@@ -64,7 +70,7 @@ fn answer_words<W: Sink, E: Sink>(
 {
     let text = format!(in alloc; "{error}");
     let (Ok(text), false) = (text, error.kind() == ErrorKind::OutOfMemory) else {
-        return starved(errors);
+        return starved(NO_MEMORY, errors);
     };
     if error.use_stderr() {
         tell(errors, &text);
@@ -73,12 +79,12 @@ fn answer_words<W: Sink, E: Sink>(
     say(alloc, &text, sink, errors)
 }
 
-/// Tells that memory ran out.
-fn starved<E: Sink>(errors: &mut E) -> Status
+/// Prints that memory ran out.
+fn starved<E: Sink>(text: &str, errors: &mut E) -> Status
     requires { E.write_failures errors.old < 2 ^ 62 }
     ensures { result ≡ Status.NoMemory }
 {
-    tell(errors, "board: out of memory\n");
+    tell(errors, text);
     Status::NoMemory
 }
 
@@ -94,7 +100,7 @@ For more information, try '--help'.
     );
     match text {
         Ok(text) => tell(errors, &text),
-        Err(_) => tell(errors, "board: out of memory\n"),
+        Err(_) => tell(errors, NO_MEMORY),
     }
 }
 
@@ -104,6 +110,7 @@ fn answer_lines<A: Allocator + Copy, R: Source, W: Sink, E: Sink>(
     heap: A,
     origin: &str,
     numbering: Numbering,
+    every: u64,
     source: &mut R,
     sink: &mut W,
     errors: &mut E,
@@ -113,7 +120,7 @@ fn answer_lines<A: Allocator + Copy, R: Source, W: Sink, E: Sink>(
     ensures failures { ReportsFailures (counts R.reads_made R.failures_met W.write_failures source.old sink.old) (counts R.reads_made R.failures_met W.write_failures source.new sink.new) result }
     ensures refused { LeavesRefused source.old source.new sink.old sink.new result }
 {
-    let Err(fault) = live(heap, numbering, source, sink) else {
+    let Err(fault) = live(heap, numbering, every, source, sink) else {
         return Status::Done;
     };
     tell_fault(alloc, origin, &fault, errors);
@@ -213,11 +220,12 @@ fn answer_no_task<W: Sink, E: Sink>(
             tell_size(alloc, word, errors);
             Status::Usage
         }
+        NoTask::SmallSize => starved(SMALL_SIZE, errors),
         NoTask::BadFile(path) => {
             tell_fault(alloc, "", &FileFault::Open { path: *path }, errors);
             Status::Unserved
         }
-        NoTask::NoMemory => starved(errors),
+        NoTask::NoMemory => starved(NO_MEMORY, errors),
     }
 }
 
@@ -270,9 +278,9 @@ pub(crate) fn perform<
         Ok(Task::Replay(replaying)) => {
             replay(alloc, heap, origin, *replaying, source, sink, errors)
         }
-        Ok(Task::Live { numbering }) => {
-            answer_lines(alloc, heap, origin, *numbering, source, sink, errors)
-        }
+        Ok(Task::Live { numbering, every }) => answer_lines(
+            alloc, heap, origin, *numbering, *every, source, sink, errors,
+        ),
         Ok(Task::Rows(words)) => answer_rows(alloc, heap, origin, words, source, sink, errors),
         Ok(Task::Sessions { setup, files }) => {
             answer_sessions(host, alloc, heap, setup, files, sink, errors)

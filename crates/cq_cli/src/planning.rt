@@ -18,11 +18,16 @@ pub(crate) enum NoTask<'a> {
     Words(Error),
     /// This value of `--memory` is no number of bytes.
     BadSize(&'a str),
+    /// The value of `--memory` is less than a live board needs.
+    SmallSize,
     /// The file of this path does not open.
     BadFile(&'a str),
     /// An allocation failed.
     NoMemory,
 }
+
+/// The least value of `--memory` with which a live board starts. With less than some 11,000 bytes it would refuse each edit for want of memory.
+const LEAST_LIVE: usize = 16_384;
 
 /// A reader of a file, if there is one, and of standard input otherwise.
 #[derive(Drop)]
@@ -81,6 +86,14 @@ fn bytes_of<'a>(memory: Option<&'a str>) -> Result<Option<usize>, NoTask<'a>> {
     }
 }
 
+/// Returns the number of bytes that the task may have, if there is a bound and it is not too small for the task.
+fn bytes_for<'a>(task: &Task<'a>, memory: Option<&'a str>) -> Result<Option<usize>, NoTask<'a>> {
+    match (task, bytes_of(memory)?) {
+        (Task::Live { .. }, Some(bytes)) if bytes < LEAST_LIVE => Err(NoTask::SmallSize),
+        (_, bytes) => Ok(bytes),
+    }
+}
+
 /// Opens the file of that path, and makes the text in front of its errors.
 fn open<'a, H: Files>(
     host: &H,
@@ -121,7 +134,7 @@ fn plan_task<'a, H: Files, S: AsStr>(
         Ok(wanted) => wanted,
         Err(error) => return Err(NoTask::Words(error)),
     };
-    let bytes = bytes_of(wanted.memory)?;
+    let bytes = bytes_for(&wanted.task, wanted.memory)?;
     let (file, origin) = open_named(host, alloc, wanted.file)?;
     Ok(Plan {
         is_prompted: matches!(&wanted.task, Task::Live { .. }),

@@ -10,11 +10,14 @@ use std::alloc::{AllocError, Global};
 use std::convert::AsStr;
 
 /// What `--version` tells: the number, of which CHANGELOG.md says what came with it, and the logic in which the program is proved.
-const VERSION: &str = "0.8.2, proved in the logic dac8208d650f15bf";
+const VERSION: &str = "0.9.0, proved in the logic dac8208d650f15bf";
 
 /// What `version` writes.
-pub(crate) const VERSION_LINE: &str = "board 0.8.2, proved in the logic dac8208d650f15bf
+pub(crate) const VERSION_LINE: &str = "board 0.9.0, proved in the logic dac8208d650f15bf
 ";
+
+/// After how many entries a publish makes a checkpoint by default.
+const CHECKPOINT_EVERY: u64 = 10_000;
 
 const ABOUT: &str = "A live coordination board for entangled queries.";
 
@@ -78,12 +81,17 @@ Beside these, a line may ask about the published board: `count`, `status NAME..`
 `near NAME POST`, `choice CHOICE..`, `choose [NAME..]`, `groups`, `changes`, `graph`, `json`. The line `help` lists them. An answer of
 several lines ends with `end`. `quit` ends the board, as the end of the input does.
 
+`checkpoint` begins a new journal over what is published, and is answered `checkpoint N` by the number of all entries so far, or `refused
+Unpublished` if some are not published. It frees the memory of what went, and changes nothing that is shown; numbers continue. The board
+makes one by itself at the first publish that leaves 10000 entries or more since the last one, or as many as --checkpoint says. `limits
+POOL JOURNAL` bounds the entries since the last one.
+
 With --json each line, blank ones too, is answered by one JSON object with its number, in a line of its own: {\"line\":7,\"ok\":5},
 {\"line\":9,\"refused\":\"Shape\",\"at\":57}. What a line asks is answered by data:
 {\"line\":11,\"status\":[{\"name\":\"kramer\",\"state\":\"matched\"}]}.
 
 A line that needs more memory than there is, or than --memory allows, is answered `refused Memory`. It changes nothing, and the
-board goes on.
+board goes on. --memory is to be 16384 or more.
 
 Example:
   printf 'post elaine {} R(Elaine, 122) <-\\npublish\\n' | board live
@@ -256,6 +264,8 @@ pub(crate) enum Task<'a> {
     Live {
         /// Whether answers are JSON objects.
         numbering: Numbering,
+        /// After how many entries a publish makes a checkpoint; never if 0.
+        every: u64,
     },
     /// CSV becomes insert lines.
     Rows(SheetWords<'a>),
@@ -385,6 +395,15 @@ fn live_command<'a>(alloc: Global) -> Result<Command<'a>, AllocError> {
                 .long("json")
                 .action(ArgAction::SetTrue)
                 .help("Answer each line by a JSON object"),
+        )?
+        .arg(
+            Arg::new(alloc, "checkpoint")
+                .long("checkpoint")
+                .value_name("N")
+                .value_parser(value_parser!(usize))
+                .help(
+                    "After how many entries a publish begins a new journal; without it 10000, never if 0",
+                ),
         )?
         .arg(file(alloc))?
         .arg(memory(
@@ -616,6 +635,14 @@ fn steps_of(matches: &ArgMatches<'_>) -> u64 {
     }
 }
 
+/// Returns after how many entries a publish makes a checkpoint.
+fn every_of(matches: &ArgMatches<'_>) -> u64 {
+    match matches.get_one::<usize>("checkpoint") {
+        Some(every) => every as u64,
+        None => CHECKPOINT_EVERY,
+    }
+}
+
 /// Which reasons are told.
 fn extent_of(matches: &ArgMatches<'_>) -> Extent {
     if matches.get_flag("roots") {
@@ -643,6 +670,7 @@ fn task_of<'a>(
     Ok(match name {
         "live" => Task::Live {
             numbering: numbered(matches, "json", Numbering::Json),
+            every: every_of(matches),
         },
         "rows" => Task::Rows(SheetWords {
             relation: matches.get_str("RELATION").unwrap_or(""),

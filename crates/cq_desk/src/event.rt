@@ -27,6 +27,8 @@ pub enum Event<E> {
         /// How many entries.
         count: u64,
     },
+    /// The published content becomes the opening content, and the journal becomes empty.
+    Checkpoint,
 }
 
 /// The answer to an event.
@@ -40,6 +42,8 @@ pub enum Answer<W> {
     Looked(u64),
     /// The session has seen or heard of so many entries.
     Heard(u64),
+    /// A checkpoint was made after this many entries, all of them published.
+    Checkpointed(u64),
 }
 
 /// Why an event has no answer, in the order of the tests.
@@ -51,6 +55,9 @@ pub enum StepFault {
     /// So many entries are not published.
     #[error("so many entries are not published")]
     Ahead,
+    /// Some entries are not published.
+    #[error("entries are not published yet")]
+    Unpublished,
     /// An allocation failed.
     #[error("out of memory")]
     NoMemory,

@@ -1,12 +1,13 @@
 //! A floor: a desk that several sessions look at, each with what it has seen.
 
-ghost use Rattle.std.specs.Prelude.{◌≡◌, ◌≤◌, ◌<◌, ◌⊎◌, [], length, fold, replicate, take, drop, Ok, OnOk, OnErr, IfOk, IfErr, IfNone, IfSome, MatchOption, slice_get};
+ghost use Rattle.std.specs.Prelude.{◌≡◌, ◌≤◌, ◌<◌, ◌-◌, ◌⊎◌, [], length, fold, replicate, take, drop, Ok, OnOk, OnErr, IfOk, IfErr, IfNone, IfSome, MatchOption, slice_get};
 ghost use Rattle.cq_desk.specs.declared.floor.FloorFault.TheVariants as faults;
-ghost use Rattle.cq_desk.specs.Machine.{opening_machine, answer_to, machine_after, machine_run, answers_to, moved, seen_by, working_content, published_content};
-ghost use Rattle.cq_desk.specs.declared.event.Event.TheVariants.{Enter, Publish, Look, Hear};
+ghost use Rattle.cq_desk.specs.declared.floor.ReopenFault.TheVariants as reopens;
+ghost use Rattle.cq_desk.specs.Machine.{opening_machine, answer_to, machine_after, machine_run, answers_to, moved, reopened, seen_by, published_count, working_content, published_content};
+ghost use Rattle.cq_desk.specs.declared.event.Event.TheVariants.{Enter, Publish, Look, Hear, Checkpoint};
 ghost use Rattle.cq_desk.specs.declared.event.Answer.TheVariants.{Published};
 ghost use Rattle.cq_atom.specs.Answer.{Answers};
-ghost use Rattle.cq_desk.specs.Standing.{IsTold, MayWant, StopsAt, replied, sessions_fault, stepped, played};
+ghost use Rattle.cq_desk.specs.Standing.{IsTold, MayWant, StopsAt, replied, checkpointed, reopen_fault, sessions_fault};
 
 use crate::event::{Answer, Event, StepFault};
 use crate::journal::Entry;
@@ -34,9 +35,19 @@ pub enum FloorFault {
     NoMemory,
 }
 
-/// A journal with its two states, and for each session how many entries it has seen or heard of. Contracts see the opening
-/// content, the journal's limit, and the machine: journal, published count and seen counts. That no
-/// session has seen more than is published stands in this type.
+/// The reason why a floor's journal does not begin over another state.
+#[derive(Clone, Copy, Debug, PartialEq, Eq, Error)]
+pub enum ReopenFault {
+    /// The journal contains entries.
+    #[error("the journal has entries")]
+    Late,
+    /// An allocation failed.
+    #[error("out of memory")]
+    NoMemory,
+}
+
+/// A journal with its two states, and for each session how many entries it has seen or heard of. Contracts see the floor
+/// machine. That no session has seen more than is published stands in this type.
 #[derive(Drop)]
 pub struct Floor<L: Live, A: Allocator + Copy = Global> {
     turns: Turns<L, A>,
@@ -44,14 +55,15 @@ pub struct Floor<L: Live, A: Allocator + Copy = Global> {
 }
 
 impl<L: Live, A: Allocator + Copy> Model for Floor<L, A> {
+    ghost use Rattle.std.specs.Prelude.{◌+◌};
     ghost use Rattle.cq_desk.specs.Plain.{AreWithin};
-    ghost use Rattle.cq_desk.specs.Standing.{StandingRecord};
+    ghost use Rattle.cq_desk.specs.Machine.{MachineRecord};
 
-    ghost Value = { StandingRecord L.Content L.Edit };
+    ghost Value = { MachineRecord L.Content L.Edit };
 
-    ghost view = { λ f. record { opening = f.turns.opening; limit = f.turns.limit; machine = record { journal = f.turns.journal; published = f.turns.published; seen = f.seen.items } } };
+    ghost view = { λ f. record { opening = f.turns.opening; limit = f.turns.limit; base = f.turns.base; journal = f.turns.journal; published = f.turns.published; seen = f.seen.items; earlier = f.turns.earlier } };
 
-    ghost invariant = { λ f. AreWithin f.turns.published f.seen.items };
+    ghost invariant = { λ f. AreWithin (f.turns.base + f.turns.published) f.seen.items };
 }
 
 impl From<NoMemory> for FloorFault {
@@ -92,7 +104,7 @@ impl<L: Live, A: Allocator + Copy> Floor<L, A> {
         journal: usize,
         sessions: usize,
     ) -> Result<Floor<L, A>, FloorFault>
-        ensures { Answers faults.NoMemory (sessions_fault sessions) (record { opening = L.content state; limit = journal; machine = opening_machine sessions }) result }
+        ensures { Answers faults.NoMemory (sessions_fault sessions) (opening_machine (L.content state) journal sessions) result }
     {
         if !(1..=16).contains(&sessions) {
             return Err(FloorFault::Sessions);
@@ -102,23 +114,35 @@ impl<L: Live, A: Allocator + Copy> Floor<L, A> {
         Ok(Floor { turns, seen })
     }
 
-    /// The state before the first event.
+    /// The state before the journal's first entry: the one before the first event, or the one that the last checkpoint found published.
     pub fn opening(&self) -> &L
         ensures { L.content result.now ≡ self.now.opening }
     {
         self.turns.opening()
     }
 
+    /// Returns a state with the content that was published before the last publish, even if a checkpoint was made since. At first it is the opening content.
+    /// Right after a publish it needs the time of a copy. After further edits it also applies the journal's published entries once more,
+    /// unless a checkpoint was made since.
+    ///
+    /// # Errors
+    /// `NoMemory` if an allocation fails.
+    pub fn earlier(&self) -> Result<L, NoMemory>
+        ensures { IfOk result (λ state. L.content state ≡ self.now.earlier) }
+    {
+        self.turns.earlier()
+    }
+
     /// The published state.
     pub fn board(&self) -> &L
-        ensures { L.content result.now ≡ published_content L.after self.now.opening self.now.machine }
+        ensures { L.content result.now ≡ published_content L.after self.now }
     {
         self.turns.shown()
     }
 
     /// The working state, which is what the whole journal leaves.
     pub fn working(&self) -> &L
-        ensures { L.content result.now ≡ working_content L.after self.now.opening self.now.machine }
+        ensures { L.content result.now ≡ working_content L.after self.now }
     {
         self.turns.working()
     }
@@ -126,24 +150,38 @@ impl<L: Live, A: Allocator + Copy> Floor<L, A> {
     /// How many entries the session has seen or heard of. `None` where there is no session of that
     /// number.
     pub fn seen(&self, session: usize) -> Option<u64>
-        ensures value { result ≡ slice_get self.now.machine.seen session }
-        ensures within { IfSome result (λ count. count ≤ self.now.machine.published) }
+        ensures value { result ≡ slice_get self.now.seen session }
+        ensures within { IfSome result (λ count. count ≤ published_count self.now) }
     {
         self.seen.get(session).copied()
     }
 
-    /// The accepted edits with their authors, the earliest first.
+    /// Returns how many entries the journal may contain: those since the last checkpoint.
+    pub fn limit(&self) -> usize
+        ensures { result ≡ self.now.limit }
+    {
+        self.turns.limit()
+    }
+
+    /// The accepted edits since the last checkpoint, with their authors, the earliest first.
     pub fn journal(&self) -> &[Entry<L::Edit>]
-        ensures { result.now ≡ self.now.machine.journal }
+        ensures { result.now ≡ self.now.journal }
     {
         self.turns.journal()
     }
 
-    /// How many entries are published.
+    /// Returns how many entries are published, including those before the last checkpoint.
     pub fn published_count(&self) -> u64
-        ensures { result ≡ self.now.machine.published }
+        ensures { result ≡ published_count self.now }
     {
         self.turns.published()
+    }
+
+    /// Returns how many entries are not published yet.
+    pub fn unpublished_count(&self) -> usize
+        ensures { result ≡ length self.now.journal - self.now.published }
+    {
+        self.turns.unpublished()
     }
 
     /// Enters the edit under the author's name unless it is refused, and returns its reply. A refused edit
@@ -153,8 +191,8 @@ impl<L: Live, A: Allocator + Copy> Floor<L, A> {
     /// `NoSession` if there is no session of that number; `NoMemory` if an allocation fails, which may take
     /// the place of the reply that the edit is entered or that the state refuses it. Nothing has changed then.
     pub fn enter(&mut self, author: usize, edit: L::Edit) -> Result<Reply<L::Why>, StepFault>
-        ensures answer { IsTold (answer_to L.after L.why self.old.opening self.old.limit self.old.machine (Enter author edit)) (replied result) }
-        ensures ok { OnOk result (self.new ≡ stepped L.after L.why self.old (Enter author edit)) }
+        ensures answer { IsTold (answer_to L.after L.why self.old (Enter author edit)) (replied result) }
+        ensures ok { OnOk result (self.new ≡ machine_after L.after L.why self.old (Enter author edit)) }
         ensures err { OnErr result (self.new ≡ self.old) }
     {
         if author >= self.seen.len() {
@@ -168,8 +206,8 @@ impl<L: Live, A: Allocator + Copy> Floor<L, A> {
 
     /// Publishes all that was entered, and returns how many entries are published. It does not allocate.
     pub fn publish(&mut self) -> u64
-        ensures answer { answer_to L.after L.why self.old.opening self.old.limit self.old.machine Publish ≡ Ok (Published result) }
-        ensures after { self.new ≡ record self.old { machine = moved self.old.machine Publish } }
+        ensures answer { answer_to L.after L.why self.old Publish ≡ Ok (Published result) }
+        ensures after { self.new ≡ moved L.after self.old Publish }
     {
         let _known = self.turns.published();
         self.turns.publish()
@@ -179,11 +217,11 @@ impl<L: Live, A: Allocator + Copy> Floor<L, A> {
     /// had seen or heard of. What it shows is `board`. `None` where there is no session of that
     /// number; nothing has changed then.
     pub fn look(&mut self, session: usize) -> Option<u64>
-        ensures none { IfNone result (length self.old.machine.seen ≤ session) }
-        ensures session { IfSome result (λ _. session < length self.old.machine.seen) }
-        ensures count { IfSome result (λ count. count ≡ self.old.machine.published) }
-        ensures seen { IfSome result (λ count. seen_by self.old.machine session ≤ count) }
-        ensures after { MatchOption result (self.new ≡ self.old) (λ _. self.new ≡ record self.old { machine = moved self.old.machine (Look session) }) }
+        ensures none { IfNone result (length self.old.seen ≤ session) }
+        ensures session { IfSome result (λ _. session < length self.old.seen) }
+        ensures count { IfSome result (λ count. count ≡ published_count self.old) }
+        ensures seen { IfSome result (λ count. seen_by self.old session ≤ count) }
+        ensures after { MatchOption result (self.new ≡ self.old) (λ _. self.new ≡ moved L.after self.old (Look session)) }
     {
         if session >= self.seen.len() {
             return None;
@@ -193,9 +231,50 @@ impl<L: Live, A: Allocator + Copy> Floor<L, A> {
         Some(count)
     }
 
+    /// Makes the published content the opening content, and empties the journal, which frees its entries. Returns how many entries there are in all:
+    /// numbers continue. The published content, what each session has seen, and the content before the last publish do not change.
+    /// It needs the time of two copies of the state, and of applying the entries of the last publish once more.
+    ///
+    /// # Errors
+    /// `Unpublished` if not all entries are published; `NoMemory` if an allocation fails. Nothing changes then.
+    pub fn checkpoint(&mut self) -> Result<u64, StepFault>
+        ensures answer { IsTold (answer_to L.after L.why self.old Checkpoint) (checkpointed result) }
+        ensures ok { OnOk result (self.new ≡ moved L.after self.old Checkpoint) }
+        ensures err { OnErr result (self.new ≡ self.old) }
+    {
+        if !self.turns.all_published() {
+            return Err(StepFault::Unpublished);
+        }
+        let count = self.turns.published();
+        match self.turns.checkpoint() {
+            Ok(()) => Ok(count),
+            Err(NoMemory) => Err(StepFault::NoMemory),
+        }
+    }
+
+    /// Begins the journal over another state, which it publishes, and under another limit of entries. Numbers continue, and what each session has seen and
+    /// the content before the last publish do not change.
+    ///
+    /// # Errors
+    /// `Late` if the journal contains entries: right after a checkpoint it contains none. `NoMemory` if an allocation fails. Nothing
+    /// changes then.
+    pub fn reopen(&mut self, state: L, limit: usize) -> Result<(), ReopenFault>
+        ensures answer { Answers reopens.NoMemory (reopen_fault self.old) (record {}) result }
+        ensures ok { OnOk result (self.new ≡ reopened (L.content state) limit self.old) }
+        ensures err { OnErr result (self.new ≡ self.old) }
+    {
+        if !self.turns.journal().is_empty() {
+            return Err(ReopenFault::Late);
+        }
+        match self.turns.reopen(state, limit) {
+            Ok(()) => Ok(()),
+            Err(NoMemory) => Err(ReopenFault::NoMemory),
+        }
+    }
+
     fn hear(&mut self, session: usize, count: u64) -> Told<L::Why>
-        ensures answer { IsTold (answer_to L.after L.why self.old.opening self.old.limit self.old.machine (Hear session count)) result }
-        ensures ok { OnOk result (self.new ≡ record self.old { machine = moved self.old.machine (Hear session count) }) }
+        ensures answer { IsTold (answer_to L.after L.why self.old (Hear session count)) result }
+        ensures ok { OnOk result (self.new ≡ moved L.after self.old (Hear session count)) }
         ensures err { OnErr result (self.new ≡ self.old) }
     {
         if session >= self.seen.len() {
@@ -213,11 +292,11 @@ impl<L: Live, A: Allocator + Copy> Floor<L, A> {
     /// is answered with its reply, and changes nothing.
     ///
     /// # Errors
-    /// `NoSession`, `Ahead`, in this order; `NoMemory` where an allocation failed, which may take the
-    /// place of the reply that an edit is entered or that the state refuses it. Nothing has changed then.
+    /// `NoSession`, `Ahead`, in this order, `Unpublished`; `NoMemory` where an allocation failed, which may take the
+    /// place of the reply that an edit is entered or that the state refuses it, and of the answer to a checkpoint. Nothing has changed then.
     pub fn step(&mut self, event: Event<L::Edit>) -> Told<L::Why>
-        ensures answer { IsTold (answer_to L.after L.why self.old.opening self.old.limit self.old.machine event) result }
-        ensures ok { OnOk result (self.new ≡ stepped L.after L.why self.old event) }
+        ensures answer { IsTold (answer_to L.after L.why self.old event) result }
+        ensures ok { OnOk result (self.new ≡ machine_after L.after L.why self.old event) }
         ensures err { OnErr result (self.new ≡ self.old) }
     {
         match event {
@@ -231,14 +310,18 @@ impl<L: Live, A: Allocator + Copy> Floor<L, A> {
                 None => Err(StepFault::NoSession),
             },
             Event::Hear { session, count } => self.hear(session, count),
+            Event::Checkpoint => match self.checkpoint() {
+                Ok(count) => Ok(Answer::Checkpointed(count)),
+                Err(fault) => Err(fault),
+            },
         }
     }
 
     /// Takes an event, and answers it. There is no answer where memory ran out.
     fn take_step(&mut self, event: Event<L::Edit>) -> Option<Told<L::Why>>
-        ensures { MatchOption result ((self.new ≡ self.old) × MayWant (answer_to L.after L.why self.old.opening self.old.limit self.old.machine event)) (λ told.
-            (told ≡ answer_to L.after L.why self.old.opening self.old.limit self.old.machine event)
-            × (self.new ≡ stepped L.after L.why self.old event)) }
+        ensures { MatchOption result ((self.new ≡ self.old) × MayWant (answer_to L.after L.why self.old event)) (λ told.
+            (told ≡ answer_to L.after L.why self.old event)
+            × (self.new ≡ machine_after L.after L.why self.old event)) }
     {
         match self.step(event) {
             Err(StepFault::NoMemory) => None,
@@ -257,10 +340,10 @@ impl<L: Live, A: Allocator + Copy> Floor<L, A> {
         &mut self,
         events: Vec<Event<L::Edit>, A>,
     ) -> Result<Answers<L::Why, A>, Answers<L::Why, A>>
-        ensures answers { IfOk result (λ answers. answers.items ≡ answers_to L.after L.why self.old.opening self.old.limit self.old.machine events.items) }
-        ensures after { OnOk result (self.new ≡ played L.after L.why self.old events.items) }
-        ensures front { IfErr result (λ answers. answers.items ≡ answers_to L.after L.why self.old.opening self.old.limit self.old.machine (take (length answers.items) events.items)) }
-        ensures after_front { IfErr result (λ answers. self.new ≡ played L.after L.why self.old (take (length answers.items) events.items)) }
+        ensures answers { IfOk result (λ answers. answers.items ≡ answers_to L.after L.why self.old events.items) }
+        ensures after { OnOk result (self.new ≡ machine_run L.after L.why self.old events.items) }
+        ensures front { IfErr result (λ answers. answers.items ≡ answers_to L.after L.why self.old (take (length answers.items) events.items)) }
+        ensures after_front { IfErr result (λ answers. self.new ≡ machine_run L.after L.why self.old (take (length answers.items) events.items)) }
         ensures rest { IfErr result (λ answers. length answers.items < length events.items) }
         ensures stop { IfErr result (λ answers. (answers.items ≡ []) ⊎ StopsAt L.after L.why self.new (drop (length answers.items) events.items)) }
     {

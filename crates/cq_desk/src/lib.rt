@@ -8,10 +8,11 @@
 //! those pending or not yet handed over, are the journal's, authors included (`specs/Desk`).
 //!
 //! A [`Floor`] is a journal with two states that take turns, and several sessions look at it. It is proved against the floor
-//! machine (`specs/Machine`), which keeps a journal, a published count and what each session has seen,
-//! and no state: `Floor::play` says that after any list of events the answers and what is kept are
-//! those of the machine, `working` and `board` that the states have what the whole journal and its
-//! published front leave, and `looks_never_fall` that no session sees less than it had seen or heard of.
+//! machine (`specs/Machine`), which keeps a journal, counts and contents, and no state: `Floor::play` says that after
+//! any list of events the answers and what is kept are those of the machine, `working` and `board` that the states have
+//! what the whole journal and its published front leave, and `looks_never_fall` that no session sees less than it had seen
+//! or heard of. A checkpoint begins a new journal over what is published; `checkpoints_lose_nothing` says that the states
+//! then still have what all edits leave that were ever entered, and that numbers count them all.
 //!
 //! The crates above use two contracts of this one most. `Floor::step` answers an event as the floor
 //! machine does, and leaves the machine as that event leaves it. `Desk::submit` answers each edit as
@@ -36,9 +37,9 @@ mod turns;
 
 pub use desk::Desk;
 pub use event::{Answer, Event, StepFault};
-pub use floor::{Floor, FloorFault};
+pub use floor::{Floor, FloorFault, ReopenFault};
 pub use gate::{Checkpoint, Gate, OpenGate};
-pub use headline::looks_never_fall;
+pub use headline::{checkpoints_lose_nothing, looks_never_fall};
 pub use journal::Entry;
 pub use live::{Live, NoMemory};
 pub use plain::Plain;

@@ -11,15 +11,15 @@ use Rattle.cq_atom.specs.Edit.{Edit}
 use Rattle.cq_board.specs.declared.edit.Why.{Why}
 use Rattle.cq_board.specs.Edits.{why, pool_after}
 use Rattle.cq_board.specs.Pool.{PoolRecord}
-use Rattle.cq_desk.specs.declared.event.Event.TheVariants.{Enter}
+use Rattle.cq_desk.specs.declared.event.Event.TheVariants.{Enter, Checkpoint}
 use Rattle.cq_desk.specs.declared.event.Answer.{Answer}
-use Rattle.cq_desk.specs.declared.event.Answer.TheVariants.{Replied}
+use Rattle.cq_desk.specs.declared.event.Answer.TheVariants.{Replied, Checkpointed}
 use Rattle.cq_desk.specs.declared.event.StepFault.{StepFault}
-use Rattle.cq_desk.specs.declared.event.StepFault.TheVariants.{NoSession, Ahead, NoMemory}
+use Rattle.cq_desk.specs.declared.event.StepFault.TheVariants.{NoSession, Ahead, Unpublished, NoMemory}
 use Rattle.cq_desk.specs.declared.reply.Reply.{Reply}
 use Rattle.cq_desk.specs.declared.reply.Reply.TheVariants as replies
-use Rattle.cq_desk.specs.Machine.{answer_to}
-use Rattle.cq_desk.specs.Standing.{IsTold, replied, stepped}
+use Rattle.cq_desk.specs.Machine.{answer_to, machine_after, moved}
+use Rattle.cq_desk.specs.Standing.{IsTold, checkpointed, replied}
 use Rattle.std.specs.Option.{option_map}
 use Rattle.cq_ask.specs.declared.counts.Counts.{Counts}
 use Rattle.cq_ask.specs.Answer.{FloorRecord, IsTold as IsTextTold, IsToldOf, count_line, counts_of, published_pool}
@@ -38,10 +38,10 @@ use Rattle.cq_report.specs.declared.said.Said.{Said}
 use Rattle.cq_report.specs.declared.said.Said.TheVariants as saids
 use Rattle.cq_report.specs.declared.stage.Stage.TheVariants.{Setup, Serving}
 use Rattle.cq_report.specs.Reading.{Reading, Reads, Faulty, IsReading}
-use Rattle.cq_report.specs.Machine.{State, Staged, SetupRecord, ServingRecord, after, before_after, board_named, counted, declared, form_in, headed, next, numbered, opened, outcome, page_of, prepare, serving_of, shown, staged}
+use Rattle.cq_report.specs.Machine.{State, Staged, SetupRecord, ServingRecord, after, board_named, counted, declared, form_in, headed, next, numbered, opened, outcome, page_of, prepare, serving_of, shown, staged}
 use Rattle.cq_report.specs.Refusals.{tallied}
 use Rattle.cq_report.specs.Reply.{event_outcome, refusal, reply_outcome}
-use Rattle.cq_report.specs.Live.{Turn, Served as ReadsAs, Asked, IsTurn, MayStarve, is_done, turned, turn_reply}
+use Rattle.cq_report.specs.Live.{Turn, Served as ReadsAs, Renewed, Asked, IsTurn, MayStarve, is_done, turned, turn_reply}
 use Rattle.cq_report.specs.Steps.Serving.{IsLine, MayBeStarved}
 use Rattle.cq_report.specs.Steps.Turns.{TurnRecord, IsObeyed, IsRead, IsSaid, MayFail, IsPage, counts_page, plain_turn, staged_by, turn_bytes, turn_in}
 use Rattle.cq_report.proofs.Served.{same_starve, turn_of_line}
@@ -63,21 +63,21 @@ no_rows : (xs : List Declaration) (n : ℕ) → fold (λ count declared. count +
 no_rows [] n = refl
 no_rows (x ∷ xs) n = no_rows xs (n + 0) ∙ omega arith
 
-pub nothing_counted : (setup : SetupRecord) → (let none : Counts = record { queries = 0; matched = 0; waiting = 0; rows = 0; entries = 0; unpublished = 0 } in none) ≡ counts_of (opened setup)
+pub nothing_counted : (setup : SetupRecord) → (let none : Counts = record { queries = 0; matched = 0; waiting = 0; rows = 0; entries = 0; unpublished = 0; since = 0; relations = length setup.catalog; pool = setup.limits.pool; journal = setup.limits.journal } in none) ≡ counts_of (opened setup)
 nothing_counted setup =
-    ap (λ (n : ℕ). let counts : Counts = record { queries = 0; matched = 0; waiting = 0; rows = n; entries = 0; unpublished = 0 } in counts) (sym (no_rows setup.catalog 0))
+    ap (λ (n : ℕ). let counts : Counts = record { queries = 0; matched = 0; waiting = 0; rows = n; entries = 0; unpublished = 0; since = 0; relations = length setup.catalog; pool = setup.limits.pool; journal = setup.limits.journal } in counts) (sym (no_rows setup.catalog 0))
 
 -- ---- counts
 
-module _ (floor : FloorRecord) (before : ℕ) (ask : AskRecord) (is : kinds.Count ≡ ask.kind) where
-  counts_as_text : IsTextTold floor before ask (count_line (counts_of floor))
-  counts_as_text = subst (λ (kind : AskKind). IsToldOf floor (published_pool floor) before kind ask.names ask.text (count_line (counts_of floor))) is refl
+module _ (floor : FloorRecord) (ask : AskRecord) (is : kinds.Count ≡ ask.kind) where
+  counts_as_text : IsTextTold floor ask (count_line (counts_of floor))
+  counts_as_text = subst (λ (kind : AskKind). IsToldOf floor (published_pool floor) kind ask.names ask.text (count_line (counts_of floor))) is refl
 
-  counts_as_member : IsMember floor before ask (member_text (codes "count", count_json (counts_of floor)))
-  counts_as_member = ((codes "count", count_json (counts_of floor)), subst (λ (kind : AskKind). IsMemberOf floor (published_pool floor) before kind ask.names ask.text (codes "count", count_json (counts_of floor))) is refl, refl)
+  counts_as_member : IsMember floor ask (member_text (codes "count", count_json (counts_of floor)))
+  counts_as_member = ((codes "count", count_json (counts_of floor)), subst (λ (kind : AskKind). IsMemberOf floor (published_pool floor) kind ask.names ask.text (codes "count", count_json (counts_of floor))) is refl, refl)
 
   -- counts are the answer that is asked for
-  pub counts_told : (numbering : Numbering) → IsPage numbering floor before ask (counts_page numbering (counts_of floor))
+  pub counts_told : (numbering : Numbering) → IsPage numbering floor ask (counts_page numbering (counts_of floor))
   counts_told Plain = counts_as_text
   counts_told Numbered = counts_as_text
   counts_told Json = counts_as_member
@@ -95,6 +95,7 @@ no_page numbering pool (outcomes.Entered number) h = refl
 no_page numbering pool (outcomes.Published count) h = refl
 no_page numbering pool (outcomes.Shown count) h = absurd h
 no_page numbering pool (outcomes.Answered kind) h = refl
+no_page numbering pool (outcomes.Checkpointed count) h = refl
 no_page numbering pool outcomes.Quit h = refl
 no_page numbering pool (outcomes.Refused reason) h = refl
 
@@ -122,24 +123,49 @@ pageless_if true reply = tt
 pageless_if false reply = pageless_reply reply
 
 pub pageless_enter : (serving : ServingRecord) (author : ℕ) (edit : Edit) → IsPageless (outcome serving (Enter author edit))
-pageless_enter serving author edit = pageless_if (nat_le (length serving.machine.seen) author) _
+pageless_enter serving author edit = pageless_if (nat_le (length serving.seen) author) _
 
 -- ---- edits
 
 module _ (old new : ServingRecord) (edit : Edit) where
   abbrev the_answer : Result (Answer Why) StepFault
-  the_answer = answer_to pool_after why old.opening old.limit old.machine (Enter 0 edit)
+  the_answer = answer_to pool_after why old (Enter 0 edit)
 
   unmoved : (fault : StepFault) → the_answer ≡ Err fault → after old (Enter 0 edit) ≡ old
   unmoved fault is = rw is refl
 
   -- an edit that was entered or refused
-  pub entered_as : (reply : Result (Reply Why) StepFault) (o : Outcome) → IsTold the_answer (replied reply) → OnOk reply (new ≡ stepped pool_after why old (Enter 0 edit)) → OnErr reply (new ≡ old) → o ≡ event_outcome (replied reply) → reply ≢ Err NoMemory
+  pub entered_as : (reply : Result (Reply Why) StepFault) (o : Outcome) → IsTold the_answer (replied reply) → OnOk reply (new ≡ machine_after pool_after why old (Enter 0 edit)) → OnErr reply (new ≡ old) → o ≡ event_outcome (replied reply) → reply ≢ Err NoMemory
       → (new ≡ after old (Enter 0 edit)) × (o ≡ outcome old (Enter 0 edit))
   entered_as (Ok reply) o told ok err is some = (ok, is ∙ ap event_outcome (sym told))
   entered_as (Err NoSession) o told ok err is some = (err ∙ sym (unmoved NoSession told), is ∙ ap event_outcome (sym told))
   entered_as (Err Ahead) o told ok err is some = (err ∙ sym (unmoved Ahead told), is ∙ ap event_outcome (sym told))
+  entered_as (Err Unpublished) o told ok err is some = (err ∙ sym (unmoved Unpublished told), is ∙ ap event_outcome (sym told))
   entered_as (Err NoMemory) o told ok err is some = absurd (some refl)
+
+-- a checkpoint that was made or refused
+module _ (old new : ServingRecord) where
+  abbrev the_count : Result (Answer Why) StepFault
+  the_count = answer_to pool_after why old Checkpoint
+
+  stays : (fault : StepFault) → the_count ≡ Err fault → after old Checkpoint ≡ old
+  stays fault is = rw is refl
+
+  renews : (count : ℕ) → the_count ≡ Ok (Checkpointed count) → after old Checkpoint ≡ moved pool_after old Checkpoint
+  renews count is = rw is refl
+
+  pub checked_as : (count : Result ℕ StepFault) (o : Outcome) → IsTold the_count (checkpointed count) → OnOk count (new ≡ moved pool_after old Checkpoint) → OnErr count (new ≡ old) → o ≡ event_outcome (checkpointed count) → count ≢ Err NoMemory
+      → (new ≡ after old Checkpoint) × (o ≡ outcome old Checkpoint)
+  checked_as (Ok count) o told ok err is some = (ok ∙ sym (renews count told), is ∙ ap event_outcome (sym told))
+  checked_as (Err NoSession) o told ok err is some = (err ∙ sym (stays NoSession told), is ∙ ap event_outcome (sym told))
+  checked_as (Err Ahead) o told ok err is some = (err ∙ sym (stays Ahead told), is ∙ ap event_outcome (sym told))
+  checked_as (Err Unpublished) o told ok err is some = (err ∙ sym (stays Unpublished told), is ∙ ap event_outcome (sym told))
+  checked_as (Err NoMemory) o told ok err is some = absurd (some refl)
+
+-- no checkpoint was made where memory ran out
+pub not_checked : (count : Result ℕ StepFault) (P : Type 0) → count ≡ Err NoMemory → OnErr count P → P
+not_checked (Ok count) P is h = absurd cc
+not_checked (Err fault) P is h = h
 
 -- no edit was entered where memory ran out
 pub not_entered : (reply : Result (Reply Why) StepFault) (P : Type 0) → reply ≡ Err NoMemory → OnErr reply P → P
@@ -149,13 +175,13 @@ not_entered (Err fault) P is h = h
 -- ---- commands
 
 -- a command was obeyed, and its line counted
-pub obeyed : (old mid new : State) (said : Said AskRecord CommandContent) (command : CommandContent) (heading : Option Form) (before : ℕ) (o : Outcome) (turn : TurnRecord) → said ≡ saids.Says command
-    → heading ≡ headed old.heading (Reads command) → before ≡ before_after old (Reads command)
+pub obeyed : (manner : Manner) (old mid new : State) (said : Said AskRecord CommandContent) (command : CommandContent) (heading : Option Form) (o : Outcome) (turn : TurnRecord) → said ≡ saids.Says command
+    → heading ≡ headed old.heading (Reads command)
     → mid ≡ record old { stage = (staged old.stage old.heading (Reads command)).0 } → o ≡ (staged old.stage old.heading (Reads command)).1
-    → new ≡ record (counted mid) { heading = heading; before = before; tally = tallied mid.tally (mid.lines + 1) (refusal o) }
-    → turn ≡ turn_in old (Reads command) → IsObeyed old said new turn
-obeyed old mid new said command heading before o turn is h b m out n t = rw is (
-  n ∙ rw (m, out, h, b) refl,
+    → new ≡ record (counted mid) { heading = heading; tally = tallied mid.tally (mid.lines + 1) (refusal o) }
+    → turn ≡ turn_in old (Reads command) → IsObeyed manner old said new turn
+obeyed manner old mid new said command heading o turn is h m out n t = rw is (
+  inl (n ∙ rw (m, out, h) refl),
   t,
 )
 
@@ -174,20 +200,26 @@ pub record Told (manner : Manner) (state state' : State) (all : List ℕ) (turn 
   pub after : state' ≡ turned state one
   pub reply : numbered state.numbering state.lines (turn_bytes state.numbering turn) ≡ turn_reply state one
 
-pub told_by : (manner : Manner) (state state' : State) (line : Option (List ℕ)) (said : Said AskRecord CommandContent) (turn : TurnRecord) (all : List ℕ) → is_done manner state ≡ false → IsSaid manner (form_in state) line said → IsObeyed state said state' turn → IsLine line all
+pub told_by : (manner : Manner) (state state' : State) (line : Option (List ℕ)) (said : Said AskRecord CommandContent) (turn : TurnRecord) (all : List ℕ) → is_done manner state ≡ false → IsSaid manner (form_in state) line said → IsObeyed manner state said state' turn → IsLine line all
     → Told manner state state' all turn
-told_by manner state state' None said turn all on is obeys known = absurd (let lost = subst (λ (s : Said AskRecord CommandContent). IsObeyed state s state' turn) is obeys in lost)
+told_by manner state state' None said turn all on is obeys known = absurd (let lost = subst (λ (s : Said AskRecord CommandContent). IsObeyed manner state s state' turn) is obeys in lost)
 told_by manner state state' (Some line) (saids.Asks ask) turn all on is obeys known = record {
   one = Asked ask (turn_bytes state.numbering turn);
   is = turn_of_line manner state line all (Asked ask (turn_bytes state.numbering turn)) known (on, is, obeys.1);
   after = obeys.0;
   reply = refl;
 }
-told_by manner state state' (Some line) (saids.Says command) turn all on is obeys known = record {
+told_by manner state state' (Some line) (saids.Says command) turn all on is (inl same, told) known = record {
   one = ReadsAs (Reads command);
   is = turn_of_line manner state line all (ReadsAs (Reads command)) known (on, is.0, is.1);
-  after = obeys.0;
-  reply = ap (λ (t : TurnRecord). numbered state.numbering state.lines (turn_bytes state.numbering t)) obeys.1;
+  after = same;
+  reply = ap (λ (t : TurnRecord). numbered state.numbering state.lines (turn_bytes state.numbering t)) told;
+}
+told_by manner state state' (Some line) (saids.Says command) turn all on is (inr kept, told) known = record {
+  one = Renewed (Reads command);
+  is = turn_of_line manner state line all (Renewed (Reads command)) known (on, kept.0, is.0, is.1, kept.1);
+  after = kept.2;
+  reply = ap (λ (t : TurnRecord). numbered state.numbering state.lines (turn_bytes state.numbering t)) told;
 }
 told_by manner state state' (Some line) (saids.Faulty kind at) turn all on is obeys known = record {
   one = ReadsAs (Faulty kind at);
@@ -222,6 +254,7 @@ kind_wants kinds.Groups h = refl
 kind_wants kinds.Changes h = refl
 kind_wants kinds.Graph h = refl
 kind_wants kinds.Json h = refl
+kind_wants kinds.Checkpoint h = absurd cc
 kind_wants kinds.Help h = refl
 kind_wants kinds.Quit h = absurd cc
 kind_wants kinds.Unfit h = refl
@@ -238,8 +271,9 @@ pub record Heeds (state state' : State) (line : List ℕ) (turn : TurnRecord) : 
   pub after : state' ≡ next state reading
   pub told : turn ≡ turn_in state reading
 
-pub heeds_by : (state state' : State) (line : List ℕ) (said : Said AskRecord CommandContent) (turn : TurnRecord) → IsRead (form_in state) line said → IsObeyed state said state' turn → Heeds state state' line turn
-heeds_by state state' line (saids.Asks ask) turn is obeys = absurd is
-heeds_by state state' line (saids.Says command) turn is obeys = record { reading = Reads command; is = is; after = obeys.0; told = obeys.1 }
-heeds_by state state' line (saids.Faulty kind at) turn is obeys = record { reading = Faulty kind at; is = is; after = obeys.0; told = obeys.1 }
-heeds_by state state' line saids.Lost turn is obeys = absurd obeys
+pub heeds_by : (manner : Manner) (state state' : State) (line : List ℕ) (said : Said AskRecord CommandContent) (turn : TurnRecord) → (manner ≡ manners.Live → ⊥) → IsRead (form_in state) line said → IsObeyed manner state said state' turn → Heeds state state' line turn
+heeds_by manner state state' line (saids.Asks ask) turn script is obeys = absurd is
+heeds_by manner state state' line (saids.Says command) turn script is (inl same, told) = record { reading = Reads command; is = is; after = same; told = told }
+heeds_by manner state state' line (saids.Says command) turn script is (inr kept, told) = absurd (script kept.0)
+heeds_by manner state state' line (saids.Faulty kind at) turn script is obeys = record { reading = Faulty kind at; is = is; after = obeys.0; told = obeys.1 }
+heeds_by manner state state' line saids.Lost turn script is obeys = absurd obeys

@@ -24,7 +24,7 @@ use Rattle.cq_report.specs.Reply.{refusal}
 use Rattle.cq_report.specs.Machine.{State, begin_state, form_of, headed, next, reply, staged}
 use Rattle.cq_report.specs.Output.{AreReadFrom, AreReadings, Heard, IsRefusedLast, output, output_from, state_after, left_in, left_after}
 use Rattle.cq_report.specs.Run.{WroteWholeLines, WroteFirstLines, WroteFront}
-use Rattle.cq_report.specs.Live.{Turn, Served as ReadsAs, Asked, OutOfMemory, Unheard, AreTurns, is_done, state_turned, replies_to}
+use Rattle.cq_report.specs.Live.{Turn, Served as ReadsAs, Renewed, Asked, OutOfMemory, Unheard, AreTurns, is_done, state_turned, replies_to}
 use Rattle.cq_report.specs.Steps.Writing.{Passes-cut, TakesFront-more}
 use Rattle.cq_report.specs.Steps.Written.{Puts}
 use Rattle.cq_report.specs.Steps.Serving.{Served, Finished, ServedOut, BrokeOff, BrokeDown, RanOut, Stopped}
@@ -122,6 +122,7 @@ all_unheard manner state [] [] over h = (refl, refl)
 all_unheard manner state [] (t ∷ turns) over h = absurd h
 all_unheard manner state (l ∷ lines) [] over h = absurd h
 all_unheard manner state (l ∷ lines) (ReadsAs r ∷ turns) over h = absurd (let on = h.0.0 in cc)
+all_unheard manner state (l ∷ lines) (Renewed r ∷ turns) over h = absurd (let on = h.0.0 in cc)
 all_unheard manner state (l ∷ lines) (Asked ask told ∷ turns) over h = absurd (let on = h.0.0 in cc)
 all_unheard manner state (l ∷ lines) (OutOfMemory ∷ turns) over h = absurd (let on = h.0.0 in cc)
 all_unheard manner state (l ∷ lines) (Unheard ∷ turns) over h = all_unheard manner state lines turns over h.1
@@ -153,6 +154,7 @@ heeded is_strict state (l ∷ lines) (ReadsAs r ∷ turns) h = let more = heeded
   ends = more.ends;
   clean = λ strict clean. more.clean strict (clean_next is_strict state r strict h.0.0 clean);
 }
+heeded is_strict state (l ∷ lines) (Renewed r ∷ turns) h = absurd (let never = h.0.1 in cc)
 heeded is_strict state (l ∷ lines) (Asked ask told ∷ turns) h = absurd (let never = h.0.1 in cc)
 heeded is_strict state (l ∷ lines) (OutOfMemory ∷ turns) h = absurd (let never = h.0.1 in cc)
 heeded is_strict state (l ∷ lines) (Unheard ∷ turns) h = let all = all_unheard (Script is_strict) state lines turns h.0 h.1 in record {

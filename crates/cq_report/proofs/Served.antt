@@ -14,7 +14,7 @@ use Rattle.cq_report.specs.declared.manner.Manner.TheVariants as manners
 use Rattle.cq_report.specs.Lines.{lines_of, whole_lines, HasNoEnd}
 use Rattle.cq_report.specs.Reading.{IsReading}
 use Rattle.cq_report.specs.Machine.{State, form_in}
-use Rattle.cq_report.specs.Live.{Turn, Served as ReadsAs, Asked, OutOfMemory, Unheard, IsTurn, AreTurns, MayStarve, asked_in, is_done, line_room, turned, turn_reply, state_turned, replies_to}
+use Rattle.cq_report.specs.Live.{Turn, Served as ReadsAs, Renewed, Asked, OutOfMemory, Unheard, IsTurn, AreTurns, MayStarve, asked_in, is_done, line_room, turned, turn_reply, state_turned, replies_to}
 use Rattle.cq_report.specs.Steps.Kept.{kept}
 use Rattle.cq_report.specs.Steps.Written.{Puts, Breaks, Fails}
 use Rattle.cq_report.specs.Steps.Writing.{Puts-nothing, Puts-then, Puts-breaks}
@@ -117,6 +117,13 @@ turn_of_line manner state line all (ReadsAs reading) e i = (
   i.0,
   sym (same_asked manner line all e) ∙ i.1,
   IsReading-whole (form_in state) all reading (subst (λ (l : List ℕ). IsReading (form_in state) l reading) e (IsReading-kept (form_in state) line reading i.2)),
+)
+turn_of_line manner state line all (Renewed reading) e i = (
+  i.0,
+  i.1,
+  sym (same_asked manner line all e) ∙ i.2,
+  IsReading-whole (form_in state) all reading (subst (λ (l : List ℕ). IsReading (form_in state) l reading) e (IsReading-kept (form_in state) line reading i.3)),
+  i.4,
 )
 turn_of_line manner state line all (Asked ask told) e i = (i.0, sym (same_asked manner line all e) ∙ i.1, i.2)
 turn_of_line manner state line all OutOfMemory e i = (i.0, i.1, same_starve line all e i.2)

@@ -1,5 +1,5 @@
 -- What is written for lines that are answered one at a time, and what an allocation that fails leaves. (this project's profile)
-use Rattle.std.specs.Prelude.{◌≡◌, ◌≤◌, ◌<◌, ◌+◌, ◌^◌, ◌⊎◌, ◌&&◌, ℕ, Bool, List, [], ◌∷◌, ◌++◌, length, Option, Some, None, true, false, ⊤}
+use Rattle.std.specs.Prelude.{◌≡◌, ◌≤◌, ◌<◌, ◌+◌, ◌^◌, ◌⊎◌, ◌&&◌, ℕ, nat_le, Bool, List, [], ◌∷◌, ◌++◌, length, Option, Some, None, true, false, ⊤}
 use Rattle.std.specs.Option.{is_some}
 use Rattle.std.specs.Io.KnownBytes.{Appends, Consumes}
 use Rattle.cq_devices.specs.Device.{TakesFront}
@@ -10,8 +10,9 @@ use Rattle.cq_report.specs.Lines.{lines_of, whole_lines}
 use Rattle.cq_report.specs.Reading.{Reading, IsReading}
 use Rattle.cq_report.specs.declared.outcome.Outcome.TheVariants.{Refused}
 use Rattle.cq_report.specs.declared.refusal.Refusal.TheVariants.{Memory}
-use Rattle.cq_report.specs.Machine.{State, form_in, next, counted, numbered, spoken, reply, begin_state, serving_of}
-use Rattle.cq_ask.specs.Ask.{AskRecord, asked, is_quit}
+use Rattle.cq_desk.specs.declared.event.Event.TheVariants as events
+use Rattle.cq_report.specs.Machine.{State, Staged, form_in, next, counted, numbered, spoken, reply, begin_life, happen, outcome, serving_of}
+use Rattle.cq_ask.specs.Ask.{AskRecord, asked, is_checkpoint, is_quit}
 use Rattle.cq_ask.specs.declared.ask.AskKind.{AskKind}
 use Rattle.cq_ask.specs.declared.ask.AskKind.TheVariants as kinds
 use Rattle.cq_ask.specs.Answer.{FloorRecord, IsTold, ending}
@@ -21,9 +22,11 @@ use Rattle.cq_report.specs.declared.manner.Manner.TheVariants as manners
 use Rattle.cq_report.specs.declared.numbering.Numbering.{Numbering}
 use Rattle.cq_report.specs.declared.numbering.Numbering.TheVariants.{Plain, Numbered, Json}
 
--- What comes of a line: it is served as it is read; or it asks, and this is told; or an allocation failed; or the board is over, and does not hear it.
+-- What comes of a line: it is served as it is read; or it is, and then a checkpoint is made that is due; or it asks, and this is told; or an allocation
+-- failed; or the board is over, and does not hear it.
 pub data Turn : Type 0 where
   Served : Reading → Turn
+  Renewed : Reading → Turn
   Asked : AskRecord → List ℕ → Turn
   OutOfMemory : Turn
   Unheard : Turn
@@ -33,14 +36,27 @@ abbrev pub memory_told : Numbering → List ℕ
 memory_told numbering = spoken numbering (Refused Memory) []
 
 -- What is asked is answered in lines.
-abbrev pub IsAnswer : FloorRecord → ℕ → AskRecord → List ℕ → Type 0
-IsAnswer floor before ask told = (text : List ℕ) × IsTold floor before ask text × (told ≡ text ++ ending ask.kind)
+abbrev pub IsAnswer : FloorRecord → AskRecord → List ℕ → Type 0
+IsAnswer floor ask told = (text : List ℕ) × IsTold floor ask text × (told ≡ text ++ ending ask.kind)
 
 -- What is asked is answered, in lines, or by a member of a JSON object.
-abbrev pub IsAskTold : Numbering → FloorRecord → ℕ → AskRecord → List ℕ → Type 0
-IsAskTold Plain floor before ask told = IsAnswer floor before ask told
-IsAskTold Numbered floor before ask told = IsAnswer floor before ask told
-IsAskTold Json floor before ask told = IsMember floor before ask told
+abbrev pub IsAskTold : Numbering → FloorRecord → AskRecord → List ℕ → Type 0
+IsAskTold Plain floor ask told = IsAnswer floor ask told
+IsAskTold Numbered floor ask told = IsAnswer floor ask told
+IsAskTold Json floor ask told = IsMember floor ask told
+
+-- A checkpoint that is asked for is answered as the floor answers it; anything else is told, and changes nothing.
+abbrev pub IsSettled : Bool → Numbering → FloorRecord → AskRecord → List ℕ → Type 0
+IsSettled true numbering floor ask told = told ≡ spoken numbering (outcome floor events.Checkpoint) []
+IsSettled false numbering floor ask told = IsAskTold numbering floor ask told
+
+-- The board after a checkpoint that may be refused.
+abbrev pub renewed : State → State
+renewed state = record state { stage = (happen state.stage events.Checkpoint).0 }
+
+-- A checkpoint is due: so many entries were entered since the last one, and all are published. None ever is where that number is 0.
+abbrev pub is_due : State → Bool
+is_due state = nat_le 1 state.every && (nat_le state.every (length (serving_of state.stage).journal) && nat_le (length (serving_of state.stage).journal) (serving_of state.stage).published)
 
 -- What is asked needs memory to be told, unless it is counts, or that no further line is heard.
 abbrev pub needs_memory : AskKind → Bool
@@ -66,23 +82,33 @@ line_room = 64
 abbrev pub MayStarve : List ℕ → Type 0
 MayStarve line = (line_room < length line) ⊎ ((ask : AskRecord) → asked line ≡ Some ask → needs_memory ask.kind ≡ true)
 
--- A line that does not ask is served as it is read in this state; one that asks has an answer of what is published. If an allocation fails, only a script ends.
+-- A line that does not ask is served as it is read in this state; one that asks has an answer of what is published. If an allocation fails, only a script
+-- ends. A live board makes a checkpoint that is due, unless an allocation fails: then it is due after later lines too.
 abbrev pub IsTurn : Manner → State → List ℕ → Turn → Type 0
 IsTurn manner state line (Served reading) = (is_done manner state ≡ false) × (asked_in manner line ≡ None) × IsReading (form_in state) line reading
-IsTurn manner state line (Asked ask told) = (is_done manner state ≡ false) × (asked_in manner line ≡ Some ask) × IsAskTold state.numbering (serving_of state.stage) state.before ask told
+IsTurn manner state line (Renewed reading) = (is_done manner state ≡ false) × (manner ≡ manners.Live) × (asked_in manner line ≡ None) × IsReading (form_in state) line reading × (is_due (next state reading) ≡ true)
+IsTurn manner state line (Asked ask told) = (is_done manner state ≡ false) × (asked_in manner line ≡ Some ask) × IsSettled (is_checkpoint ask.kind) state.numbering (serving_of state.stage) ask told
 IsTurn manner state line OutOfMemory = (is_done manner state ≡ false) × (manner ≡ manners.Live) × MayStarve line
 IsTurn manner state line Unheard = is_done manner state ≡ true
 
--- The board after a line. One that asks changes nothing, but that it is counted, and that the board may be over; one at which an allocation failed is counted alone.
+-- The stage after what is asked: only a checkpoint changes it.
+abbrev pub stage_asked : Bool → Staged → Staged
+stage_asked true stage = (happen stage events.Checkpoint).0
+stage_asked false stage = stage
+
+-- The board after a line. One that asks for no checkpoint changes nothing, but that it is counted, and that the board may be over; one at which an allocation
+-- failed is counted alone.
 abbrev pub turned : State → Turn → State
 turned state (Served reading) = next state reading
-turned state (Asked ask told) = record (counted state) { is_over = is_quit ask.kind }
+turned state (Renewed reading) = renewed (next state reading)
+turned state (Asked ask told) = record (counted state) { stage = stage_asked (is_checkpoint ask.kind) state.stage; is_over = is_quit ask.kind }
 turned state OutOfMemory = counted state
 turned state Unheard = state
 
 -- The reply to a line.
 abbrev pub turn_reply : State → Turn → List ℕ
 turn_reply state (Served reading) = reply state reading
+turn_reply state (Renewed reading) = reply state reading
 turn_reply state (Asked ask told) = numbered state.numbering state.lines told
 turn_reply state OutOfMemory = numbered state.numbering state.lines (memory_told state.numbering)
 turn_reply state Unheard = []
@@ -107,46 +133,46 @@ replies_to state (turn ∷ turns) = turn_reply state turn ++ replies_to (turned 
 -- ---- what a life leaves after
 
 -- The replies to these lines were written, and nothing else.
-pub record Answered (numbering : Numbering) (lines : List (List ℕ)) (taken taken' : Option (List ℕ)) : Type 0 where
+pub record Answered (numbering : Numbering) (every : ℕ) (lines : List (List ℕ)) (taken taken' : Option (List ℕ)) : Type 0 where
   pub turns : List Turn
-  pub are : AreTurns manners.Live (begin_state numbering) lines turns
-  pub wrote : Appends taken taken' (replies_to (begin_state numbering) turns)
+  pub are : AreTurns manners.Live (begin_life numbering every) lines turns
+  pub wrote : Appends taken taken' (replies_to (begin_life numbering every) turns)
 
 -- All that was read is this: bytes after whose whole lines the board was not over, and the piece that the last read brought. The replies to all lines of both were written.
-pub record ReadNoFurther (numbering : Numbering) (left left' taken taken' : Option (List ℕ)) : Type 0 where
+pub record ReadNoFurther (numbering : Numbering) (every : ℕ) (left left' taken taken' : Option (List ℕ)) : Type 0 where
   pub before : List ℕ
   pub piece : List ℕ
   pub read : Consumes left left' (before ++ piece)
   pub small : length piece ≤ max_piece
   pub turns : List Turn
-  pub are : AreTurns manners.Live (begin_state numbering) (whole_lines before) turns
-  pub goes_on : (state_turned (begin_state numbering) turns).is_over ≡ false
+  pub are : AreTurns manners.Live (begin_life numbering every) (whole_lines before) turns
+  pub goes_on : (state_turned (begin_life numbering every) turns).is_over ≡ false
   pub more : List Turn
-  pub all : AreTurns manners.Live (begin_state numbering) (lines_of (before ++ piece)) (turns ++ more)
-  pub wrote : Appends taken taken' (replies_to (begin_state numbering) (turns ++ more))
+  pub all : AreTurns manners.Live (begin_life numbering every) (lines_of (before ++ piece)) (turns ++ more)
+  pub wrote : Appends taken taken' (replies_to (begin_life numbering every) (turns ++ more))
 
 -- Bytes were read, and the replies to their whole lines were written.
-pub record AnsweredWhole (numbering : Numbering) (left left' taken taken' : Option (List ℕ)) : Type 0 where
+pub record AnsweredWhole (numbering : Numbering) (every : ℕ) (left left' taken taken' : Option (List ℕ)) : Type 0 where
   pub bytes : List ℕ
   pub read : Consumes left left' bytes
-  pub answered : Answered numbering (whole_lines bytes) taken taken'
+  pub answered : Answered numbering every (whole_lines bytes) taken taken'
 
 -- Bytes were read, and a front of the replies to some first lines of them was written.
-pub record AnsweredFront (numbering : Numbering) (left left' taken taken' : Option (List ℕ)) : Type 0 where
+pub record AnsweredFront (numbering : Numbering) (every : ℕ) (left left' taken taken' : Option (List ℕ)) : Type 0 where
   pub bytes : List ℕ
   pub read : Consumes left left' bytes
   pub lines : List (List ℕ)
   pub more : List (List ℕ)
   pub cut : lines_of bytes ≡ lines ++ more
   pub turns : List Turn
-  pub are : AreTurns manners.Live (begin_state numbering) lines turns
-  pub wrote : TakesFront taken taken' (replies_to (begin_state numbering) turns)
+  pub are : AreTurns manners.Live (begin_life numbering every) lines turns
+  pub wrote : TakesFront taken taken' (replies_to (begin_life numbering every) turns)
 
 -- What is known after a fault: after one of reading all whole lines are answered, and where there was no memory to begin with nothing was read or written.
-abbrev pub Leaves : Numbering → Stop → (left left' taken taken' : Option (List ℕ)) → Type 0
-Leaves numbering (faults.Read turn) left left' taken taken' = AnsweredWhole numbering left left' taken taken'
-Leaves numbering faults.Write left left' taken taken' = AnsweredFront numbering left left' taken taken'
-Leaves numbering faults.NoMemory left left' taken taken' = (left' ≡ left) × (taken' ≡ taken)
+abbrev pub Leaves : Numbering → ℕ → Stop → (left left' taken taken' : Option (List ℕ)) → Type 0
+Leaves numbering every (faults.Read turn) left left' taken taken' = AnsweredWhole numbering every left left' taken taken'
+Leaves numbering every faults.Write left left' taken taken' = AnsweredFront numbering every left left' taken taken'
+Leaves numbering every faults.NoMemory left left' taken taken' = (left' ≡ left) × (taken' ≡ taken)
 
 -- The most reads of one life.
 abbrev pub max_live_reads : ℕ

@@ -13,8 +13,7 @@ use Rattle.cq_atom.specs.Edit.{Edit}
 use Rattle.cq_board.specs.Edits.{why, pool_after}
 use Rattle.cq_desk.specs.declared.event.Event.{Event}
 use Rattle.cq_desk.specs.declared.event.Event.TheVariants as events
-use Rattle.cq_desk.specs.Machine.{opening_machine, answer_to, published_content}
-use Rattle.cq_desk.specs.Standing.{StandingRecord, stepped}
+use Rattle.cq_desk.specs.Machine.{MachineRecord, opening_machine, answer_to, machine_after, published_content}
 use Rattle.json.specs.Print.{print}
 use Rattle.json.specs.Tree.{json_tokens}
 use Rattle.cq_render.specs.Json.{json_of}
@@ -26,7 +25,7 @@ use Rattle.cq_report.specs.declared.stage.Stage.{Stage}
 use Rattle.cq_report.specs.declared.stage.Stage.TheVariants.{Setup, Serving}
 use Rattle.cq_report.specs.Reading.{Reading, Reads, Faulty}
 use Rattle.cq_report.specs.declared.outcome.Outcome.{Outcome}
-use Rattle.cq_report.specs.declared.outcome.Outcome.TheVariants.{Silent, Accepted, Entered, Published, Shown, Answered, Quit, Refused}
+use Rattle.cq_report.specs.declared.outcome.Outcome.TheVariants.{Silent, Accepted, Entered, Published, Shown, Answered, Checkpointed, Quit, Refused}
 use Rattle.cq_report.specs.declared.refusal.Refusal.TheVariants.{Text, Late, Catalog}
 use Rattle.cq_report.specs.Reply.{event_outcome, outcome_line, outcome_end, refusal}
 use Rattle.cq_report.specs.Data.{outcome_members}
@@ -38,22 +37,22 @@ pub record SetupRecord : Type 0 where
   pub catalog : List Declaration
   pub limits : Limits
 
--- A floor over a pool: the opening pool, how many entries the journal may hold, and the floor machine.
+-- The floor machine over pools.
 abbrev pub ServingRecord : Type 0
-ServingRecord = StandingRecord PoolRecord Edit
+ServingRecord = MachineRecord PoolRecord Edit
 
 -- A script is in its setup, or the floor serves it.
 abbrev pub Staged : Type 0
 Staged = Stage SetupRecord ServingRecord
 
--- How replies are numbered, and how many lines came before; which form a script is in, once a line was read that is not blank; what serves its lines; how
--- many entries were published before the last publish; which lines were refused; and whether no further line is heard.
+-- How replies are numbered, and how many lines came before; which form a script is in, once a line was read that is not blank; what serves its lines; after
+-- how many entries since the last checkpoint one is due, if ever; which lines were refused; and whether no further line is heard.
 pub record State : Type 0 where
   pub numbering : Numbering
   pub lines : ℕ
   pub heading : Option Form
   pub stage : Staged
-  pub before : ℕ
+  pub every : ℕ
   pub tally : Tally
   pub is_over : Bool
 
@@ -65,9 +64,13 @@ begin_setup = record { catalog = []; limits = record { pool = pool_limit; journa
 abbrev pub begin_stage : Staged
 begin_stage = Setup begin_setup
 
--- Before the first line.
+-- Before the first line of a live board, which makes a checkpoint after so many entries, or none by itself where that is 0.
+abbrev pub begin_life : Numbering → ℕ → State
+begin_life numbering every = record { numbering = numbering; lines = 0; heading = None; stage = begin_stage; every = every; tally = no_refusal; is_over = false }
+
+-- Before the first line of a script.
 abbrev pub begin_state : Numbering → State
-begin_state numbering = record { numbering = numbering; lines = 0; heading = None; stage = begin_stage; before = 0; tally = no_refusal; is_over = false }
+begin_state numbering = begin_life numbering 0
 
 -- ---- the form
 
@@ -123,7 +126,7 @@ prepare (Serving serving) heading line = (Serving serving, Refused Late)
 
 -- What a setup opens: a floor with one session, over the relations and under the limits, without rows, queries and entries.
 abbrev pub opened : SetupRecord → ServingRecord
-opened setup = record { opening = opening_pool setup.catalog setup.limits; limit = setup.limits.journal; machine = opening_machine 1 }
+opened setup = opening_machine (opening_pool setup.catalog setup.limits) setup.limits.journal 1
 
 -- The floor to which an event comes: where the setup lasts, the event ends it.
 abbrev pub serving_of : Staged → ServingRecord
@@ -132,15 +135,15 @@ serving_of (Serving serving) = serving
 
 -- The floor after an event.
 abbrev pub after : ServingRecord → Event Edit → ServingRecord
-after = stepped pool_after why
+after = machine_after pool_after why
 
 -- The pool that a look shows: what the published front of the journal leaves.
 abbrev pub shown : ServingRecord → PoolRecord
-shown serving = published_content pool_after serving.opening serving.machine
+shown serving = published_content pool_after serving
 
 -- What comes of an event.
 abbrev pub outcome : ServingRecord → Event Edit → Outcome
-outcome serving event = event_outcome (answer_to pool_after why serving.opening serving.limit serving.machine event)
+outcome serving event = event_outcome (answer_to pool_after why serving event)
 
 -- An event of the one session, whose number is 0.
 abbrev pub happen : Staged → Event Edit → Staged × Outcome
@@ -171,6 +174,7 @@ page_of numbering pool (Entered number) = []
 page_of numbering pool (Published count) = []
 page_of numbering pool (Shown count) = board_page numbering count pool
 page_of numbering pool (Answered kind) = []
+page_of numbering pool (Checkpointed count) = []
 page_of numbering pool Quit = []
 page_of numbering pool (Refused why) = []
 
@@ -198,14 +202,9 @@ numbered Numbered before [] = []
 numbered Numbered before (b ∷ bs) = decimal (before + 1) ++ codes ": " ++ b ∷ bs
 numbered Json before bytes = codes "{\"line\":" ++ decimal (before + 1) ++ bytes ++ codes "}\n"
 
--- How many entries were published before the last publish, after a line.
-abbrev pub before_after : State → Reading → ℕ
-before_after state (Reads commands.Publish) = (serving_of state.stage).machine.published
-before_after state reading = state.before
-
 -- The state after a line that is not counted yet.
 abbrev pub served : State → Reading → State
-served state reading = record state { heading = headed state.heading reading; stage = (staged state.stage state.heading reading).0; before = before_after state reading }
+served state reading = record state { heading = headed state.heading reading; stage = (staged state.stage state.heading reading).0 }
 
 -- One line more came.
 abbrev pub counted : State → State

@@ -11,7 +11,7 @@ use Rattle.cq_board.specs.declared.edit.Why.TheVariants as whys
 use Rattle.cq_report.specs.declared.refusal.Place.{Place}
 use Rattle.cq_report.specs.declared.refusal.Place.TheVariants.{Byte, Atom}
 use Rattle.cq_report.specs.declared.refusal.Refusal.{Refusal}
-use Rattle.cq_report.specs.declared.refusal.Refusal.TheVariants.{Text, Late, Catalog, Pool, JournalFull, Memory}
+use Rattle.cq_report.specs.declared.refusal.Refusal.TheVariants.{Text, Late, Catalog, Pool, JournalFull, Unpublished, Memory}
 use Rattle.cq_report.specs.declared.tally.Refused.{Refused}
 use Rattle.cq_report.specs.declared.tally.Tally.{Tally}
 
@@ -73,6 +73,7 @@ refusal_parts Late = just (codes "Late")
 refusal_parts (Catalog fault) = just (catalog_word fault)
 refusal_parts (Pool why) = why_parts why
 refusal_parts JournalFull = just (codes "JournalFull")
+refusal_parts Unpublished = just (codes "Unpublished")
 refusal_parts Memory = just (codes "Memory")
 
 -- ---- in words

@@ -10,7 +10,7 @@ use Rattle.cq_report.specs.Refusals.{refusal_words}
 
 -- How many edits were entered and are not published.
 abbrev pub unpublished : ServingRecord → ℕ
-unpublished floor = length floor.machine.journal - floor.machine.published
+unpublished floor = length floor.journal - floor.published
 
 -- So many, with the word for one or that for more.
 abbrev pub so_many : ℕ → List ℕ → List ℕ → List ℕ

@@ -2,13 +2,15 @@
 
 ghost use Rattle.std.specs.Prelude.{◌≡◌, true, string_bytes, OnErr, IfOk};
 ghost use Rattle.cq_report.specs.declared.stage.Stage.TheVariants.{Serving};
-ghost use Rattle.cq_desk.specs.declared.event.Event.TheVariants.{Enter, Look, Publish};
-ghost use Rattle.cq_report.specs.Live.{IsAskTold, needs_memory};
+ghost use Rattle.cq_desk.specs.declared.event.Event.TheVariants.{Checkpoint, Enter, Look, Publish};
+ghost use Rattle.cq_report.specs.Live.{IsAskTold, IsSettled, is_due, needs_memory, renewed, stage_asked};
+ghost use Rattle.cq_ask.specs.Ask.{is_checkpoint};
 ghost use Rattle.cq_ask.specs.Answer.{counts_of};
 ghost use Rattle.cq_report.specs.Machine.{happen, opened, prepare, serving_of};
-ghost use Rattle.cq_report.specs.Steps.Turns.{IsPage, turn_after, turn_bytes};
+ghost use Rattle.cq_report.specs.Steps.Turns.{IsKeptUp, IsPage, turn_after, turn_bytes};
 
-use crate::floors::{BoardFloor, SESSION, entered, look, open};
+use crate::floors::{BoardFloor, SESSION, checkpointed, entered, look, open};
+use crate::manner::Manner;
 use crate::numbering::Numbering;
 use crate::outcome::{Outcome, Turn};
 use crate::refusal::Refusal;
@@ -21,29 +23,18 @@ use cq_text::SetupLine;
 use std::alloc::{AllocError, Allocator};
 use std::mem;
 
-/// The counts of a board at which nothing has happened.
-const NO_COUNTS: Counts = Counts {
-    queries: 0,
-    matched: 0,
-    waiting: 0,
-    rows: 0,
-    entries: 0,
-    unpublished: 0,
-};
-
 /// Returns the answer to a question about a floor, in lines or as a member of a JSON object.
 fn page_of<A: Allocator + Copy>(
     alloc: A,
     numbering: Numbering,
     floor: &BoardFloor<A>,
-    before: u64,
     ask: &Ask<A>,
 ) -> Result<String<A>, AllocError>
-    ensures { IfOk result (λ page. IsPage numbering floor.now before ask.now (string_bytes page)) }
+    ensures { IfOk result (λ page. IsPage numbering floor.now ask.now (string_bytes page)) }
 {
     match numbering {
-        Numbering::Json => tell_data(alloc, floor, before, ask),
-        Numbering::Plain | Numbering::Numbered => tell(alloc, floor, before, ask),
+        Numbering::Json => tell_data(alloc, floor, ask),
+        Numbering::Plain | Numbering::Numbered => tell(alloc, floor, ask),
     }
 }
 
@@ -131,16 +122,68 @@ impl<A: Allocator + Copy> Script<A> {
         }
     }
 
+    /// Makes a checkpoint of the board that the setup opens.
+    #[cold]
+    #[inline(never)]
+    fn checkpoint_first(&mut self, setup: Setup<A>) -> Result<Outcome, AllocError>
+        requires { serving_of self.old.stage ≡ opened setup }
+        ensures state { IfOk result (λ outcome. self.new ≡ renewed self.old) }
+        ensures outcome { IfOk result (λ outcome. outcome ≡ (happen self.old.stage Checkpoint).1) }
+        ensures err { OnErr result (self.new ≡ self.old) }
+    {
+        let mut floor = open(self.alloc, setup)?;
+        let outcome = checkpointed(floor.checkpoint())?;
+        self.serve_on(floor);
+        Ok(outcome)
+    }
+
+    /// Makes a checkpoint if all entries are published, and returns the outcome.
+    pub(crate) fn checkpoint(&mut self) -> Result<Outcome, AllocError>
+        ensures state { IfOk result (λ outcome. self.new ≡ renewed self.old) }
+        ensures outcome { IfOk result (λ outcome. outcome ≡ (happen self.old.stage Checkpoint).1) }
+        ensures err { OnErr result (self.new ≡ self.old) }
+    {
+        match &mut self.stage {
+            Stage::Serving(floor) => checkpointed(floor.checkpoint()),
+            Stage::Setup(setup) => {
+                let setup = setup.copy()?;
+                self.checkpoint_first(setup)
+            }
+        }
+    }
+
+    /// Returns true if a checkpoint is due.
+    fn is_due(&self) -> bool
+        ensures { result ≡ is_due self.now }
+    {
+        match &self.stage {
+            Stage::Serving(floor) => {
+                let since = floor.journal().len() as u64;
+                self.every >= 1 && since >= self.every && floor.unpublished_count() == 0
+            }
+            Stage::Setup(_) => false,
+        }
+    }
+
+    /// Makes a checkpoint if one is due, the board is live, and no allocation fails.
+    pub(crate) fn keep_up(&mut self, manner: Manner)
+        ensures { IsKeptUp manner self.old self.new }
+    {
+        if matches!(manner, Manner::Live) && self.is_due() {
+            let _ = self.checkpoint();
+        }
+    }
+
     /// Returns the answer to a question about the published board. A setup opens a floor for it, and drops it.
     fn page(&self, ask: &Ask<A>) -> Result<String<A>, AllocError>
-        ensures { IfOk result (λ page. IsPage self.now.numbering (serving_of self.now.stage) self.now.before ask.now (string_bytes page)) }
+        ensures { IfOk result (λ page. IsPage self.now.numbering (serving_of self.now.stage) ask.now (string_bytes page)) }
     {
         match &self.stage {
             Stage::Setup(setup) => {
                 let floor = open(self.alloc, setup.copy()?)?;
-                page_of(self.alloc, self.numbering, &floor, self.before, ask)
+                page_of(self.alloc, self.numbering, &floor, ask)
             }
-            Stage::Serving(floor) => page_of(self.alloc, self.numbering, floor, self.before, ask),
+            Stage::Serving(floor) => page_of(self.alloc, self.numbering, floor, ask),
         }
     }
 
@@ -149,14 +192,14 @@ impl<A: Allocator + Copy> Script<A> {
         ensures { result ≡ counts_of (serving_of self.now.stage) }
     {
         match &self.stage {
-            Stage::Setup(_) => NO_COUNTS,
+            Stage::Setup(setup) => setup.counts(),
             Stage::Serving(floor) => counts_of(floor),
         }
     }
 
     /// Returns the reply to a question about the published board. Does not allocate for `count` and `quit`.
     pub(crate) fn tell(&self, ask: &Ask<A>) -> Result<Turn<A>, AllocError>
-        ensures told { IfOk result (λ turn. IsAskTold self.now.numbering (serving_of self.now.stage) self.now.before ask.now (turn_bytes self.now.numbering turn)) }
+        ensures told { IfOk result (λ turn. IsAskTold self.now.numbering (serving_of self.now.stage) ask.now (turn_bytes self.now.numbering turn)) }
         ensures wants { OnErr result (needs_memory ask.now.kind ≡ true) }
     {
         if ask.is_quit() {
@@ -167,5 +210,18 @@ impl<A: Allocator + Copy> Script<A> {
         }
         let page = self.page(ask)?;
         Ok(Turn::of_text(Outcome::Answered(ask.kind()), page))
+    }
+    /// Returns the reply to a question, or makes the checkpoint that the line asks for.
+    pub(crate) fn settle(&mut self, ask: &Ask<A>) -> Result<Turn<A>, AllocError>
+        ensures state { IfOk result (λ turn. self.new ≡ record self.old { stage = stage_asked (is_checkpoint ask.now.kind) self.old.stage }) }
+        ensures told { IfOk result (λ turn. IsSettled (is_checkpoint ask.now.kind) self.old.numbering (serving_of self.old.stage) ask.now (turn_bytes self.old.numbering turn)) }
+        ensures err { OnErr result (self.new ≡ self.old) }
+        ensures wants { OnErr result (needs_memory ask.now.kind ≡ true) }
+    {
+        if ask.is_checkpoint() {
+            let outcome = self.checkpoint()?;
+            return Ok(Turn::plain(self.alloc, outcome));
+        }
+        self.tell(ask)
     }
 }

@@ -3,15 +3,16 @@
 ghost use Rattle.std.specs.Prelude.{◌≡◌, ◌≢◌, Err, string_bytes, IfOk, OnOk, OnErr};
 ghost use Rattle.cq_desk.specs.declared.event.StepFault.TheVariants.{NoMemory};
 ghost use Rattle.cq_desk.specs.declared.event.Event.TheVariants.{Look};
-ghost use Rattle.cq_desk.specs.Standing.{replied};
+ghost use Rattle.cq_desk.specs.Standing.{checkpointed, replied};
 ghost use Rattle.cq_render.specs.Report.{report};
 ghost use Rattle.cq_report.specs.declared.stage.Stage.TheVariants.{Serving};
 ghost use Rattle.cq_report.specs.Machine.{opened, after, outcome, board_page};
-ghost use Rattle.cq_report.specs.Reply.{event_outcome};
+ghost use Rattle.cq_report.specs.Reply.{event_outcome, fault_outcome};
 ghost use Rattle.cq_report.specs.Steps.Turns.{turn_after};
 
 use crate::numbering::Numbering;
 use crate::outcome::{Outcome, Turn};
+use crate::refusal::Refusal;
 use crate::setup::Setup;
 use cq_board::{Board, Why};
 use cq_desk::{Floor, Reply, StepFault};
@@ -86,6 +87,19 @@ pub(crate) fn look<A: Allocator + Copy>(
     Ok(Turn::of_text(Outcome::Shown(count), page))
 }
 
+/// Returns the outcome of an event that has no answer, unless an allocation failed.
+fn unanswered(fault: StepFault) -> Result<Outcome, AllocError>
+    ensures outcome { IfOk result (λ outcome. outcome ≡ fault_outcome fault) }
+    ensures some { OnOk result (fault ≢ NoMemory) }
+    ensures none { OnErr result (fault ≡ NoMemory) }
+{
+    match fault {
+        StepFault::NoMemory => Err(AllocError),
+        StepFault::Unpublished => Ok(Outcome::Refused(Refusal::Unpublished)),
+        StepFault::NoSession | StepFault::Ahead => Ok(Outcome::Silent),
+    }
+}
+
 /// Returns the outcome of an edit that the session enters. The session exists, so an edit without a reply is out of memory.
 pub(crate) fn entered(reply: Result<Reply<Why>, StepFault>) -> Result<Outcome, AllocError>
     ensures outcome { IfOk result (λ outcome. outcome ≡ event_outcome (replied reply)) }
@@ -94,7 +108,18 @@ pub(crate) fn entered(reply: Result<Reply<Why>, StepFault>) -> Result<Outcome, A
 {
     match reply {
         Ok(reply) => Ok(Outcome::of_reply(&reply)),
-        Err(StepFault::NoMemory) => Err(AllocError),
-        Err(_) => Ok(Outcome::Silent),
+        Err(fault) => unanswered(fault),
+    }
+}
+
+/// Returns the outcome of a checkpoint, unless an allocation failed.
+pub(crate) fn checkpointed(count: Result<u64, StepFault>) -> Result<Outcome, AllocError>
+    ensures outcome { IfOk result (λ outcome. outcome ≡ event_outcome (checkpointed count)) }
+    ensures some { OnOk result (count ≢ Err NoMemory) }
+    ensures none { OnErr result (count ≡ Err NoMemory) }
+{
+    match count {
+        Ok(count) => Ok(Outcome::Checkpointed(count)),
+        Err(fault) => unanswered(fault),
     }
 }

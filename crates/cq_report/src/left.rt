@@ -1,6 +1,7 @@
 //! What a script leaves.
 
 ghost use Rattle.std.specs.Prelude.{◌≡◌};
+ghost use Rattle.cq_desk.specs.Machine.{published_count};
 ghost use Rattle.cq_report.specs.Machine.{shown};
 ghost use Rattle.cq_report.specs.Summary.{unpublished};
 
@@ -47,7 +48,7 @@ impl<A: Allocator + Copy> Played<A> {
 
     /// How many entries of the journal that board is of.
     pub fn entries(&self) -> u64
-        ensures { result ≡ self.now.floor.machine.published }
+        ensures { result ≡ published_count self.now.floor }
     {
         self.floor.published_count()
     }
@@ -56,8 +57,7 @@ impl<A: Allocator + Copy> Played<A> {
     pub fn unpublished(&self) -> u64
         ensures { result ≡ unpublished self.now.floor }
     {
-        let entered = self.floor.journal().len() as u64;
-        entered.saturating_sub(self.floor.published_count())
+        self.floor.unpublished_count() as u64
     }
 
     /// How many lines there were.

@@ -30,6 +30,8 @@ pub enum Outcome {
     Shown(u64),
     /// A line that asks is answered.
     Answered(AskKind),
+    /// A checkpoint is made after this many entries.
+    Checkpointed(u64),
     /// No further line is read.
     Quit,
     /// The line is refused.
@@ -57,6 +59,7 @@ impl Outcome {
             Answer::Published(count) => Outcome::Published(*count),
             Answer::Looked(count) => Outcome::Shown(*count),
             Answer::Heard(_) => Outcome::Silent,
+            Answer::Checkpointed(count) => Outcome::Checkpointed(*count),
         }
     }
 
@@ -149,6 +152,7 @@ impl<A: Allocator> Turn<A> {
             | Outcome::Entered(_)
             | Outcome::Published(_)
             | Outcome::Shown(_)
+            | Outcome::Checkpointed(_)
             | Outcome::Refused(_) => false,
         }
     }

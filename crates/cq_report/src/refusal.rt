@@ -29,6 +29,8 @@ pub enum Refusal {
     Pool(Why),
     /// The journal has as many entries as it may hold.
     JournalFull,
+    /// A checkpoint is requested, but some entries are not published.
+    Unpublished,
     /// An allocation failed.
     Memory,
 }
@@ -155,6 +157,7 @@ impl Refusal {
             Refusal::Catalog(fault) => RefusalParts::just(catalog_word(fault)),
             Refusal::Pool(why) => why_parts(why),
             Refusal::JournalFull => RefusalParts::just("JournalFull"),
+            Refusal::Unpublished => RefusalParts::just("Unpublished"),
             Refusal::Memory => RefusalParts::just("Memory"),
         }
     }

@@ -167,6 +167,7 @@ pub(crate) fn words_of(outcome: Outcome) -> ReplyLine
         Outcome::Entered(entry) => ReplyLine::counting("ok ", Some(entry), "\n"),
         Outcome::Published(count) => ReplyLine::counting("published ", Some(count), "\n"),
         Outcome::Shown(count) => ReplyLine::counting("show ", Some(count), "\n"),
+        Outcome::Checkpointed(count) => ReplyLine::counting("checkpoint ", Some(count), "\n"),
         Outcome::Refused(refusal) => ReplyLine::of_words("refused ", refusal, "\n"),
     }
 }
@@ -181,6 +182,7 @@ fn members_of(outcome: Outcome) -> ReplyLine
         Outcome::Entered(entry) => ReplyLine::counting(",\"ok\":", Some(entry), ""),
         Outcome::Published(count) => ReplyLine::counting(",\"published\":", Some(count), ""),
         Outcome::Shown(_) => ReplyLine::just(",\"board\":"),
+        Outcome::Checkpointed(count) => ReplyLine::counting(",\"checkpoint\":", Some(count), ""),
         Outcome::Quit => ReplyLine::just(",\"quit\":true"),
         Outcome::Refused(refusal) => ReplyLine::of_members(refusal),
     }

@@ -4,7 +4,8 @@ ghost use Rattle.std.specs.Prelude.{◌≡◌, ◌<◌, ◌≤◌, ◌+◌, ◌^
 ghost use Rattle.std.specs.Option.{is_some};
 ghost use Rattle.cq_ask.specs.Ask.{is_quit};
 ghost use Rattle.cq_report.specs.Reading.{Reading, Reads, Faulty, IsReading};
-ghost use Rattle.cq_report.specs.Machine.{State, begin_state, form_in, staged, counted, before_after, headed, next};
+ghost use Rattle.cq_report.specs.declared.manner.Manner.TheVariants.{Live};
+ghost use Rattle.cq_report.specs.Machine.{State, begin_life, form_in, staged, counted, next};
 ghost use Rattle.cq_report.specs.Live.{is_done};
 ghost use Rattle.cq_report.specs.Output.{left_in};
 ghost use Rattle.cq_report.specs.Refusals.{tallied};
@@ -34,7 +35,7 @@ use std::alloc::{AllocError, Allocator};
 use std::marker::Model;
 
 /// A script that is served line by line: how replies are numbered, how many lines came, the form that is settled, if any, the setup or the floor, whether
-/// the setup ended before a floor was needed, how many entries were published before the last publish, which lines were refused, and whether `quit` was
+/// the setup ended before a floor was needed, after how many entries a checkpoint is due, if ever, which lines were refused, and whether `quit` was
 /// answered. Contracts see the state after its lines.
 #[derive(Drop)]
 pub struct Script<A: Allocator + Copy> {
@@ -44,7 +45,7 @@ pub struct Script<A: Allocator + Copy> {
     pub(crate) heading: Option<Form>,
     pub(crate) stage: Stage<Setup<A>, BoardFloor<A>>,
     pub(crate) is_closed: bool,
-    pub(crate) before: u64,
+    pub(crate) every: u64,
     tally: Tally,
     is_over: bool,
 }
@@ -56,15 +57,24 @@ impl<A: Allocator + Copy> Model for Script<A> {
 
     ghost Value = { State };
 
-    ghost view = { λ m. record { numbering = m.numbering; lines = m.lines; heading = m.heading; stage = staged_by m.is_closed m.stage; before = m.before; tally = m.tally; is_over = m.is_over } };
+    ghost view = { λ m. record { numbering = m.numbering; lines = m.lines; heading = m.heading; stage = staged_by m.is_closed m.stage; every = m.every; tally = m.tally; is_over = m.is_over } };
 
     ghost invariant = { λ m. m.tally.refused ≤ m.lines };
 }
 
 impl<A: Allocator + Copy> Script<A> {
-    /// Before the first line.
+    /// Returns the state before the first line of a script.
     pub fn begin(alloc: A, numbering: Numbering) -> Self
-        ensures state { result ≡ begin_state numbering }
+        ensures state { result ≡ begin_life numbering 0 }
+        ensures lines { lines_before result ≡ 0 }
+    {
+        Script::begin_life(alloc, numbering, 0)
+    }
+
+    /// Returns the state before the first line of a live board. After a publish the board makes a checkpoint by itself if at least `every` entries were
+    /// entered since the last one, or never if `every` is 0.
+    pub(crate) fn begin_life(alloc: A, numbering: Numbering, every: u64) -> Self
+        ensures state { result ≡ begin_life numbering every }
         ensures lines { lines_before result ≡ 0 }
     {
         Script {
@@ -74,7 +84,7 @@ impl<A: Allocator + Copy> Script<A> {
             heading: None,
             stage: Stage::Setup(Setup::begin(alloc)),
             is_closed: false,
-            before: 0,
+            every,
             tally: Tally::begin(),
             is_over: false,
         }
@@ -142,14 +152,13 @@ impl<A: Allocator + Copy> Script<A> {
     // ---- effects of lines
 
     /// Counts a line whose outcome this is, and keeps it if it is the first that is refused.
-    fn keep(&mut self, heading: Option<Form>, before: u64, outcome: Outcome)
+    fn keep(&mut self, heading: Option<Form>, outcome: Outcome)
         requires { lines_before self.old < 2 ^ 100 }
-        ensures { self.new ≡ record (counted self.old) { heading = heading; before = before; tally = tallied self.old.tally (self.old.lines + 1) (refusal outcome) } }
+        ensures { self.new ≡ record (counted self.old) { heading = heading; tally = tallied self.old.tally (self.old.lines + 1) (refusal outcome) } }
     {
         self.lines += 1;
         self.tally.add(self.lines, outcome.refusal());
         self.heading = heading;
-        self.before = before;
     }
 
     /// Takes a line with a fault of text.
@@ -160,48 +169,41 @@ impl<A: Allocator + Copy> Script<A> {
     {
         let outcome = Outcome::Refused(Refusal::Text { kind, at });
         let form = self.form();
-        self.keep(Some(form), self.before, outcome);
+        self.keep(Some(form), outcome);
         Turn::plain(self.alloc, outcome)
     }
 
-    /// Answers a line that asks. After `quit` no further line is heard.
+    /// Replies to a question, or makes a checkpoint. After `quit` no further line is processed.
     fn take_ask(&mut self, ask: &Ask<A>) -> Result<Turn<A>, AllocError>
         requires { lines_before self.old < 2 ^ 100 }
-        ensures ok { IfOk result (λ turn. IsObeyed self.old (Asks ask.now) self.new turn) }
+        ensures ok { IfOk result (λ turn. IsObeyed Live self.old (Asks ask.now) self.new turn) }
         ensures err { OnErr result (self.new ≡ self.old) }
         ensures wants { OnErr result (MayFail (Asks ask.now)) }
     {
-        let turn = self.tell(ask)?;
+        let turn = self.settle(ask)?;
         self.lines += 1;
         self.is_over = ask.is_quit();
         Ok(turn)
     }
 
-    /// Returns how many entries were published before the last publish, after a command.
-    fn before_after(&self, command: &Command<A>) -> u64
-        ensures { result ≡ before_after self.now (Reads command.now) }
-    {
-        match (command, &self.stage) {
-            (CommandKind::Publish, Stage::Serving(floor)) => floor.published_count(),
-            (CommandKind::Publish, Stage::Setup(_)) => 0,
-            _ => self.before,
-        }
-    }
-
     /// Counts a line, and gives its reply, which has no page.
-    fn kept(&mut self, heading: Option<Form>, before: u64, outcome: Outcome) -> Turn<A>
+    fn kept(&mut self, heading: Option<Form>, outcome: Outcome) -> Turn<A>
         requires { lines_before self.old < 2 ^ 100 }
-        ensures state { self.new ≡ record (counted self.old) { heading = heading; before = before; tally = tallied self.old.tally (self.old.lines + 1) (refusal outcome) } }
+        ensures state { self.new ≡ record (counted self.old) { heading = heading; tally = tallied self.old.tally (self.old.lines + 1) (refusal outcome) } }
         ensures turn { result ≡ plain_turn outcome }
     {
-        self.keep(heading, before, outcome);
+        self.keep(heading, outcome);
         Turn::plain(self.alloc, outcome)
     }
 
     /// Does what a line says, and gives the reply.
-    fn obey(&mut self, said: Said<Ask<A>, Command<A>>) -> Result<Turn<A>, AllocError>
+    fn obey(
+        &mut self,
+        manner: Manner,
+        said: Said<Ask<A>, Command<A>>,
+    ) -> Result<Turn<A>, AllocError>
         requires { lines_before self.old < 2 ^ 100 }
-        ensures ok { IfOk result (λ turn. IsObeyed self.old said self.new turn) }
+        ensures ok { IfOk result (λ turn. IsObeyed manner self.old said self.new turn) }
         ensures err { OnErr result (self.new ≡ self.old) }
         ensures wants { OnErr result (MayFail said) }
     {
@@ -212,31 +214,32 @@ impl<A: Allocator + Copy> Script<A> {
             Said::Lost => return Err(AllocError),
         };
         let heading = headed(self.heading, &command);
-        let before = self.before_after(&command);
         match command {
-            CommandKind::Blank => Ok(self.kept(heading, before, Outcome::Silent)),
+            CommandKind::Blank => Ok(self.kept(heading, Outcome::Silent)),
             CommandKind::Setup(line) => {
                 let outcome = self.prepare(&line)?;
-                Ok(self.kept(heading, before, outcome))
+                Ok(self.kept(heading, outcome))
             }
             CommandKind::Publish => {
                 let outcome = self.publish();
-                Ok(self.kept(heading, before, outcome))
+                let turn = self.kept(heading, outcome);
+                self.keep_up(manner);
+                Ok(turn)
             }
             CommandKind::Show => {
                 let turn = self.show()?;
-                self.keep(heading, before, turn.outcome);
+                self.keep(heading, turn.outcome);
                 Ok(turn)
             }
             CommandKind::Edit(edit) => match &mut self.stage {
                 Stage::Serving(floor) => {
                     let outcome = entered(floor.enter(SESSION, edit))?;
-                    Ok(self.kept(heading, before, outcome))
+                    Ok(self.kept(heading, outcome))
                 }
                 Stage::Setup(setup) => {
                     let setup = setup.copy()?;
                     let outcome = self.enter_first(setup, edit)?;
-                    Ok(self.kept(heading, before, outcome))
+                    Ok(self.kept(heading, outcome))
                 }
             },
         }
@@ -254,7 +257,7 @@ impl<A: Allocator + Copy> Script<A> {
     {
         one_reading();
         let said = self.read_text(line);
-        let turn = self.obey(said)?;
+        let turn = self.obey(Manner::Script { is_strict: false }, said)?;
         Ok(turn.outcome.refusal())
     }
 
@@ -308,7 +311,7 @@ impl<A: Allocator + Copy> Script<A> {
         }
         let (numbering, before) = (self.numbering, self.lines);
         let said = self.read(manner, line);
-        match self.obey(said) {
+        match self.obey(manner, said) {
             Ok(turn) => {
                 output.put_reply(numbering, before, &turn)?;
                 Ok(())
@@ -331,7 +334,7 @@ impl<A: Allocator + Copy> Script<A> {
             heading: _,
             stage,
             is_closed: _,
-            before: _,
+            every: _,
             tally,
             is_over: _,
         } = self;

@@ -2,11 +2,13 @@
 
 ghost use Rattle.std.specs.Prelude.{◌≡◌, OnErr, IfOk};
 ghost use Rattle.cq_rel.specs.Tables.{declaration, declare_fault};
-ghost use Rattle.cq_report.specs.Machine.{begin_setup, board_named, declared, set_up};
+ghost use Rattle.cq_ask.specs.Answer.{counts_of};
+ghost use Rattle.cq_report.specs.Machine.{begin_setup, board_named, declared, opened, set_up};
 
 use crate::limits::{JOURNAL_LIMIT, POOL_LIMIT};
 use crate::outcome::Outcome;
 use crate::refusal::Refusal;
+use cq_ask::Counts;
 use cq_atom::Name;
 use cq_board::Limits;
 use cq_rel::{Catalog, CatalogFault};
@@ -50,6 +52,24 @@ impl<A: Allocator> Setup<A> {
                 pool: POOL_LIMIT,
                 journal: JOURNAL_LIMIT,
             },
+        }
+    }
+
+    /// Returns the counts of the board that it opens. Does not allocate.
+    pub(crate) fn counts(&self) -> Counts
+        ensures { result ≡ counts_of (opened self.now) }
+    {
+        Counts {
+            queries: 0,
+            matched: 0,
+            waiting: 0,
+            rows: 0,
+            entries: 0,
+            unpublished: 0,
+            since: 0,
+            relations: self.catalog.len(),
+            pool: self.limits.pool,
+            journal: self.limits.journal,
         }
     }
 

@@ -30,9 +30,9 @@ const POST: &[u8] = b"post a {R(1)} S(2) <-";
 const ASKED: &[Asked] = &[
     Asked {
         line: b"count",
-        told: "queries 1 matched 0 waiting 1 rows 0 entries 1 unpublished 0\n",
+        told: "queries 1 matched 0 waiting 1 rows 0 entries 1 unpublished 0 since 1 relations 0 limits 9 9\n",
         end: "",
-        member: ",\"count\":{\"queries\":1,\"matched\":0,\"waiting\":1,\"rows\":0,\"entries\":1,\"unpublished\":0}",
+        member: ",\"count\":{\"queries\":1,\"matched\":0,\"waiting\":1,\"rows\":0,\"entries\":1,\"unpublished\":0,\"since\":1,\"relations\":0,\"pool_limit\":9,\"journal_limit\":9}",
     },
     Asked {
         line: b" status a\tb\r",
@@ -149,8 +149,8 @@ fn is_answered<A: Allocator + Copy>(
     let Some(ask) = read_ask(alloc, asked.line)? else {
         return Ok(false);
     };
-    let told = tell(alloc, floor, 0, &ask)?;
-    let member = tell_data(alloc, floor, 0, &ask)?;
+    let told = tell(alloc, floor, &ask)?;
+    let member = tell_data(alloc, floor, &ask)?;
     Ok(
         told.as_str() == asked.told
             && member.as_str() == asked.member

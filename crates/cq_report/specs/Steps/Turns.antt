@@ -1,16 +1,17 @@
 -- What a line says, and the reply to it before it is written.
-use Rattle.std.specs.Prelude.{◌≡◌, ℕ, ◌==◌, Bool, true, List, [], ◌++◌, length, codes, Option, Some, None, ⊤}
+use Rattle.std.specs.Prelude.{◌≡◌, ◌⊎◌, ℕ, ◌==◌, Bool, true, List, [], ◌++◌, length, codes, Option, Some, None, ⊤}
 use Rattle.cq_text.specs.declared.form.Form.{Form}
 use Rattle.cq_text.specs.Grammar.{CommandContent}
-use Rattle.cq_ask.specs.Ask.{AskRecord, is_quit}
+use Rattle.cq_ask.specs.Ask.{AskRecord, is_checkpoint, is_quit}
 use Rattle.cq_ask.specs.declared.counts.Counts.{Counts}
 use Rattle.cq_ask.specs.Answer.{FloorRecord, IsTold, count_line}
 use Rattle.cq_ask.specs.Data.{IsMember, count_json, member_text}
 use Rattle.cq_report.specs.declared.manner.Manner.{Manner}
+use Rattle.cq_report.specs.declared.manner.Manner.TheVariants as manners
 use Rattle.cq_report.specs.declared.said.Said.{Said}
 use Rattle.cq_report.specs.declared.said.Said.TheVariants as saids
 use Rattle.cq_report.specs.declared.stage.Stage.TheVariants as stages
-use Rattle.cq_report.specs.Live.{asked_in, IsAskTold, needs_memory}
+use Rattle.cq_report.specs.Live.{asked_in, IsSettled, is_due, needs_memory, renewed, stage_asked}
 use Rattle.cq_report.specs.declared.numbering.Numbering.{Numbering}
 use Rattle.cq_report.specs.declared.numbering.Numbering.TheVariants.{Plain, Numbered, Json}
 use Rattle.cq_report.specs.declared.outcome.Outcome.{Outcome}
@@ -55,10 +56,10 @@ abbrev pub is_silent : TurnRecord → Bool
 is_silent turn = length (outcome_line turn.outcome ++ (turn.page ++ outcome_end turn.outcome)) == 0
 
 -- The page of an answer, in lines or as a member of a JSON object.
-abbrev pub IsPage : Numbering → FloorRecord → ℕ → AskRecord → List ℕ → Type 0
-IsPage Plain floor before ask page = IsTold floor before ask page
-IsPage Numbered floor before ask page = IsTold floor before ask page
-IsPage Json floor before ask page = IsMember floor before ask page
+abbrev pub IsPage : Numbering → FloorRecord → AskRecord → List ℕ → Type 0
+IsPage Plain floor ask page = IsTold floor ask page
+IsPage Numbered floor ask page = IsTold floor ask page
+IsPage Json floor ask page = IsMember floor ask page
 
 -- The stage, if its setup ended or not before a floor opened.
 abbrev pub staged_by : Bool → Staged → Staged
@@ -80,12 +81,18 @@ IsSaid manner form (Some line) (saids.Says command) = (asked_in manner line ≡ 
 IsSaid manner form (Some line) (saids.Faulty kind at) = (asked_in manner line ≡ None) × IsReading form line (Faulty kind at)
 IsSaid manner form (Some line) saids.Lost = (ask : AskRecord) → asked_in manner line ≡ Some ask → needs_memory ask.kind ≡ true
 
+-- The state after a line that was served: a live board may have made a checkpoint that was due.
+abbrev pub IsKeptUp : Manner → State → State → Type 0
+IsKeptUp manner served new = (new ≡ served) ⊎ ((manner ≡ manners.Live) × (is_due served ≡ true) × (new ≡ renewed served))
+
 -- The state and the reply after what a line says.
-abbrev pub IsObeyed : State → Said AskRecord CommandContent → State → TurnRecord → Type 0
-IsObeyed old (saids.Asks ask) new turn = (new ≡ record (counted old) { is_over = is_quit ask.kind }) × IsAskTold old.numbering (serving_of old.stage) old.before ask (turn_bytes old.numbering turn)
-IsObeyed old (saids.Says command) new turn = (new ≡ next old (Reads command)) × (turn ≡ turn_in old (Reads command))
-IsObeyed old (saids.Faulty kind at) new turn = (new ≡ next old (Faulty kind at)) × (turn ≡ turn_in old (Faulty kind at))
-IsObeyed old saids.Lost new turn = ⊥
+abbrev pub IsObeyed : Manner → State → Said AskRecord CommandContent → State → TurnRecord → Type 0
+IsObeyed manner old (saids.Asks ask) new turn =
+    (new ≡ record (counted old) { stage = stage_asked (is_checkpoint ask.kind) old.stage; is_over = is_quit ask.kind })
+    × IsSettled (is_checkpoint ask.kind) old.numbering (serving_of old.stage) ask (turn_bytes old.numbering turn)
+IsObeyed manner old (saids.Says command) new turn = IsKeptUp manner (next old (Reads command)) new × (turn ≡ turn_in old (Reads command))
+IsObeyed manner old (saids.Faulty kind at) new turn = (new ≡ next old (Faulty kind at)) × (turn ≡ turn_in old (Faulty kind at))
+IsObeyed manner old saids.Lost new turn = ⊥
 
 -- An allocation may fail unless it asks for something that needs no memory.
 abbrev pub MayFail : Said AskRecord CommandContent → Type 0

@@ -5,7 +5,10 @@ use crate::lines::Line;
 use crate::states::{Shared, Sight};
 use crate::tally::{Full, Tally};
 use cq_board::{Board, Why, published_board, working_board};
-use cq_desk::{Answer, Event, Floor, FloorFault, Live, Reply, StepFault, looks_never_fall};
+use cq_desk::{
+    Answer, Event, Floor, FloorFault, Live, ReopenFault, Reply, StepFault,
+    checkpoints_lose_nothing, looks_never_fall,
+};
 use cq_refusing::{Outcome, Tried, refusals};
 use std::alloc::{Allocator, Global};
 
@@ -16,6 +19,7 @@ enum Turn<Q> {
     Look(usize),
     /// It hears of so many entries.
     Hear(usize, u64),
+    Checkpoint,
 }
 
 type Told<W> = Result<Answer<W>, StepFault>;
@@ -39,6 +43,7 @@ fn event<L: Shared<A>, A: Allocator + Copy>(
             session: *session,
             count: *count,
         }),
+        Turn::Checkpoint => Some(Event::Checkpoint),
     }
 }
 
@@ -300,6 +305,149 @@ const FULL_STATE: &[Step<u8, Full>] = &[
     ),
 ];
 
+/// Numbers continue over checkpoints, and the journal's limit counts from the last one.
+const LASTS: &[Step<u8, Full>] = &[
+    (
+        Turn::Enter(0, 1),
+        Ok(Answer::Replied(Reply::Entered(1))),
+        Sight::Bytes(&[1]),
+        Sight::Bytes(&[]),
+        &[0],
+    ),
+    (
+        Turn::Enter(0, 2),
+        Ok(Answer::Replied(Reply::Entered(2))),
+        Sight::Bytes(&[1, 2]),
+        Sight::Bytes(&[]),
+        &[0],
+    ),
+    (
+        Turn::Enter(0, 3),
+        Ok(Answer::Replied(Reply::JournalFull)),
+        Sight::Bytes(&[1, 2]),
+        Sight::Bytes(&[]),
+        &[0],
+    ),
+    (
+        Turn::Checkpoint,
+        Err(StepFault::Unpublished),
+        Sight::Bytes(&[1, 2]),
+        Sight::Bytes(&[]),
+        &[0],
+    ),
+    (
+        Turn::Publish,
+        Ok(Answer::Published(2)),
+        Sight::Bytes(&[1, 2]),
+        Sight::Bytes(&[1, 2]),
+        &[0],
+    ),
+    (
+        Turn::Checkpoint,
+        Ok(Answer::Checkpointed(2)),
+        Sight::Bytes(&[1, 2]),
+        Sight::Bytes(&[1, 2]),
+        &[0],
+    ),
+    (
+        Turn::Look(0),
+        Ok(Answer::Looked(2)),
+        Sight::Bytes(&[1, 2]),
+        Sight::Bytes(&[1, 2]),
+        &[2],
+    ),
+    (
+        Turn::Enter(0, 3),
+        Ok(Answer::Replied(Reply::Entered(3))),
+        Sight::Bytes(&[1, 2, 3]),
+        Sight::Bytes(&[1, 2]),
+        &[2],
+    ),
+    (
+        Turn::Enter(0, 4),
+        Ok(Answer::Replied(Reply::Not(Full))),
+        Sight::Bytes(&[1, 2, 3]),
+        Sight::Bytes(&[1, 2]),
+        &[2],
+    ),
+    (
+        Turn::Publish,
+        Ok(Answer::Published(3)),
+        Sight::Bytes(&[1, 2, 3]),
+        Sight::Bytes(&[1, 2, 3]),
+        &[2],
+    ),
+    (
+        Turn::Checkpoint,
+        Ok(Answer::Checkpointed(3)),
+        Sight::Bytes(&[1, 2, 3]),
+        Sight::Bytes(&[1, 2, 3]),
+        &[2],
+    ),
+    (
+        Turn::Hear(0, 4),
+        Err(StepFault::Ahead),
+        Sight::Bytes(&[1, 2, 3]),
+        Sight::Bytes(&[1, 2, 3]),
+        &[2],
+    ),
+    (
+        Turn::Hear(0, 3),
+        Ok(Answer::Heard(3)),
+        Sight::Bytes(&[1, 2, 3]),
+        Sight::Bytes(&[1, 2, 3]),
+        &[3],
+    ),
+];
+
+/// Two publishes, and a checkpoint.
+const RENEWED: &[Step<u8, Full>] = &[
+    (
+        Turn::Enter(0, 5),
+        Ok(Answer::Replied(Reply::Entered(1))),
+        Sight::Bytes(&[5]),
+        Sight::Bytes(&[]),
+        &[0],
+    ),
+    (
+        Turn::Publish,
+        Ok(Answer::Published(1)),
+        Sight::Bytes(&[5]),
+        Sight::Bytes(&[5]),
+        &[0],
+    ),
+    (
+        Turn::Enter(0, 6),
+        Ok(Answer::Replied(Reply::Entered(2))),
+        Sight::Bytes(&[5, 6]),
+        Sight::Bytes(&[5]),
+        &[0],
+    ),
+    (
+        Turn::Publish,
+        Ok(Answer::Published(2)),
+        Sight::Bytes(&[5, 6]),
+        Sight::Bytes(&[5, 6]),
+        &[0],
+    ),
+    (
+        Turn::Checkpoint,
+        Ok(Answer::Checkpointed(2)),
+        Sight::Bytes(&[5, 6]),
+        Sight::Bytes(&[5, 6]),
+        &[0],
+    ),
+];
+
+/// An edit over another state.
+const REOPENED: &[Step<u8, Full>] = &[(
+    Turn::Enter(0, 8),
+    Ok(Answer::Replied(Reply::Entered(3))),
+    Sight::Bytes(&[8]),
+    Sight::Bytes(&[]),
+    &[0],
+)];
+
 /// Looks before a publish and behind it, and what is heard.
 const LOOKS: &[Step<Line, Why>] = &[
     (
@@ -472,10 +620,62 @@ const FLIGHT: &[Step<Line, Why>] = &[
 
 #[test]
 fn floors_over_a_tally(rt: HostRuntime) {
-    for (journal, sessions, steps) in [(9, 2, APART), (3, 1, FULL_JOURNAL), (4, 1, FULL_STATE)] {
+    for (journal, sessions, steps) in [
+        (9, 2, APART),
+        (3, 1, FULL_JOURNAL),
+        (4, 1, FULL_STATE),
+        (2, 1, LASTS),
+    ] {
         let other = other_of::<Tally>(rt.alloc(), 9, journal, sessions, steps);
         assert!(rt; other == Ok(None), "{journal}: {other:?}");
     }
+}
+
+/// Whether the state before the last publish of the floor shows these bytes; nothing where it was refused an allocation.
+fn showed<L: Shared<A>, A: Allocator + Copy>(
+    floor: &Floor<L, A>,
+    bytes: &'static [u8],
+) -> Option<bool> {
+    match floor.earlier() {
+        Ok(state) => Some(state.shows(Sight::Bytes(bytes))),
+        Err(_) => None,
+    }
+}
+
+/// What comes of having the floor begin over another state.
+fn reopened<L: Shared<A>, A: Allocator + Copy>(
+    alloc: A,
+    floor: &mut Floor<L, A>,
+) -> Result<(), ReopenFault> {
+    match L::begun(alloc, 9) {
+        Some(state) => floor.reopen(state, 1),
+        None => Err(ReopenFault::NoMemory),
+    }
+}
+
+/// Whether the floor begins over another state after a checkpoint, and not after an edit.
+fn begins_anew<L: Shared<Global, Asked = u8, Why = Full>>(alloc: Global) -> bool {
+    checkpoints_lose_nothing::<L>();
+    let Ok(mut floor) = floor_over::<L, Global>(alloc, 9, 9, 1) else {
+        return false;
+    };
+    let (other, _) = other_step(alloc, &mut floor, RENEWED);
+    let kept = other.is_none() && showed(&floor, &[5]) == Some(true) && floor.limit() == 9;
+    let first = reopened(alloc, &mut floor);
+    let limits = floor.limit() == 1 && floor.unpublished_count() == 0;
+    let (other, _) = other_step(alloc, &mut floor, REOPENED);
+    let second = reopened(alloc, &mut floor);
+    let stays = showed(&floor, &[5]) == Some(true) && floor.unpublished_count() == 1;
+    kept && first == Ok(())
+        && limits
+        && other.is_none()
+        && second == Err(ReopenFault::Late)
+        && stays
+}
+
+#[test]
+fn floors_that_begin_anew(rt: HostRuntime) {
+    assert!(rt; begins_anew::<Tally>(rt.alloc()));
 }
 
 /// The published board is behind the working one.
@@ -584,7 +784,7 @@ fn sessions_from_1_to_16(rt: HostRuntime) {
     }
 }
 
-/// Two bytes, a publish and a look, a refused edit among them.
+/// Two bytes, a publish, a look, a checkpoint and a byte more, a refused edit among them.
 const TURNS: &[Step<u8, Full>] = &[
     (
         Turn::Enter(0, 5),
@@ -618,6 +818,20 @@ const TURNS: &[Step<u8, Full>] = &[
         Turn::Look(0),
         Ok(Answer::Looked(2)),
         Sight::Bytes(&[5, 6]),
+        Sight::Bytes(&[5, 6]),
+        &[2],
+    ),
+    (
+        Turn::Checkpoint,
+        Ok(Answer::Checkpointed(2)),
+        Sight::Bytes(&[5, 6]),
+        Sight::Bytes(&[5, 6]),
+        &[2],
+    ),
+    (
+        Turn::Enter(0, 8),
+        Ok(Answer::Replied(Reply::Entered(3))),
+        Sight::Bytes(&[5, 6, 8]),
         Sight::Bytes(&[5, 6]),
         &[2],
     ),
@@ -768,6 +982,48 @@ impl Tried for Playing {
     }
 }
 
+/// A floor after two publishes and a checkpoint.
+fn renewed<L: Shared<A, Asked = u8, Why = Full>, A: Allocator + Copy>(
+    alloc: A,
+) -> Option<Floor<L, A>> {
+    let Ok(mut floor) = floor_over::<L, A>(alloc, 9, 9, 1) else {
+        return None;
+    };
+    match other_step(alloc, &mut floor, RENEWED) {
+        (None, false) => Some(floor),
+        _ => None,
+    }
+}
+
+struct Showing;
+
+impl Tried for Showing {
+    fn tried<A: Allocator + Copy>(alloc: A) -> Outcome {
+        let Some(floor) = renewed::<Tally<A>, A>(alloc) else {
+            return Outcome::Unready;
+        };
+        match showed(&floor, &[5]) {
+            Some(right) => Outcome::done_if(right),
+            None => Outcome::refused_if(showed(&floor, &[5]) == Some(true)),
+        }
+    }
+}
+
+struct Reopening;
+
+impl Tried for Reopening {
+    fn tried<A: Allocator + Copy>(alloc: A) -> Outcome {
+        let Some(mut floor) = renewed::<Tally<A>, A>(alloc) else {
+            return Outcome::Unready;
+        };
+        if reopened(alloc, &mut floor).is_ok() {
+            return Outcome::done_if(floor.board().shows(Sight::LeftBy(0)));
+        }
+        let stays = floor.board().shows(Sight::Bytes(&[5, 6])) && floor.limit() == 9;
+        Outcome::refused_if(stays && reopened(alloc, &mut floor).is_ok())
+    }
+}
+
 /// Whether some allocations of the call were refused, and nothing but what is right came of it.
 fn is_borne(refused: Result<u64, u64>) -> bool {
     match refused {
@@ -781,4 +1037,6 @@ fn each_allocation_of_a_floor_refused(rt: HostRuntime) {
     assert!(rt; is_borne(refusals::<Begin>(rt.alloc())));
     assert!(rt; is_borne(refusals::<Stepping>(rt.alloc())));
     assert!(rt; is_borne(refusals::<Playing>(rt.alloc())));
+    assert!(rt; is_borne(refusals::<Showing>(rt.alloc())));
+    assert!(rt; is_borne(refusals::<Reopening>(rt.alloc())));
 }

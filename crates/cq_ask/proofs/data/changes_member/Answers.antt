@@ -2,7 +2,7 @@ use Rattle.std.proofs.Common.{◌≡◌, ◌++◌, refl, subst}
 use Rattle.std.specs.Prelude.{codes, string_bytes}
 use Rattle.json.specs.Tree.{json_tokens}
 use Rattle.cq_board.specs.Pool.{PoolRecord}
-use Rattle.cq_ask.specs.Answer.{published_pool, floor_at}
+use Rattle.cq_ask.specs.Answer.{published_pool}
 use Rattle.cq_ask.specs.Data.{changes_json}
 use Rattle.cq_ask.proofs.Members.{told_as}
 use Rattle.cq_ask.proofs.data.changes_member.Goals as goal
@@ -10,7 +10,7 @@ use Rattle.cq_ask.proofs.data.changes_member.Goals as goal
 pub returns : goal.returns
 returns g c =
     let floor = c.args.floor.now in
-    let before = published_pool (floor_at floor c.args.before) in
+    let before = floor.earlier in
     let now = published_pool floor in
     let put =
     subst (λ (pool : PoolRecord). c.put_changes.new.sheet ≡ c.begin-sheet.result ++ json_tokens (changes_json before pool)) c.board.ensures

@@ -2,8 +2,7 @@ use Rattle.std.proofs.Common.{◌≡◌, ◌+◌, [], ◌∷◌, ◌++◌, lengt
 use Rattle.std.proofs.lemmas.List.{append-nil}
 use mathlib.Core.Logic.{inl, inr}
 use Rattle.std.specs.Vec.Iter.{into_iter_items}
-use Rattle.cq_desk.specs.Machine.{answers_to}
-use Rattle.cq_desk.specs.Standing.{played}
+use Rattle.cq_desk.specs.Machine.{answers_to, machine_run}
 use Rattle.cq_desk.proofs.Admitting.{no_error, an_error}
 use Rattle.cq_desk.proofs.Replying.{nothing_left, tried_first}
 use Rattle.cq_desk.proofs.Playing.{answered_on, stepped_on, stops_at}
@@ -36,12 +35,12 @@ returns-in_default-clause-stop g c = let at = c.loop-event in let inv = at.invar
 pub returns-then-is_err-clause-front : goal.returns-then-is_err-clause-front
 returns-then-is_err-clause-front g c = let a = c.args.self.now in
     let none : c.reserve.new.self.items ≡ [] = c.reserve.ensures.items ∙ c.new-answers.ensures.items in
-    subst (λ z. z ≡ answers_to g.L.Live.after g.L.Live.why a.opening a.limit a.machine (take (length z) c.args.events.items)) (sym none) refl
+    subst (λ z. z ≡ answers_to g.L.Live.after g.L.Live.why a (take (length z) c.args.events.items)) (sym none) refl
 
 pub returns-then-is_err-clause-after_front : goal.returns-then-is_err-clause-after_front
 returns-then-is_err-clause-after_front g c = let a = c.args.self.now in
     let none : c.reserve.new.self.items ≡ [] = c.reserve.ensures.items ∙ c.new-answers.ensures.items in
-    subst (λ z. a ≡ played g.L.Live.after g.L.Live.why a (take (length z) c.args.events.items)) (sym none) refl
+    subst (λ z. a ≡ machine_run g.L.Live.after g.L.Live.why a (take (length z) c.args.events.items)) (sym none) refl
 
 pub returns-then-is_err-clause-stop : goal.returns-then-is_err-clause-stop
 returns-then-is_err-clause-stop g c = inl (c.reserve.ensures.items ∙ c.new-answers.ensures.items)
@@ -50,13 +49,13 @@ pub returns-in_default-clause-front : goal.returns-in_default-clause-front
 returns-in_default-clause-front g c = let at = c.loop-event in let inv = at.invariant in let a = c.args.self.now in
     let rest = into_iter_items at.event-iterator in
     let whole : at.yielded ++ rest ≡ c.args.events.items = inv.0 ∙ c.into_iter-event-iterator.ensures.into_iter_gives.0 in
-    inv.4 ∙ ap (answers_to g.L.Live.after g.L.Live.why a.opening a.limit a.machine) (tried_first at.yielded rest c.args.events.items at.answers.items whole inv.2)
+    inv.4 ∙ ap (answers_to g.L.Live.after g.L.Live.why a) (tried_first at.yielded rest c.args.events.items at.answers.items whole inv.2)
 
 pub returns-in_default-clause-after_front : goal.returns-in_default-clause-after_front
 returns-in_default-clause-after_front g c = let at = c.loop-event in let inv = at.invariant in let a = c.args.self.now in
     let rest = into_iter_items at.event-iterator in
     let whole : at.yielded ++ rest ≡ c.args.events.items = inv.0 ∙ c.into_iter-event-iterator.ensures.into_iter_gives.0 in
-    c.in_default.ensures.0 ∙ (inv.5 ∙ ap (played g.L.Live.after g.L.Live.why a) (tried_first at.yielded rest c.args.events.items at.answers.items whole inv.2))
+    c.in_default.ensures.0 ∙ (inv.5 ∙ ap (machine_run g.L.Live.after g.L.Live.why a) (tried_first at.yielded rest c.args.events.items at.answers.items whole inv.2))
 
 pub returns-in_default-clause-rest : goal.returns-in_default-clause-rest
 returns-in_default-clause-rest g c = let at = c.loop-event in let inv = at.invariant in
@@ -73,13 +72,13 @@ pub returns-clause-answers : goal.returns-clause-answers
 returns-clause-answers g c = let at = c.loop-event in let inv = at.invariant in let a = c.args.self.now in
     let none : into_iter_items at.event-iterator ≡ [] = nothing_left (into_iter_items at.event-iterator) (sym inv.1 ∙ c.in-None.ensures.steps.0) in
     let every : at.yielded ≡ c.args.events.items = sym (append-nil at.yielded) ∙ (ap (λ z. at.yielded ++ z) (sym none) ∙ (inv.0 ∙ c.into_iter-event-iterator.ensures.into_iter_gives.0)) in
-    inv.4 ∙ ap (answers_to g.L.Live.after g.L.Live.why a.opening a.limit a.machine) every
+    inv.4 ∙ ap (answers_to g.L.Live.after g.L.Live.why a) every
 
 pub returns-clause-after : goal.returns-clause-after
 returns-clause-after g c = let at = c.loop-event in let inv = at.invariant in let a = c.args.self.now in
     let none : into_iter_items at.event-iterator ≡ [] = nothing_left (into_iter_items at.event-iterator) (sym inv.1 ∙ c.in-None.ensures.steps.0) in
     let every : at.yielded ≡ c.args.events.items = sym (append-nil at.yielded) ∙ (ap (λ z. at.yielded ++ z) (sym none) ∙ (inv.0 ∙ c.into_iter-event-iterator.ensures.into_iter_gives.0)) in
-    inv.5 ∙ ap (played g.L.Live.after g.L.Live.why a) every
+    inv.5 ∙ ap (machine_run g.L.Live.after g.L.Live.why a) every
 
 pub returns-then-is_err-clause-rest : goal.returns-then-is_err-clause-rest
 returns-then-is_err-clause-rest g c = let none = ap length (c.reserve.ensures.items ∙ c.new-answers.ensures.items) in let fresh = c.new-answers.ensures.len in

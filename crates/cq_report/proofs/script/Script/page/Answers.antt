@@ -11,5 +11,5 @@ returns-in_ok-floor-in-Setup g c =
     let d = c.self.inside in
     let opens : c.in_ok-floor-in-Setup.floor ≡ serving_of (staged_by d.is_closed d.stage) =
     c.in_ok-floor-in-Setup.ensures ∙ ap opened c.in_ok-copy-in-Setup.ensures ∙ ap serving_of (sym c.in-Setup.is) ∙ sym (serving_by d.is_closed d.stage) in
-    subst (λ (s : State). IfOk c.page_of.result (λ page. IsPage s.numbering (serving_of s.stage) s.before c.args.ask.now (string_bytes page))) c.self.view_is
-    (subst (λ (floor : FloorRecord). IfOk c.page_of.result (λ page. IsPage d.numbering floor d.before c.args.ask.now (string_bytes page))) opens c.page_of.ensures)
+    subst (λ (s : State). IfOk c.page_of.result (λ page. IsPage s.numbering (serving_of s.stage) c.args.ask.now (string_bytes page))) c.self.view_is
+    (subst (λ (floor : FloorRecord). IfOk c.page_of.result (λ page. IsPage d.numbering floor c.args.ask.now (string_bytes page))) opens c.page_of.ensures)

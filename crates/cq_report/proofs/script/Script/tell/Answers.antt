@@ -20,14 +20,14 @@ pub returns-then-is_quit-clause-told : goal.returns-then-is_quit-clause-told
 returns-then-is_quit-clause-told g c =
     let state = c.args.self.now in
     let ask = c.args.ask.now in
-    subst (λ (turn : TurnRecord). IsAskTold state.numbering (serving_of state.stage) state.before ask (turn_bytes state.numbering turn)) (sym c.plain.ensures)
-    (quit_told (serving_of state.stage) state.before ask (sym c.is_quit.ensures ∙ c.if-is_quit.true) state.numbering)
+    subst (λ (turn : TurnRecord). IsAskTold state.numbering (serving_of state.stage) ask (turn_bytes state.numbering turn)) (sym c.plain.ensures)
+    (quit_told (serving_of state.stage) ask (sym c.is_quit.ensures ∙ c.if-is_quit.true) state.numbering)
 
 -- a page is an answer, with what ends it
-told_of : (numbering : Numbering) (floor : FloorRecord) (before : ℕ) (ask : AskRecord) (page : List ℕ) → IsPage numbering floor before ask page → IsAskTold numbering floor before ask (turn_bytes numbering (record { outcome = Answered ask.kind; page = page }))
-told_of Plain floor before ask page is = (page, is, refl)
-told_of Numbered floor before ask page is = (page, is, refl)
-told_of Json floor before ask page is = subst (λ (bytes : List ℕ). IsMember floor before ask bytes) (sym (append-nil page)) is
+told_of : (numbering : Numbering) (floor : FloorRecord) (ask : AskRecord) (page : List ℕ) → IsPage numbering floor ask page → IsAskTold numbering floor ask (turn_bytes numbering (record { outcome = Answered ask.kind; page = page }))
+told_of Plain floor ask page is = (page, is, refl)
+told_of Numbered floor ask page is = (page, is, refl)
+told_of Json floor ask page is = subst (λ (bytes : List ℕ). IsMember floor ask bytes) (sym (append-nil page)) is
 
 pub returns-then-matches-clause-told : goal.returns-then-matches-clause-told
 returns-then-matches-clause-told g c =
@@ -39,8 +39,8 @@ returns-then-matches-clause-told g c =
       | in_default w ↦ absurd (let never = sym w.matches-is ∙ c.if-matches.true in cc)
     ] in
     let d = c.self.inside in
-    subst (λ (turn : TurnRecord). IsAskTold state.numbering floor state.before ask (turn_bytes state.numbering turn)) (sym (c.of_counts.ensures
+    subst (λ (turn : TurnRecord). IsAskTold state.numbering floor ask (turn_bytes state.numbering turn)) (sym (c.of_counts.ensures
     ∙ ap (λ (kind : AskKind). let turn : TurnRecord = record { outcome = Answered kind; page = counts_page d.numbering c.counts.result } in turn) is
     ∙ ap (λ (s : State). let turn : TurnRecord = record { outcome = Answered ask.kind; page = counts_page s.numbering c.counts.result } in turn) c.self.view_is
     ∙ ap (λ (counts : Counts). let turn : TurnRecord = record { outcome = Answered ask.kind; page = counts_page state.numbering counts } in turn) c.counts.ensures))
-    (told_of state.numbering floor state.before ask (counts_page state.numbering (counts_of floor)) (counts_told floor state.before ask is state.numbering))
+    (told_of state.numbering floor ask (counts_page state.numbering (counts_of floor)) (counts_told floor ask is state.numbering))
