@@ -1,6 +1,10 @@
 //! Plans a task: what it reads, standard input or a file, and how much memory it may have.
 
-ghost use Rattle.std.specs.Prelude.{◌≡◌};
+ghost use Rattle.std.specs.Prelude.{◌≡◌, IfSome};
+ghost use Rattle.std.specs.Option.{is_some};
+ghost use Rattle.std.specs.Io.{ReadsAtMost};
+ghost use Rattle.std.specs.Io.KnownBytes.{ReadConsumes};
+ghost use Rattle.cq_cli.specs.Devices.{left_of_input};
 
 use crate::sizes::size_of;
 use crate::wanted::{Task, read_words};
@@ -51,6 +55,20 @@ impl<S: Read, F: Read> Read for Input<S, F> {
     ghost remaining = { λ i. left_of_input S.remaining F.remaining i.standard i.file };
 
     fn read(&mut self, buf: &mut [u8]) -> io::Result<usize> {
+        self.read_from(buf)
+    }
+}
+
+impl<S: Read, F: Read> Input<S, F> {
+    /// Reads from the file, if there is one, and from standard input otherwise.
+    fn read_from(&mut self, buf: &mut [u8]) -> io::Result<usize>
+        ensures bound { ReadsAtMost result buf.new }
+        ensures bytes { ReadConsumes (left_of_input S.remaining F.remaining self.old.standard self.old.file) (left_of_input S.remaining F.remaining self.new.standard self.new.file) result buf.new }
+
+        // Standard input is not read if there is a file.
+        ensures standard { IfSome self.old.file (λ file. self.new.standard ≡ self.old.standard) }
+        ensures file { is_some self.new.file ≡ is_some self.old.file }
+    {
         match &mut self.file {
             Some(file) => file.read(buf),
             None => self.standard.read(buf),
