@@ -1,4 +1,4 @@
--- Counts, and the pieces that tell them.
+-- Counts, and their pieces.
 use Rattle.std.proofs.Common.{◌≡◌, ◌<◌, ◌^◌, ℕ, ◌+◌, suc, true, false, List, [], ◌∷◌, ◌++◌, length, drop, get_or, Some, refl, sym, ap, ◌∙◌, arith, append_assoc, append-nil}
 use Rattle.std.specs.Prelude.{fold, codes, decimal, nat_le}
 use Rattle.std.specs.List.{flat_map, slice_get}

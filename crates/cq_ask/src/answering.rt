@@ -48,7 +48,7 @@ fn put_status<A: Allocator + Copy>(
     write!(page, "{text} {word}\n")
 }
 
-/// Puts whether the queries of these names are matched.
+/// Appends a line for each of these names: matched, waiting or absent.
 fn put_statuses<A: Allocator + Copy>(
     board: &Board<A>,
     names: &[Name<A>],
@@ -62,7 +62,7 @@ fn put_statuses<A: Allocator + Copy>(
     Ok(())
 }
 
-/// Puts a line, where no query is pending under the name.
+/// Appends a line if no query is pending under the name.
 fn put_if_absent<A: Allocator + Copy>(
     board: &Board<A>,
     name: &Name<A>,
@@ -77,7 +77,7 @@ fn put_if_absent<A: Allocator + Copy>(
     write!(page, "{text} is absent\n")
 }
 
-/// Puts those of the names under which no query is pending.
+/// Appends a line for each of the names under which no query is pending.
 fn put_absent<A: Allocator + Copy>(
     board: &Board<A>,
     names: &[Name<A>],
@@ -91,7 +91,7 @@ fn put_absent<A: Allocator + Copy>(
     Ok(())
 }
 
-/// Puts the blocks of the queries of these names.
+/// Appends the blocks of the queries of these names.
 fn put_blocks<A: Allocator + Copy>(
     alloc: A,
     board: &Board<A>,
@@ -155,7 +155,7 @@ fn explain_text<A: Allocator + Copy>(
     Ok(page)
 }
 
-/// Puts the heads that are nearest to that postcondition of the queries of these names on an empty page.
+/// Appends to an empty page the heads that are nearest to this postcondition of the queries of these names.
 fn put_nears<A: Allocator + Copy>(
     alloc: A,
     board: &Board<A>,
@@ -186,7 +186,7 @@ fn near_text<A: Allocator + Copy>(
     Ok(page)
 }
 
-/// Whether the words stand for choices that coordinate; nothing where they stand for none.
+/// Returns whether the words denote choices that coordinate, or nothing if they denote none.
 pub(crate) fn verdict<A: Allocator + Copy>(
     alloc: A,
     board: &Board<A>,
@@ -226,7 +226,7 @@ fn choice_text<A: Allocator + Copy>(
     String::from_str(alloc, verdict_line(verdict))
 }
 
-/// What is told of a coordinating choice that has these queries.
+/// Returns the text about a coordinating choice that includes these queries.
 fn choose_text<A: Allocator + Copy>(
     alloc: A,
     board: &Board<A>,
@@ -256,7 +256,7 @@ pub(crate) fn help() -> &'static str
     "count                queries, rows and entries\nstatus NAME..        whether queries are matched, waiting or absent\nquery NAME           its block of the report\nexplain [NAME..]     why queries wait\nnear NAME POST       which heads nearly supply a postcondition\nchoice CHOICE..      whether a choice coordinates, as in choice a(1) b(1)\nchoose [NAME..]      a coordinating choice that has the queries\ngroups               groups of queries, and whether each can go\nchanges              queries that came, went or turned at the last publish\ngraph                who can supply whom, for Graphviz\njson                 the board as JSON\ncheckpoint           begins a new journal over what is published\nhelp                 these lines\nquit                 ends; no later line is answered\nAll other lines are those of a script.\n"
 }
 
-/// What ends an answer to what is asked.
+/// Returns the text that ends an answer to a question of this kind.
 pub fn ending(kind: AskKind) -> &'static str
     ensures { result.now ≡ ending kind }
 {
@@ -276,12 +276,12 @@ pub fn ending(kind: AskKind) -> &'static str
     }
 }
 
-/// What is told of what is asked, of the board that the floor publishes, without what [ends](ending) the answer. Its time is that of the text that it has:
+/// Returns the answer to a question about the board that the floor publishes, without its [end](ending). It takes the time of its text:
 /// for `count`, `status` and `help` that of the names, for a query's block that of a walk over the board, for `changes` that of
 /// [`Floor::earlier`]. For a checkpoint, which changes the floor, the text is empty.
 ///
 /// # Errors
-/// `AllocError` where an allocation failed.
+/// `AllocError` if an allocation fails.
 pub fn tell<A: Allocator + Copy>(
     alloc: A,
     floor: &Floor<Board<A>, A>,

@@ -14,7 +14,7 @@ pub enum AskKind {
     Count,
     /// Whether queries are matched.
     Status,
-    /// What the report tells of a query.
+    /// The block of a query in the report.
     Query,
     /// Why queries wait.
     Explain,
@@ -30,7 +30,7 @@ pub enum AskKind {
     Changes,
     /// The graph of who can supply whom.
     Graph,
-    /// What the report tells, in JSON.
+    /// The report in JSON.
     Json,
     /// That a checkpoint be made.
     Checkpoint,
@@ -38,7 +38,7 @@ pub enum AskKind {
     Help,
     /// That no further line is heard.
     Quit,
-    /// A line that begins as one that asks, and goes on as none.
+    /// A question whose words do not fit.
     Unfit,
 }
 

@@ -1,4 +1,4 @@
-//! What changed at the last publish.
+//! Changes of the last publish.
 
 ghost use Rattle.std.specs.Prelude.{◌≡◌, ◌++◌, map, string_bytes, IfOk, OnOk, option_map};
 ghost use Rattle.std.specs.List.{flat_map};
@@ -11,7 +11,7 @@ use cq_board::Board;
 use cq_desk::{Floor, NoMemory};
 use std::alloc::{AllocError, Allocator};
 
-/// Puts a line, where no query is pending under the name now.
+/// Appends a line if no query is pending under the name now.
 fn put_if_gone<A: Allocator + Copy>(
     now: &Board<A>,
     name: &Name<A>,
@@ -26,7 +26,7 @@ fn put_if_gone<A: Allocator + Copy>(
     write!(page, "{text} went\n")
 }
 
-/// Puts those of these names under which no query is pending now.
+/// Appends a line for each of these names under which no query is pending now.
 fn put_gone<A: Allocator + Copy>(
     now: &Board<A>,
     names: &[&Name<A>],
@@ -40,7 +40,7 @@ fn put_gone<A: Allocator + Copy>(
     Ok(())
 }
 
-/// What became of a query that is pending now, where something did.
+/// Returns how a query that is pending now changed, if it did.
 fn change_words(before: Option<bool>, now: Option<bool>) -> Option<&'static str>
     ensures { option_map (λ words. words.now) result ≡ change_words before now }
 {
@@ -53,7 +53,7 @@ fn change_words(before: Option<bool>, now: Option<bool>) -> Option<&'static str>
     }
 }
 
-/// Puts a line, where something became of the query that is pending under the name now.
+/// Appends a line if the query that is pending under the name now changed.
 fn put_change<A: Allocator + Copy>(
     before: &Board<A>,
     now: &Board<A>,
@@ -69,7 +69,7 @@ fn put_change<A: Allocator + Copy>(
     write!(page, "{text} {words}\n")
 }
 
-/// Puts what became of the queries of these names.
+/// Appends a line for each query of these names that changed.
 fn put_each<A: Allocator + Copy>(
     before: &Board<A>,
     now: &Board<A>,
@@ -84,7 +84,7 @@ fn put_each<A: Allocator + Copy>(
     Ok(())
 }
 
-/// Puts what changed between two boards.
+/// Appends the changes between two boards.
 fn put_changes<A: Allocator + Copy>(
     before: &Board<A>,
     now: &Board<A>,
@@ -108,7 +108,7 @@ pub(crate) fn earlier_board<A: Allocator + Copy>(
     }
 }
 
-/// Appends what changed at the last publish.
+/// Appends the changes of the last publish.
 pub(crate) fn put_last_changes<A: Allocator + Copy>(
     floor: &Floor<Board<A>, A>,
     page: &mut String<A>,

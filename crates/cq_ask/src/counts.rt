@@ -136,7 +136,7 @@ fn last_part(words: &'static str) -> CountPart
     }
 }
 
-/// Returns the pieces of the line that tells the counts. Does not allocate.
+/// Returns the pieces of the line with the counts. Does not allocate.
 pub fn count_parts(counts: &Counts) -> [CountPart; 11]
     ensures { flat_map part_bytes result ≡ count_line counts.now }
 {
@@ -155,7 +155,7 @@ pub fn count_parts(counts: &Counts) -> [CountPart; 11]
     ]
 }
 
-/// Returns the pieces of the member that tells the counts in a JSON object, after other members. Does
+/// Returns the pieces of the JSON member with the counts, which follows other members. Does
 /// not allocate.
 pub fn count_members(counts: &Counts) -> [CountPart; 11]
     ensures { flat_map part_bytes result ≡ member_text (codes "count", count_json counts.now) }

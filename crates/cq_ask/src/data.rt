@@ -71,7 +71,7 @@ fn flag_member<A: Allocator + Copy>(
 
 // ---- names
 
-/// Puts whether the queries of these names are matched.
+/// Appends an object for each of these names: matched, waiting or absent.
 fn put_standings<A: Allocator + Copy>(
     sheet: &mut JsonText<A>,
     board: &Board<A>,
@@ -98,7 +98,7 @@ fn status_member<A: Allocator + Copy>(
     member(alloc, "status", sheet)
 }
 
-/// Puts the queries of these names.
+/// Appends the queries of these names.
 fn put_queries<A: Allocator + Copy>(
     alloc: A,
     sheet: &mut JsonText<A>,
@@ -138,7 +138,7 @@ fn explain_member<A: Allocator + Copy>(
     member(alloc, "explain", sheet)
 }
 
-/// Puts the heads that are nearest to that postcondition of the queries of these names.
+/// Appends the heads that are nearest to this postcondition of the queries of these names.
 fn put_nears<A: Allocator + Copy>(
     sheet: &mut JsonText<A>,
     board: &Board<A>,
@@ -215,7 +215,7 @@ fn groups_member<A: Allocator + Copy>(alloc: A, board: &Board<A>) -> Result<Stri
 
 // ---- changes
 
-/// Puts a name, what became of it, and how that came.
+/// Appends a name, the state of its query, and how that changed.
 fn put_change<A: Allocator + Copy>(
     sheet: &mut JsonText<A>,
     now: &Board<A>,
@@ -231,7 +231,7 @@ fn put_change<A: Allocator + Copy>(
     sheet.end_object()
 }
 
-/// Puts that the query of the name went, where none is pending under it now.
+/// Appends that the query of the name was removed, if none is pending under it now.
 fn put_if_gone<A: Allocator + Copy>(
     sheet: &mut JsonText<A>,
     now: &Board<A>,
@@ -245,7 +245,7 @@ fn put_if_gone<A: Allocator + Copy>(
     put_change(sheet, now, name, "went")
 }
 
-/// Puts which of these queries went.
+/// Appends which of these queries were removed.
 fn put_gone<A: Allocator + Copy>(
     sheet: &mut JsonText<A>,
     now: &Board<A>,
@@ -259,7 +259,7 @@ fn put_gone<A: Allocator + Copy>(
     Ok(())
 }
 
-/// How a query that is pending changed, where it did.
+/// Returns how a pending query changed, if it did.
 fn change_word(before: Option<bool>, now: Option<bool>) -> Option<&'static str>
     ensures { option_map (λ word. word.now) result ≡ change_word before now }
 {
@@ -271,7 +271,7 @@ fn change_word(before: Option<bool>, now: Option<bool>) -> Option<&'static str>
     }
 }
 
-/// Puts how the query that is pending under the name changed, where it did.
+/// Appends how the query that is pending under the name changed, if it did.
 fn put_if_changed<A: Allocator + Copy>(
     sheet: &mut JsonText<A>,
     before: &Board<A>,
@@ -286,7 +286,7 @@ fn put_if_changed<A: Allocator + Copy>(
     }
 }
 
-/// Puts which of these queries changed, and how.
+/// Appends which of these queries changed, and how.
 fn put_each_change<A: Allocator + Copy>(
     sheet: &mut JsonText<A>,
     before: &Board<A>,
@@ -301,7 +301,7 @@ fn put_each_change<A: Allocator + Copy>(
     Ok(())
 }
 
-/// Puts what changed between two boards.
+/// Appends the changes between two boards.
 fn put_changes<A: Allocator + Copy>(
     sheet: &mut JsonText<A>,
     before: &Board<A>,
@@ -348,11 +348,11 @@ fn board_member<A: Allocator + Copy>(
     format!(in alloc; ",\"board\":{text}")
 }
 
-/// What is told of what is asked, of the board that the floor publishes, as a member of a JSON object that has others before it. What is asked and of what
-/// are as with [`tell`](crate::tell), and so is its time.
+/// Returns the answer to a question about the board that the floor publishes, as a member that follows others in a JSON object. Its time is that of
+/// [`tell`](crate::tell).
 ///
 /// # Errors
-/// `AllocError` where an allocation failed.
+/// `AllocError` if an allocation fails.
 pub fn tell_data<A: Allocator + Copy>(
     alloc: A,
     floor: &Floor<Board<A>, A>,

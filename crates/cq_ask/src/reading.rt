@@ -20,7 +20,7 @@ pub(crate) fn is_space(byte: u8) -> bool
     byte == b' ' || byte == b'\t' || byte == b'\r'
 }
 
-/// How many spaces stand at the front.
+/// Returns how many spaces the bytes begin with.
 fn spaces_len(bytes: &[u8]) -> usize
     ensures len { result ≡ prefix_len is_space bytes.now }
     ensures within { result ≤ length bytes.now }
@@ -36,7 +36,7 @@ fn word_len(bytes: &[u8]) -> usize
     bytes.iter().take_while(|byte| !is_space(**byte)).count()
 }
 
-/// The first word of a line, and what stands after it.
+/// Returns the first word of a line, and the rest.
 fn cut_word(line: &[u8]) -> (&[u8], &[u8])
     ensures { (result.0.now, result.1.now) ≡ cut_word line.now }
 {
@@ -68,7 +68,7 @@ fn is_word(word: &[u8], text: &str) -> bool
     word == text.as_bytes()
 }
 
-/// What the word asks, if it asks.
+/// Returns the kind of question that begins with this word, if any does.
 fn kind_of(word: &[u8]) -> Option<AskKind>
     ensures { result ≡ kind_of word.now }
 {
@@ -117,7 +117,7 @@ fn takes(kind: AskKind, count: usize) -> bool
     }
 }
 
-/// Returns true if a question of that kind takes no names.
+/// Returns true if a question of this kind accepts no names.
 fn takes_no_names(kind: AskKind) -> bool
     ensures { result ≡ takes_no_names kind }
 {
@@ -165,7 +165,7 @@ fn names_of<A: Allocator + Copy>(
     Ok(Some(names))
 }
 
-/// What is asked by a word of that kind before others, which are to be names.
+/// Returns the question that a word of this kind and other words, which must be names, ask.
 fn asked_of_names<A: Allocator + Copy>(
     alloc: A,
     kind: AskKind,
@@ -195,7 +195,7 @@ fn post_of<A: Allocator>(alloc: A, word: &[u8]) -> Result<Option<u8>, AllocError
     }
 }
 
-/// What is asked by `near` before others: a name and a postcondition.
+/// Returns the question that `near` and other words, a name and a postcondition, ask.
 fn asked_of_post<A: Allocator + Copy>(alloc: A, words: &[&[u8]]) -> Result<Ask<A>, AllocError>
     ensures { IfOk result (λ ask. ask ≡ asked_of_post (map (λ word. word.now) words.now)) }
 {
@@ -208,7 +208,7 @@ fn asked_of_post<A: Allocator + Copy>(alloc: A, words: &[&[u8]]) -> Result<Ask<A
     }
 }
 
-/// What is asked by a word of that kind before the words of a text.
+/// Returns the question that a word of this kind and the words of a text ask.
 fn asked_of_words<A: Allocator + Copy>(
     alloc: A,
     kind: AskKind,
@@ -223,7 +223,7 @@ fn asked_of_words<A: Allocator + Copy>(
     }
 }
 
-/// Returns what is asked by a word of a kind that takes no names before a text. Does not allocate.
+/// Returns the question that a word of a kind without names and a text ask. Does not allocate.
 fn asked_of_none<A: Allocator + Copy>(alloc: A, kind: AskKind, text: &[u8]) -> Ask<A>
     requires { takes_no_names kind ≡ true }
     ensures { result ≡ asked_of kind text.now }
@@ -235,7 +235,7 @@ fn asked_of_none<A: Allocator + Copy>(alloc: A, kind: AskKind, text: &[u8]) -> A
     }
 }
 
-/// What is asked by a word of that kind before a text.
+/// Returns the question that a word of this kind and a text ask.
 fn asked_of<A: Allocator + Copy>(alloc: A, kind: AskKind, text: &[u8]) -> Result<Ask<A>, AllocError>
     ensures ask { IfOk result (λ ask. ask ≡ asked_of kind text.now) }
     ensures memory { OnErr result (takes_no_names (asked_of kind text.now).kind ≡ false) }
@@ -249,11 +249,11 @@ fn asked_of<A: Allocator + Copy>(alloc: A, kind: AskKind, text: &[u8]) -> Result
     }
 }
 
-/// What a line asks; nothing, where its first word is no asking one, or it is longer than a line may be. Does not allocate for a
-/// line that does not ask, or whose first word takes no names, as `count` and `quit`.
+/// Returns the question that a line asks, or nothing if its first word asks none or the line is too long. Does not allocate for a
+/// line that asks nothing, or whose first word accepts no names, such as `count` and `quit`.
 ///
 /// # Errors
-/// `AllocError` if an allocation fails, which happens only if the first word takes names or choices.
+/// `AllocError` if an allocation fails, which happens only if the first word accepts names or choices.
 pub fn read_ask<A: Allocator + Copy>(alloc: A, line: &[u8]) -> Result<Option<Ask<A>>, AllocError>
     ensures ask { IfOk result (λ ask. ask ≡ asked line.now) }
     ensures memory { OnErr result (option_map (λ ask. takes_no_names ask.kind) (asked line.now) ≡ Some false) }

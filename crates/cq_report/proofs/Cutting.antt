@@ -14,7 +14,7 @@ use Rattle.cq_report.specs.Steps.Kept.{kept}
 use Rattle.cq_report.specs.Steps.Serving.{HaveNoEnd, ended}
 use Rattle.cq_report.specs.Lines.{HasNoEnd}
 
--- ---- what is kept
+-- ---- the stored part of a line
 
 take_room : (k n : ℕ) (l more : List ℕ) → length l ≤ k → n ≡ min (k - length l) (length more) → l ++ take n more ≡ take k (l ++ more)
 take_room k n l more h e =
