@@ -11,7 +11,8 @@ use Rattle.cq_report.specs.Reading.{Reading, IsReading}
 use Rattle.cq_report.specs.declared.outcome.Outcome.TheVariants.{Refused}
 use Rattle.cq_report.specs.declared.refusal.Refusal.TheVariants.{Memory}
 use Rattle.cq_desk.specs.declared.event.Event.TheVariants as events
-use Rattle.cq_report.specs.Machine.{State, Staged, form_in, next, counted, numbered, spoken, reply, begin_life, happen, outcome, serving_of}
+use Rattle.cq_report.specs.Machine.{State, Staged, after, form_in, next, counted, numbered, spoken, reply, begin_life, outcome, serving_of}
+use Rattle.cq_report.specs.declared.stage.Stage.TheVariants.{Setup, Serving}
 use Rattle.cq_ask.specs.Ask.{AskRecord, asked, is_checkpoint, is_quit}
 use Rattle.cq_ask.specs.declared.ask.AskKind.{AskKind}
 use Rattle.cq_ask.specs.declared.ask.AskKind.TheVariants as kinds
@@ -50,9 +51,14 @@ abbrev pub IsSettled : Bool → Numbering → FloorRecord → AskRecord → List
 IsSettled true numbering floor ask told = told ≡ spoken numbering (outcome floor events.Checkpoint) []
 IsSettled false numbering floor ask told = IsAskTold numbering floor ask told
 
--- The board after a checkpoint that may be refused.
+-- The stage after a checkpoint, which may be refused. A setup lasts, since nothing has happened yet.
+abbrev pub stage_renewed : Staged → Staged
+stage_renewed (Setup setup) = Setup setup
+stage_renewed (Serving serving) = Serving (after serving events.Checkpoint)
+
+-- The board after that.
 abbrev pub renewed : State → State
-renewed state = record state { stage = (happen state.stage events.Checkpoint).0 }
+renewed state = record state { stage = stage_renewed state.stage }
 
 -- A checkpoint is due: so many entries were entered since the last one, and all are published. None ever is where that number is 0.
 abbrev pub is_due : State → Bool
@@ -93,7 +99,7 @@ IsTurn manner state line Unheard = is_done manner state ≡ true
 
 -- The stage after what is asked: only a checkpoint changes it.
 abbrev pub stage_asked : Bool → Staged → Staged
-stage_asked true stage = (happen stage events.Checkpoint).0
+stage_asked true stage = stage_renewed stage
 stage_asked false stage = stage
 
 -- The board after a line. One that asks for no checkpoint changes nothing, but that it is counted, and that the board may be over; one at which an allocation

@@ -122,11 +122,11 @@ impl<A: Allocator + Copy> Script<A> {
         }
     }
 
-    /// Makes a checkpoint of the board that the setup opens.
+    /// Makes a checkpoint of the board that a setup opens, which a publish ended.
     #[cold]
     #[inline(never)]
     fn checkpoint_first(&mut self, setup: Setup<A>) -> Result<Outcome, AllocError>
-        requires { serving_of self.old.stage ≡ opened setup }
+        requires { self.old.stage ≡ Serving (opened setup) }
         ensures state { IfOk result (λ outcome. self.new ≡ renewed self.old) }
         ensures outcome { IfOk result (λ outcome. outcome ≡ (happen self.old.stage Checkpoint).1) }
         ensures err { OnErr result (self.new ≡ self.old) }
@@ -137,7 +137,7 @@ impl<A: Allocator + Copy> Script<A> {
         Ok(outcome)
     }
 
-    /// Makes a checkpoint if all entries are published, and returns the outcome.
+    /// Makes a checkpoint if all entries are published, and returns the outcome. It does not end a setup.
     pub(crate) fn checkpoint(&mut self) -> Result<Outcome, AllocError>
         ensures state { IfOk result (λ outcome. self.new ≡ renewed self.old) }
         ensures outcome { IfOk result (λ outcome. outcome ≡ (happen self.old.stage Checkpoint).1) }
@@ -145,10 +145,11 @@ impl<A: Allocator + Copy> Script<A> {
     {
         match &mut self.stage {
             Stage::Serving(floor) => checkpointed(floor.checkpoint()),
-            Stage::Setup(setup) => {
+            Stage::Setup(setup) if self.is_closed => {
                 let setup = setup.copy()?;
                 self.checkpoint_first(setup)
             }
+            Stage::Setup(_) => Ok(Outcome::Checkpointed(0)),
         }
     }
 
