@@ -2,8 +2,8 @@
 //!
 //! The crates above use one contract of this one most: tables are a set of rows under a catalog.
 //! `insert` and `delete` say the whole content that they leave, a refused call leaves it as it was,
-//! `rows_of` shows the rows of one relation in order of their values, and `rows_with` those of them that have
-//! values in any run of columns, going round after the last.
+//! `rows_of` shows the rows of one relation in order of their values, `rows_first` those of them whose first values are given,
+//! in that order too, and `rows_with` those that have values in any run of columns, going round after the last.
 //!
 //! Contracts see a catalog as the list of its `Declaration`s, and tables as a `TablesRecord`.
 //!

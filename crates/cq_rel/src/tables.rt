@@ -4,9 +4,10 @@ ghost use Rattle.std.specs.Prelude.{◌≡◌, ◌↔◌, ◌⊎◌, [], length,
 ghost use Rattle.std.specs.List.{All};
 ghost use Rattle.std.specs.List.Sorted.{IsStrictlySortedBy, IsPermutation};
 ghost use Rattle.std.specs.Option.{option_map, option_copied};
+ghost use Rattle.std.specs.Ordering.{is_eq};
 ghost use Rattle.cq_atom.specs.Answer.{Answers};
 ghost use Rattle.cq_atom.specs.Atom.{RowRecord};
-ghost use Rattle.cq_rel.specs.Tables.{TablesRecord, IsTables, IsRow, IsUnder, arity_in, has_row, rows_in, values_order, has_turned, insert_fault, delete_fault, answer_of, with_row, without_row};
+ghost use Rattle.cq_rel.specs.Tables.{TablesRecord, IsTables, IsRow, IsUnder, arity_in, has_row, rows_in, values_order, first_order, has_turned, insert_fault, delete_fault, answer_of, with_row, without_row};
 
 use crate::catalog::Catalog;
 use crate::fault::RowFault;
@@ -71,6 +72,17 @@ impl<A: Allocator> Tables<A> {
     {
         let place = self.catalog.place_of(relation)?;
         Some(self.tables[place].rows())
+    }
+
+    /// The rows of the relation whose first values are these, in order of their values: none if the relation is not declared,
+    /// all if no value is given. Found by binary search.
+    pub fn rows_first(&self, relation: &str, values: &[&Value<A>]) -> Iter<'_, Row<A>, A>
+        ensures { result ≡ filter (λ r. is_eq (first_order (map (λ v. v.now) values.now) r.values)) (rows_in relation.now self.now) }
+    {
+        let Some(place) = self.catalog.place_of(relation) else {
+            return Iter::empty();
+        };
+        self.tables[place].rows_first(values)
     }
 
     /// The rows of the relation whose values begin with these from the column on, going round after the last column: in no

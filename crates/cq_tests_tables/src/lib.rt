@@ -13,6 +13,8 @@ mod changes;
 #[cfg(test)]
 mod csv_rows;
 #[cfg(test)]
+mod finders;
+#[cfg(test)]
 mod gates;
 #[cfg(test)]
 mod groundings;
