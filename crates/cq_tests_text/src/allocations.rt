@@ -1,10 +1,11 @@
 //! Each allocation of a call refused in turn.
 
-use cq_atom::{Query, Row};
+use cq_atom::{Name, Query, Row};
 use cq_devices::{Counted, Stop, read_whole};
 use cq_refusing::{Outcome, Tried, refusals};
 use cq_text::{
-    Form, TextFault, print_atom, print_query, print_row, print_values, push_escaped, read_command,
+    Form, TextFault, print_atom, print_query, print_row, print_values, push_board, push_escaped,
+    push_insert, push_limits, push_post, push_publish, push_relation, read_command,
     read_ground_atom, read_query,
 };
 use std::alloc::{AllocError, Allocator};
@@ -161,6 +162,60 @@ impl Tried for PrintingParts {
 #[test]
 fn failed_allocation_in_printing_parts(rt: HostRuntime) {
     assert!(rt; matches!(refusals::<PrintingParts>(rt.alloc()), Ok(3..)));
+}
+
+/// The lines of commands, each printed on a text of its own.
+struct PrintingCommands;
+
+const INSERTED: &str = r#"insert Flights("C", "Paris, the city of light", 1)"#;
+
+fn prints_commands<A: Allocator + Copy>(
+    alloc: A,
+    name: &Name<A>,
+    query: &Query<A>,
+    row: &Row<A>,
+) -> Result<bool, AllocError> {
+    let mut board = String::new(alloc);
+    push_board(&mut board, Form::Two)?;
+    let mut relation = String::new(alloc);
+    push_relation(&mut relation, "Flights", 3)?;
+    let mut limits = String::new(alloc);
+    push_limits(&mut limits, 10, 1000000)?;
+    let mut post = String::new(alloc);
+    push_post(&mut post, name, query)?;
+    let mut insert = String::new(alloc);
+    push_insert(&mut insert, row)?;
+    let mut publish = String::new(alloc);
+    push_publish(&mut publish)?;
+    Ok(
+        board.as_str() == "board 2"
+            && relation.as_str() == "relation Flights 3"
+            && limits.as_str() == "limits 10 1000000"
+            && post.as_str().strip_prefix("post kramer ") == Some(KRAMER)
+            && insert.as_str() == INSERTED
+            && publish.as_str() == "publish",
+    )
+}
+
+impl Tried for PrintingCommands {
+    fn tried<A: Allocator + Copy>(alloc: A) -> Outcome {
+        let (Ok(name), Ok(query), Ok(row)) = (
+            Name::new(alloc, "kramer"),
+            read_query(alloc, KRAMER.as_bytes(), Form::One),
+            read_ground_atom(alloc, ROW, Form::One),
+        ) else {
+            return Outcome::Unready;
+        };
+        match prints_commands(alloc, &name, &query, &row) {
+            Ok(right) => Outcome::done_if(right),
+            Err(_) => Outcome::refused_if(prints_commands(alloc, &name, &query, &row) == Ok(true)),
+        }
+    }
+}
+
+#[test]
+fn failed_allocation_in_printing_commands(rt: HostRuntime) {
+    assert!(rt; matches!(refusals::<PrintingCommands>(rt.alloc()), Ok(6..)));
 }
 
 /// Gives one letter a read, as many as it has.

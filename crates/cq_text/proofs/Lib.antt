@@ -4,6 +4,7 @@ pub mod Blank
 pub mod Bound
 pub mod Commands
 pub mod Derive
+pub mod Examples
 pub mod Fronts
 pub mod Laws
 pub mod Lexemes
@@ -24,6 +25,8 @@ mod PrintedEscapes
 mod PrintedItems
 mod PrintedTokens
 mod PrintedBack
+mod PrintedCommands
+mod PrintedLines
 mod PrintedLengths
 mod PrintedBound
 mod Made

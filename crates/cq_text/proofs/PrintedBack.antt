@@ -16,7 +16,7 @@ use Rattle.cq_text.specs.Token.{TokenContent, tokens_of}
 use Rattle.cq_text.specs.Grammar.{Separated, IsConstant, IsTermText, Applied, IsAtomText, IsRowText, AreAtomsIfAny, IsQueryText, IsShort, FewTerms, StandsForQuery, StandsForRow, FitsQuery}
 use Rattle.cq_text.specs.Lexing.{lexemes_of}
 use Rattle.cq_text.specs.Print.{StandsForAtom, printed_value, printed_term, printed_atom, printed_row, printed_atoms, printed_body, printed_query}
-use Rattle.cq_text.specs.Steps.Sound.{IsSoundTerm, IsSoundAtom, IsSoundRow, IsSoundQuery}
+use Rattle.cq_text.specs.Sound.{IsSoundTerm, IsSoundAtom, IsSoundRow, IsSoundQuery}
 use Rattle.cq_text.proofs.PrintedBound.{fits}
 use Rattle.cq_text.proofs.PrintedLengths.{line_atom, line_row, line_query}
 use Rattle.cq_text.proofs.PrintedTokens.{Spells, Anything, Ended, spells_then, spells_whole, spells_name, short_name, spells_text, spells_number, spells_open_paren, spells_close_paren, spells_open_brace, spells_close_brace, spells_comma, spells_arrow, spells_space, and_parts}
@@ -133,25 +133,25 @@ fits_two q s =
     let f = fits q s.query in
     (f.posts, f.heads, f.body, few_terms q.posts s.posts, few_terms q.heads s.heads, few_terms q.body s.body)
 
-module _ (bytes : List ℕ) (G : List TokenContent → Type 0) (r : Reads Anything bytes G) where
+module _ (P : List ℕ → Type 0) (ends : P []) (bytes : List ℕ) (G : List TokenContent → Type 0) (r : Reads P bytes G) where
   whole : tokens_of (lexemes_of bytes) ≡ r.tokens
-  whole = spells_whole Anything bytes r.tokens tt r.spells
+  whole = spells_whole P bytes r.tokens ends r.spells
 
-  allowed : G (tokens_of (lexemes_of bytes))
+  pub allowed : G (tokens_of (lexemes_of bytes))
   allowed = subst G (sym whole) r.is
 
-  all_short : AllByRecursion IsShort (tokens_of (lexemes_of bytes))
+  pub all_short : AllByRecursion IsShort (tokens_of (lexemes_of bytes))
   all_short = subst (AllByRecursion IsShort) (sym whole) r.short
 
 pub atom_back : (form : Form) (a : AtomRecord) → IsSoundAtom a → FewTerms form a → StandsForAtom form (printed_atom a) a
 atom_back form a s few =
     let r = reads_atom a s in
-    (line_atom form a s few, allowed (printed_atom a) (λ ts. IsAtomText ts a) r, all_short (printed_atom a) (λ ts. IsAtomText ts a) r, few)
+    (line_atom form a s few, allowed Anything tt (printed_atom a) (λ ts. IsAtomText ts a) r, all_short Anything tt (printed_atom a) (λ ts. IsAtomText ts a) r, few)
 
 pub row_back : (form : Form) (w : RowRecord) → IsSoundRow w → length w.values ≤ most_terms form → StandsForRow form (printed_row w) w
 row_back form w s few =
     let r = reads_row w s in
-    (line_row form w s few, record { sentence = allowed (printed_row w) (λ ts. IsRowText ts w) r; short = all_short (printed_row w) (λ ts. IsRowText ts w) r; fits = few })
+    (line_row form w s few, record { sentence = allowed Anything tt (printed_row w) (λ ts. IsRowText ts w) r; short = all_short Anything tt (printed_row w) (λ ts. IsRowText ts w) r; fits = few })
 
 pub query_back : (form : Form) (q : QueryRecord) → IsSoundQuery q → FitsQuery form q → StandsForQuery form (printed_query q) q
 query_back form q s few =
@@ -159,7 +159,7 @@ query_back form q s few =
     let r = reads_query q f.offered s.posts s.heads s.body in
     let G : List TokenContent → Type 0 = λ ts. IsQueryText ts q in (
       line_query form q few s.posts s.heads s.body,
-      record { sentence = allowed (printed_query q) G r; short = all_short (printed_query q) G r; fits = few },
+      record { sentence = allowed Anything tt (printed_query q) G r; short = all_short Anything tt (printed_query q) G r; fits = few },
       f.restricted,
     )
 

@@ -16,7 +16,7 @@ use Rattle.cq_atom.specs.Value.{ValueContent, IsValue}
 use Rattle.cq_atom.specs.Atom.{TermContent, AtomRecord, RowRecord}
 use Rattle.cq_atom.specs.Query.{QueryRecord}
 use Rattle.cq_text.specs.Print.{escaped_byte, escaped, printed_value, printed_term, printed_atom, printed_row, printed_atoms, printed_body, printed_query}
-use Rattle.cq_text.specs.Steps.Sound.{IsSoundTerm, IsSoundAtom, IsSoundRow}
+use Rattle.cq_text.specs.Sound.{IsSoundTerm, IsSoundAtom, IsSoundRow}
 use Rattle.cq_text.proofs.PrintedTokens.{and_parts, short_name}
 use Rattle.std.specs.List.{AllByRecursion}
 use Rattle.cq_text.specs.declared.form.Form.{Form}
@@ -113,28 +113,35 @@ length_body : (form : Form) (atoms : List AtomRecord) → length atoms ≤ most_
 length_body form [] few h f = omega arith
 length_body form (a ∷ atoms) few h f = let k = length_atoms form (a ∷ atoms) few h f in omega arith
 
--- the longest row or atom, and the longest query, are no longer than a line of the form may be
-within_line : (form : Form) → longest form ≤ most_bytes form
+-- the longest row or atom, and the longest query, leave 64 bytes of a line of the form for what comes before them
+within_line : (form : Form) → longest form + 64 ≤ most_bytes form
 within_line One = omega arith
 within_line Two = omega arith
 
-parts_within : (form : Form) → 3 * longest_part form + 8 ≤ most_bytes form
+parts_within : (form : Form) → 3 * longest_part form + 72 ≤ most_bytes form
 parts_within One = omega arith
 parts_within Two = omega arith
 
 pub line_atom : (form : Form) (a : AtomRecord) → IsSoundAtom a → FewTerms form a → length (printed_atom a) ≤ most_bytes form
 line_atom form a s few = let k = length_atom form a s few in let w = within_line form in omega arith
 
+pub line_after_row : (form : Form) (r : RowRecord) → IsSoundRow r → length r.values ≤ most_terms form → length (printed_row r) + 64 ≤ most_bytes form
+line_after_row form r s few = let k = length_row form r s few in let w = within_line form in omega arith
+
 pub line_row : (form : Form) (r : RowRecord) → IsSoundRow r → length r.values ≤ most_terms form → length (printed_row r) ≤ most_bytes form
-line_row form r s few = let k = length_row form r s few in let w = within_line form in omega arith
+line_row form r s few = let k = line_after_row form r s few in omega arith
 
 query_by_parts : (most p h b : ℕ) (q : QueryRecord) → length (printed_atoms q.posts) ≤ p → length (printed_atoms q.heads) ≤ h → length (printed_body q.body) ≤ b → p + h + b + 7 ≤ most → length (printed_query q) ≤ most
 query_by_parts most p h b q lp lh lb le = simp length-append (omega arith)
 
-pub line_query : (form : Form) (q : QueryRecord) → FitsQuery form q → All IsSoundAtom q.posts → All IsSoundAtom q.heads → All IsSoundAtom q.body → length (printed_query q) ≤ most_bytes form
-line_query form q f sp sh sb =
+pub line_after_query : (form : Form) (q : QueryRecord) → FitsQuery form q → All IsSoundAtom q.posts → All IsSoundAtom q.heads → All IsSoundAtom q.body → length (printed_query q) + 64 ≤ most_bytes form
+line_after_query form q f sp sh sb =
     let p = length_atoms form q.posts f.0 sp f.3 in
     let h = length_atoms form q.heads f.1 sh f.4 in
     let b = length_body form q.body f.2 sb f.5 in
     let w = parts_within form in
-    query_by_parts (most_bytes form) (longest_part form) (longest_part form) (longest_part form + 1) q p h b (omega arith)
+    let k = query_by_parts (3 * longest_part form + 8) (longest_part form) (longest_part form) (longest_part form + 1) q p h b (omega arith) in
+    omega arith
+
+pub line_query : (form : Form) (q : QueryRecord) → FitsQuery form q → All IsSoundAtom q.posts → All IsSoundAtom q.heads → All IsSoundAtom q.body → length (printed_query q) ≤ most_bytes form
+line_query form q f sp sh sb = let k = line_after_query form q f sp sh sb in omega arith

@@ -210,10 +210,10 @@ spells_text s e at rest h =
 
 -- ---- numbers
 
-abbrev AreDigits : List ℕ → Type 0
+abbrev pub AreDigits : List ℕ → Type 0
 AreDigits ds = list_all is_ascii_digit ds ≡ true
 
-numerals : IsNumeralModel AreDigits magnitude
+pub numerals : IsNumeralModel AreDigits magnitude
 numerals = numerals_by_fold AreDigits (search rules) (fold (λ n d. 10 * n + (d - 48))) (search rules)
 
 ended_digits : (rest : List ℕ) → Ended rest → Stops is_ascii_digit rest
@@ -287,7 +287,7 @@ negative_is ds n p v le =
     let t : nat_le (suc n) (2 ^ 63) ≡ true = grind (arith, nat_tests) in
     rw (p, v, s, t) refl
 
-spells_positive : (n : ℕ) → n < 2 ^ 63 → Spells Ended (decimal n) (Literal (Number (pos n)) ∷ [])
+pub spells_positive : (n : ℕ) → n < 2 ^ 63 → Spells Ended (decimal n) (Literal (Number (pos n)) ∷ [])
 spells_positive n lt at rest s =
     let d = digits_are n (decimal n) refl (omega arith) in
     let ds = d.first ∷ d.others in

@@ -7,4 +7,5 @@ pub mod Grammar
 pub mod Fault
 pub mod Views
 pub mod Print
+pub mod Sound
 pub mod Steps

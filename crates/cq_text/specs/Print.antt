@@ -1,6 +1,6 @@
--- The printed form of values, terms, atoms, rows and queries. (this project's profile)
+-- The printed form of values, terms, atoms, rows, queries and commands. (this project's profile)
 use Rattle.std.specs.Prelude.{ℕ, Bool, ◌≤◌, length, List, [], ◌∷◌, ◌++◌, codes, if◌then◌else◌, ◌||◌, ◌==◌}
-use Rattle.std.specs.Fmt.{signed_decimal}
+use Rattle.std.specs.Fmt.{signed_decimal, decimal}
 use Rattle.std.specs.List.{flat_map, join_by, AllByRecursion}
 use Rattle.cq_atom.specs.declared.value.Content.TheVariants.{Number, Text}
 use Rattle.cq_atom.specs.declared.term.TermKind.TheVariants.{Constant, Variable}
@@ -9,9 +9,12 @@ use Rattle.cq_atom.specs.Atom.{TermContent, AtomRecord, RowRecord}
 use Rattle.cq_atom.specs.Query.{QueryRecord}
 use Rattle.cq_text.specs.Token.{tokens_of}
 use Rattle.cq_text.specs.Lexing.{lexemes_of}
-use Rattle.cq_text.specs.Grammar.{IsAtomText, IsShort, FewTerms}
+use Rattle.cq_text.specs.Grammar.{CommandContent, IsAtomText, IsShort, FewTerms}
 use Rattle.cq_text.specs.declared.form.Form.{Form}
-use Rattle.cq_text.specs.Forms.{most_bytes}
+use Rattle.cq_text.specs.declared.command.CommandKind.TheVariants.{Blank, Setup, Edit, Publish, Show}
+use Rattle.cq_text.specs.declared.command.SetupLine.TheVariants.{Relation, Board, Limits}
+use Rattle.cq_atom.specs.declared.edit.EditKind.TheVariants.{Post, Withdraw, Insert, Delete}
+use Rattle.cq_text.specs.Forms.{most_bytes, number_of_form}
 
 -- The byte `"`.
 abbrev pub quote_mark : ℕ
@@ -75,3 +78,16 @@ printed_query q = codes "{" ++ printed_atoms q.posts ++ codes "} " ++ printed_at
 -- The text is no longer than a line may be, and its tokens are those of the atom, within the limits.
 abbrev pub StandsForAtom : (form : Form) → List ℕ → AtomRecord → Type 0
 StandsForAtom form text a = (length text ≤ most_bytes form) × IsAtomText (tokens_of (lexemes_of text)) a × AllByRecursion IsShort (tokens_of (lexemes_of text)) × FewTerms form a
+
+-- A command as a line of a script, without the end of the line: its word, then its names, numbers, query or row, with a space before each.
+abbrev pub printed_command : CommandContent → List ℕ
+printed_command Blank = []
+printed_command (Setup (Relation name arity)) = codes "relation " ++ name ++ codes " " ++ decimal arity
+printed_command (Setup (Board form)) = codes "board " ++ decimal (number_of_form form)
+printed_command (Setup (Limits pool journal)) = codes "limits " ++ decimal pool ++ codes " " ++ decimal journal
+printed_command (Edit (Post name query)) = codes "post " ++ name ++ codes " " ++ printed_query query
+printed_command (Edit (Withdraw name)) = codes "withdraw " ++ name
+printed_command (Edit (Insert row)) = codes "insert " ++ printed_row row
+printed_command (Edit (Delete row)) = codes "delete " ++ printed_row row
+printed_command Publish = codes "publish"
+printed_command Show = codes "show"

@@ -6,5 +6,4 @@ pub mod Binding
 pub mod Lexemes
 pub mod Lists
 pub mod Reader
-pub mod Sound
 pub mod Separators

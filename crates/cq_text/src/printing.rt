@@ -1,4 +1,4 @@
-//! The printed form of queries, atoms and rows.
+//! The printed form of queries, atoms, rows and commands.
 
 ghost use Rattle.std.specs.Prelude.{◌≡◌, ◌≤◌, ◌++◌, length, codes, string_bytes, encode_utf8, IfOk, OnOk};
 ghost use Rattle.std.specs.Fmt.{signed_decimal};
@@ -8,9 +8,15 @@ ghost use Rattle.cq_text.specs.Print.{is_escaped, escaped, printed_text, printed
 ghost use Rattle.cq_text.specs.declared.form.Form.TheVariants.{One, Two};
 ghost use Rattle.cq_text.specs.Forms.{most_terms};
 ghost use Rattle.cq_text.specs.Grammar.{FewTerms, FitsQuery, StandsForQuery, StandsForRow};
-ghost use Rattle.cq_text.specs.Steps.Sound.{IsSoundTerm, IsSoundAtom, IsSoundRow};
+ghost use Rattle.cq_text.specs.Sound.{IsSoundTerm, IsSoundAtom, IsSoundRow, IsSoundQuery};
 ghost use Rattle.cq_text.specs.Steps.Separators.{separator_at};
 
+mod commands;
+
+pub use self::commands::{
+    commands_read_back, push_board, push_insert, push_limits, push_post, push_publish,
+    push_relation,
+};
 use cq_atom::{Atom, Query, Row, Term, Value};
 use std::alloc::{AllocError, Allocator};
 
@@ -150,6 +156,22 @@ fn push_body<A: Allocator>(printed: &mut String<A>, body: &[Atom<A>]) -> Result<
     Ok(())
 }
 
+fn push_query_parts<A: Allocator>(
+    printed: &mut String<A>,
+    query: &Query<A>,
+) -> Result<(), AllocError>
+    ensures printed { OnOk result (string_bytes printed.new ≡ string_bytes printed.old ++ printed_query query.now) }
+    ensures sound { OnOk result (IsSoundQuery query.now) }
+{
+    printed.push('{')?;
+    push_atoms(printed, query.posts())?;
+    printed.push_str("} ")?;
+    push_atoms(printed, query.heads())?;
+    printed.push_str(" <-")?;
+    push_body(printed, query.body())?;
+    Ok(())
+}
+
 /// Puts a query after what is there, as `print_query` gives it: `{posts} heads <- body`. In proportion to the query.
 ///
 /// # Errors
@@ -161,12 +183,7 @@ pub fn push_query<A: Allocator>(printed: &mut String<A>, query: &Query<A>) -> Re
     // In format 1 too, where it keeps that format's limits.
     ensures reads_back_in_one { OnOk result (FitsQuery One query.now → StandsForQuery One (printed_query query.now) query.now) }
 {
-    printed.push('{')?;
-    push_atoms(printed, query.posts())?;
-    printed.push_str("} ")?;
-    push_atoms(printed, query.heads())?;
-    printed.push_str(" <-")?;
-    push_body(printed, query.body())?;
+    push_query_parts(printed, query)?;
     Ok(())
 }
 

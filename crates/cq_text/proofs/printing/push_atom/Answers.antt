@@ -2,7 +2,7 @@ use Rattle.std.proofs.Common.{arith, List, ℕ, codes, string_bytes, subst}
 use Rattle.std.specs.Prelude.{IsTrue}
 use Rattle.cq_atom.specs.Text.{is_relation_name}
 use Rattle.cq_atom.specs.Atom.{TermContent}
-use Rattle.cq_text.specs.Steps.Sound.{IsSoundTerm}
+use Rattle.cq_text.specs.Sound.{IsSoundTerm}
 use Rattle.std.proofs.lemmas.Str.{encode_ascii}
 use Rattle.std.specs.List.{join_by, All}
 use Rattle.cq_text.specs.Print.{printed_term}

@@ -1,6 +1,6 @@
 use Rattle.std.proofs.Common.{◌≡◌, ◌++◌, take, codes, string_bytes}
 use Rattle.std.specs.List.{join_by, All}
-use Rattle.cq_text.specs.Steps.Sound.{IsSoundAtom}
+use Rattle.cq_text.specs.Sound.{IsSoundAtom}
 use Rattle.cq_text.specs.Print.{printed_atom}
 use Rattle.cq_text.proofs.printing.push_atoms.Given as goal
 

@@ -3,7 +3,7 @@ use Rattle.std.specs.List.{join_by, All}
 use Rattle.std.proofs.lemmas.List.{take_all}
 use Rattle.std.proofs.lemmas.List.Elements.{All-more}
 use Rattle.cq_atom.specs.Atom.{TermContent}
-use Rattle.cq_text.specs.Steps.Sound.{IsSoundTerm}
+use Rattle.cq_text.specs.Sound.{IsSoundTerm}
 use Rattle.cq_text.specs.Print.{printed_term}
 use Rattle.cq_text.proofs.PrintedItems.{item_more}
 use Rattle.cq_text.proofs.printing.push_terms.Goals as goal
