@@ -6,6 +6,7 @@ use Rattle.std.proofs.lemmas.Grind.{fold-append}
 use Rattle.cq_desk.specs.History.{History}
 use Rattle.cq_desk.specs.Replies.{AreAccepted, journal_edits}
 use Rattle.cq_desk.specs.Desk.{IsInStep}
+use Rattle.cq_desk.specs.Machine.{most_entries}
 use Rattle.cq_desk.specs.declared.journal.Entry.{Entry}
 
 module _ {E C W : Type 0} (after : C → E → C) (why : C → E → Option W) where
@@ -23,9 +24,9 @@ module _ {E C W : Type 0} (after : C → E → C) (why : C → E → Option W) w
   accepted_front o xs ys p all = accepted_before o xs p.0 (subst (AreAccepted after why o) (sym p.1) all)
 
   -- an entry more
-  pub entered : (working now opening : C) (history shown : History (Entry E)) (pending : List (Entry E)) (js ks : List (Entry E)) (entry : Entry E) (limit handed published : ℕ) → IsInStep after why working opening history shown pending js limit handed published
-      → ks ≡ js ++ entry ∷ [] → length js < limit → why working entry.edit ≡ None → now ≡ after working entry.edit → IsInStep after why now opening history shown pending ks limit handed published
-  entered working now opening history shown pending js ks entry limit handed published p is room none next =
+  pub entered : (working now opening : C) (history shown : History (Entry E)) (pending : List (Entry E)) (js ks : List (Entry E)) (entry : Entry E) (limit base handed published : ℕ) → IsInStep after why working opening history shown pending js limit base handed published
+      → ks ≡ js ++ entry ∷ [] → length js < base + limit → length js < most_entries → why working entry.edit ≡ None → now ≡ after working entry.edit → IsInStep after why now opening history shown pending ks limit base handed published
+  entered working now opening history shown pending js ks entry limit base handed published p is room left none next =
       let es = journal_edits js in
       let edits : journal_edits ks ≡ es ++ entry.edit ∷ [] = ap journal_edits is ∙ map-append (λ e. e.edit) js (entry ∷ []) in
       let count : length ks ≡ length js + 1 = ap length is ∙ length-append js (entry ∷ []) in
@@ -37,4 +38,6 @@ module _ {E C W : Type 0} (after : C → E → C) (why : C → E → Option W) w
         front = p.front;
         accepted = subst (AreAccepted after why opening) (sym edits) (accepted_more opening es entry.edit p.accepted (subst (λ c. why c entry.edit ≡ None) p.works none));
         within = omega (arith, room, count);
+        based = p.based;
+        numbers = omega (arith, left, count);
       }

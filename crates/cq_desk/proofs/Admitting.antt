@@ -2,11 +2,12 @@
 use Rattle.std.proofs.Common.{◌≡◌, ℕ, ◌+◌, ◌<◌, ◌≤◌, true, false, nat_le, if◌then◌else◌, List, [], ◌∷◌, ◌++◌, length, fold, Option, Some, None, Result, Ok, Err, OnOk, OnErr, is_err, ap, sym, ◌∙◌, subst, arith}
 use Rattle.std.proofs.lemmas.Bool.{true≢false, false≢true, le-leb, lt-leb}
 use Rattle.std.proofs.lemmas.List.{append-nil, length-map}
-use Rattle.cq_desk.specs.Desk.{DeskRecord, IsInStep}
+use Rattle.cq_desk.specs.Desk.{DeskRecord, IsInStep, whole_journal}
 use Rattle.cq_desk.specs.History.{History}
 use Rattle.cq_desk.specs.Replies.{admitted, journal_edits, reply_at}
 use Rattle.cq_desk.specs.declared.journal.Entry.{Entry}
 use Rattle.cq_desk.specs.declared.reply.Reply.TheVariants.{Entered, JournalFull, Not}
+use Rattle.cq_desk.proofs.Basing.{whole_more}
 
 pub on_error : {T E P : Type 0} (r : Result T E) → P → OnErr r P
 on_error (Ok x) p = tt
@@ -44,18 +45,18 @@ module _ {E C W : Type 0} (after : C → E → C) (why : C → E → Option W) (
   reply_entered js e now r n room is answer none count = ap Entered count ∙ reply_room js e None room (sym none ∙ (answer ∙ ap (λ c. why c e) is))
 
 -- the view of a desk, with the journal that these entries are
-pub desk_as : {P E : Type 0} (publisher : P) (js ks : List (Entry E)) (limit : ℕ) (a : DeskRecord P E) → ks ≡ js → record { publisher = publisher; journal = js; limit = limit } ≡ a → record { publisher = publisher; journal = ks; limit = limit } ≡ a
-desk_as {P} {E} publisher js ks limit a same view = let F : List (Entry E) → DeskRecord P E = λ z. record { publisher = publisher; journal = z; limit = limit } in ap F same ∙ view
+pub desk_as : {P E : Type 0} (publisher : P) (js ks : List (Entry E)) (limit base : ℕ) (h : History (Entry E)) (a : DeskRecord P E) → ks ≡ js → record { publisher = publisher; journal = whole_journal base h js; limit = limit; base = base } ≡ a → record { publisher = publisher; journal = whole_journal base h ks; limit = limit; base = base } ≡ a
+desk_as {P} {E} publisher js ks limit base h a same view = let F : List (Entry E) → DeskRecord P E = λ z. record { publisher = publisher; journal = whole_journal base h z; limit = limit; base = base } in ap F same ∙ view
 
 pub desk_same : {P E : Type 0} (a b : DeskRecord P E) → b ≡ a → b ≡ record a { journal = a.journal ++ [] }
 desk_same {P} {E} a b is = let F : List (Entry E) → DeskRecord P E = λ z. record a { journal = z } in is ∙ ap F (sym (append-nil a.journal))
 
-pub desk_more : {P E : Type 0} (publisher : P) (js ks : List (Entry E)) (limit : ℕ) (e : Entry E) (a : DeskRecord P E) → ks ≡ js ++ e ∷ [] → record { publisher = publisher; journal = js; limit = limit } ≡ a → record { publisher = publisher; journal = ks; limit = limit } ≡ record a { journal = a.journal ++ e ∷ [] }
-desk_more {P} {E} publisher js ks limit e a more view =
-    let F : List (Entry E) → DeskRecord P E = λ z. record { publisher = publisher; journal = z; limit = limit } in
-    let G : DeskRecord P E → DeskRecord P E = λ v. record v { journal = v.journal ++ e ∷ [] } in ap F more ∙ ap G view
+pub desk_more : {P E : Type 0} (publisher : P) (js ks : List (Entry E)) (limit base : ℕ) (h : History (Entry E)) (e : Entry E) (a : DeskRecord P E) → ks ≡ js ++ e ∷ [] → record { publisher = publisher; journal = whole_journal base h js; limit = limit; base = base } ≡ a → record { publisher = publisher; journal = whole_journal base h ks; limit = limit; base = base } ≡ record a { journal = a.journal ++ e ∷ [] }
+desk_more {P} {E} publisher js ks limit base h e a more view =
+    let F : List (Entry E) → DeskRecord P E = λ z. record { publisher = publisher; journal = z; limit = limit; base = base } in
+    let G : DeskRecord P E → DeskRecord P E = λ v. record v { journal = v.journal ++ e ∷ [] } in ap F (whole_more base h js ks e more) ∙ ap G view
 
 -- and what its type says
-pub in_step_as : {E C W : Type 0} (after : C → E → C) (why : C → E → Option W) (working now opening : C) (history shown : History (Entry E)) (pending js ks : List (Entry E)) (limit handed published : ℕ) → now ≡ working → ks ≡ js → IsInStep after why working opening history shown pending js limit handed published → IsInStep after why now opening history shown pending ks limit handed published
-in_step_as after why working now opening history shown pending js ks limit handed published same is p =
-    subst (λ c. IsInStep after why c opening history shown pending ks limit handed published) (sym same) (subst (λ zs. IsInStep after why working opening history shown pending zs limit handed published) (sym is) p)
+pub in_step_as : {E C W : Type 0} (after : C → E → C) (why : C → E → Option W) (working now opening : C) (history shown : History (Entry E)) (pending js ks : List (Entry E)) (limit base handed published : ℕ) → now ≡ working → ks ≡ js → IsInStep after why working opening history shown pending (whole_journal base history js) limit base handed published → IsInStep after why now opening history shown pending (whole_journal base history ks) limit base handed published
+in_step_as after why working now opening history shown pending js ks limit base handed published same is p =
+    subst (λ c. IsInStep after why c opening history shown pending (whole_journal base history ks) limit base handed published) (sym same) (subst (λ zs. IsInStep after why working opening history shown pending (whole_journal base history zs) limit base handed published) (sym is) p)

@@ -10,9 +10,9 @@ use Rattle.cq_desk.specs.declared.event.Answer.TheVariants.{Replied, Checkpointe
 use Rattle.cq_desk.specs.declared.event.StepFault.TheVariants.{NoSession, Unpublished}
 use Rattle.cq_desk.specs.declared.reply.Reply.{Reply}
 use Rattle.cq_desk.specs.declared.reply.Reply.TheVariants.{Entered, JournalFull, Not}
-use Rattle.cq_desk.specs.Replies.{journal_edits, reply_at}
+use Rattle.cq_desk.specs.Replies.{journal_edits}
 use Rattle.cq_desk.proofs.Looking.{either}
-use Rattle.cq_desk.specs.Machine.{MachineRecord, opening_machine, entry_count, published_count, working_content, published_content, moved, unless_refused, counted_on, answer_to, machine_after, machine_run, entered_by, entered}
+use Rattle.cq_desk.specs.Machine.{MachineRecord, opening_machine, entry_count, published_count, working_content, published_content, moved, unless_refused, reply_to, answer_to, machine_after, machine_run, entered_by, entered}
 
 -- all of the one list, and as many of the other as are more
 take-append-more : {A : Type 0} (xs ys : List A) (n k : ℕ) → k ≡ length xs + n → take k (xs ++ ys) ≡ xs ++ take n ys
@@ -79,7 +79,7 @@ module _ {E C W : Type 0} (after : C → E → C) (why : C → E → Option W) (
   checked m es false count all k = k
 
   kept_after : (m : MachineRecord C E) (e : Event E) (es : List E) → IsKept m es → IsKept (machine_after after why m e) (es ++ entered_by after why e (answer_to after why m e))
-  kept_after m (Enter author edit) es k = in_session m es author edit (nat_le (length m.seen) author) (counted_on m.base (reply_at after why m.opening m.limit (journal_edits m.journal) edit)) k
+  kept_after m (Enter author edit) es k = in_session m es author edit (nat_le (length m.seen) author) (reply_to after why m edit) k
   kept_after m Publish es k = none record { past = k.past; all = k.all; opens = k.opens; counts = k.counts; front = omega arith }
   kept_after m (Look session) es k =
       none (either (λ n. IsKept n es) (answer_to after why m (Look session)) m (moved after m (Look session)) k record { past = k.past; all = k.all; opens = k.opens; counts = k.counts; front = k.front })

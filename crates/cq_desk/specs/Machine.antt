@@ -1,6 +1,6 @@
 -- The floor machine, which keeps a journal and counts, and of states only contents. It knows of the state how an edit changes it and why it refuses one.
 -- (this project's profile)
-use Rattle.std.specs.Prelude.{ℕ, ◌+◌, ◌-◌, ◌^◌, max, min, nat_le, List, [], ◌∷◌, ◌++◌, length, take, fold, get_or, set, replicate, if◌then◌else◌, Option, Result, Ok, Err}
+use Rattle.std.specs.Prelude.{ℕ, ◌+◌, ◌-◌, ◌^◌, max, min, nat_le, Bool, true, false, List, [], ◌∷◌, ◌++◌, length, take, fold, get_or, set, replicate, if◌then◌else◌, Option, Result, Ok, Err}
 use Rattle.cq_desk.specs.declared.journal.Entry.{Entry}
 use Rattle.cq_desk.specs.declared.event.Event.{Event}
 use Rattle.cq_desk.specs.declared.event.Event.TheVariants.{Enter, Publish, Look, Hear, Checkpoint}
@@ -8,12 +8,13 @@ use Rattle.cq_desk.specs.declared.event.Answer.{Answer}
 use Rattle.cq_desk.specs.declared.event.Answer.TheVariants.{Replied, Published, Looked, Heard, Checkpointed}
 use Rattle.cq_desk.specs.declared.event.StepFault.{StepFault}
 use Rattle.cq_desk.specs.declared.event.StepFault.TheVariants.{NoSession, Ahead, Unpublished}
-use Rattle.cq_desk.specs.Replies.{journal_edits, reply_at}
+use Rattle.cq_desk.specs.Replies.{admitted, journal_edits}
 use Rattle.cq_desk.specs.declared.reply.Reply.{Reply}
 use Rattle.cq_desk.specs.declared.reply.Reply.TheVariants.{Entered, JournalFull, Not}
 
 -- The content before the journal's first entry, how many entries the journal may hold, how many came before it, the journal, how many of its entries are
--- published, how many entries in all each session has seen or heard of, and the content that was published before the last publish.
+-- published, how many entries in all each session has seen or heard of, the content that was published before the last publish, and whether a checkpoint was
+-- made.
 pub record MachineRecord (C E : Type 0) : Type 0 where
   pub opening : C
   pub limit : ℕ
@@ -22,10 +23,11 @@ pub record MachineRecord (C E : Type 0) : Type 0 where
   pub published : ℕ
   pub seen : List ℕ
   pub earlier : C
+  pub has_checkpoint : Bool
 
 -- At first nothing has happened.
 abbrev pub opening_machine : {C E : Type 0} → C → ℕ → ℕ → MachineRecord C E
-opening_machine opening limit sessions = record { opening = opening; limit = limit; base = 0; journal = []; published = 0; seen = replicate sessions 0; earlier = opening }
+opening_machine opening limit sessions = record { opening = opening; limit = limit; base = 0; journal = []; published = 0; seen = replicate sessions 0; earlier = opening; has_checkpoint = false }
 
 -- How many entries there are in all.
 abbrev pub entry_count : {C E : Type 0} → MachineRecord C E → ℕ
@@ -42,12 +44,6 @@ seen_by machine session = get_or machine.seen session 0
 -- The numbers of entries have 64 bits.
 abbrev pub most_entries : ℕ
 most_entries = 2 ^ 64 - 1
-
--- The reply to an edit where so many entries came before the journal: numbers continue.
-abbrev pub counted_on : {W : Type 0} → ℕ → Reply W → Reply W
-counted_on base (Entered number) = Entered (base + number)
-counted_on base JournalFull = JournalFull
-counted_on base (Not reason) = Not reason
 
 -- The answer where there is a session of that number.
 abbrev pub if_session : {C E W : Type 0} → MachineRecord C E → ℕ → Result (Answer W) StepFault → Result (Answer W) StepFault
@@ -76,17 +72,21 @@ moved after machine Publish = record machine { published = length machine.journa
 moved after machine (Look session) = record machine { seen = set machine.seen session (published_count machine) }
 moved after machine (Hear session count) = record machine { seen = set machine.seen session (max (seen_by machine session) count) }
 moved after machine Checkpoint =
-    record machine { opening = published_content after machine; limit = min machine.limit (most_entries - entry_count machine); base = entry_count machine; journal = []; published = 0 }
+    record machine { opening = published_content after machine; limit = min machine.limit (most_entries - entry_count machine); base = entry_count machine; journal = []; published = 0; has_checkpoint = true }
 
--- The machine after its journal, which is empty, begins over this content under this limit.
+-- The machine after its journal, which is empty, begins over this content under this limit. It is as if the content had been published twice.
 abbrev pub reopened : {C E : Type 0} → C → ℕ → MachineRecord C E → MachineRecord C E
-reopened opening limit machine = record machine { opening = opening; limit = min limit (most_entries - machine.base) }
+reopened opening limit machine = record machine { opening = opening; limit = min limit (most_entries - machine.base); earlier = opening }
 
 module _ {E C W : Type 0} (after : C → E → C) (why : C → E → Option W) where
+  -- The reply to an edit: the limit of the journal is tested first, then the working content.
+  abbrev pub reply_to : MachineRecord C E → E → Reply W
+  reply_to machine edit =
+      if nat_le machine.limit (length machine.journal) then JournalFull else admitted (entry_count machine) (why (working_content after machine) edit)
+
   -- What is answered to an event: the first test that fails, else an edit's reply or a number.
   abbrev pub answer_to : MachineRecord C E → Event E → Result (Answer W) StepFault
-  answer_to machine (Enter author edit) =
-      if_session machine author (Ok (Replied (counted_on machine.base (reply_at after why machine.opening machine.limit (journal_edits machine.journal) edit))))
+  answer_to machine (Enter author edit) = if_session machine author (Ok (Replied (reply_to machine edit)))
   answer_to machine Publish = Ok (Published (entry_count machine))
   answer_to machine (Look session) = if_session machine session (Ok (Looked (published_count machine)))
   answer_to machine (Hear session count) =

@@ -1,5 +1,5 @@
 -- What a submit does to a desk, and how it is answered. (this project's profile)
-use Rattle.std.specs.Prelude.{◌≡◌, ℕ, ◌<◌, List, ◌++◌, length, take, drop, Option, ⊤}
+use Rattle.std.specs.Prelude.{◌≡◌, ℕ, ◌+◌, ◌<◌, List, ◌++◌, length, take, drop, Option, ⊤}
 use Rattle.cq_desk.specs.declared.reply.Reply.{Reply}
 use Rattle.cq_desk.specs.declared.reply.End.{End}
 use Rattle.cq_desk.specs.declared.journal.Entry.{Entry}
@@ -16,10 +16,12 @@ AreTried end asked told = MatchEnd end (λ _. length told ≡ length asked) (len
 pub record IsSubmission {P C E W : Type 0} (after : C → E → C) (why : C → E → Option W) (opening_of : P → C) (history_of shown_of : P → History (Entry E)) (author : ℕ) (old new : DeskRecord P E) (asked : List E) (told : List (Reply W)) (end : End) : Type 0 where
   -- The journal may hold as many entries as before.
   pub limit : new.limit ≡ old.limit
+  -- No checkpoint is made.
+  pub base : new.base ≡ old.base
   -- The opening content is as it was.
   pub opening : opening_of new.publisher ≡ opening_of old.publisher
-  -- The replies are those to the first of the edits, in turn after what stood in the journal.
-  pub replies : told ≡ replies_at after why (opening_of old.publisher) old.limit (journal_edits old.journal) (take (length told) asked)
+  -- The replies are those to the first of the edits, in turn after what stood in the journal. The limit bounds the entries since the last checkpoint.
+  pub replies : told ≡ replies_at after why (opening_of old.publisher) (old.base + old.limit) (journal_edits old.journal) (take (length told) asked)
   -- Exactly the edits that were told a number are entered, under the author's number, after what stood in the journal.
   pub journal : new.journal ≡ old.journal ++ entries_by author (accepted asked told)
   -- How many of the edits have a reply, by the end.

@@ -1,6 +1,6 @@
 //! A journal under a limit, its working state and its publisher.
 
-ghost use Rattle.std.specs.Prelude.{◌≡◌, ◌≤◌, ◌<◌, [], ◌++◌, length, fold, drop, IfOk, OnOk, OnErr};
+ghost use Rattle.std.specs.Prelude.{◌≡◌, ◌≤◌, ◌<◌, ◌+◌, [], ◌++◌, length, fold, drop, IfOk, OnOk, OnErr};
 ghost use mathlib.Core.List.{IsPrefix};
 ghost use Rattle.cq_desk.specs.History.{edits_of, grown, BeginsWith};
 ghost use Rattle.cq_desk.specs.Desk.{with_reply};
@@ -14,29 +14,41 @@ use crate::publisher::Publisher;
 use crate::reply::{End, Reply, Submitted};
 use std::alloc::{Allocator, Global};
 use std::marker::Model;
+use thiserror::Error;
 
-/// A journal, the working state that it leaves, and a publisher. Contracts see the publisher, the
-/// journal and its limit. That the working state is what the journal leaves over the publisher's
-/// opening content, and that published entries, then those pending or not yet handed over, are the
-/// journal's, authors included, stands in this type.
+/// Why a desk makes no checkpoint.
+#[derive(Clone, Copy, Debug, PartialEq, Eq, Error)]
+pub enum CheckpointFault {
+    /// Some entries are not published.
+    #[error("entries are not published yet")]
+    Unpublished,
+}
+
+/// A journal, the working state that it leaves, and a publisher. Contracts see the publisher, all entries that
+/// were ever accepted, the journal's limit, and how many entries came before the last checkpoint. The desk itself keeps only
+/// the entries since then. That the working state is what all entries leave over the publisher's
+/// opening content, and that published entries, then those pending or not yet handed over, are these
+/// entries, authors included, stands in this type.
 #[derive(Drop)]
 pub struct Desk<L: Live, P: Publisher<L>, A: Allocator = Global> {
     working: L,
     publisher: P,
     journal: Vec<Entry<L::Edit>, A>,
     limit: usize,
+    base: u64,
     handed: usize,
     published: usize,
 }
 
 impl<L: Live, P: Publisher<L>, A: Allocator> Model for Desk<L, P, A> {
-    ghost use Rattle.cq_desk.specs.Desk.{DeskRecord, IsInStep};
+    ghost use Rattle.std.specs.Prelude.{◌+◌};
+    ghost use Rattle.cq_desk.specs.Desk.{DeskRecord, IsInStep, whole_journal};
 
     ghost Value = { DeskRecord P L.Edit };
 
-    ghost view = { λ d. record { publisher = d.publisher; journal = d.journal.items; limit = d.limit } };
+    ghost view = { λ d. record { publisher = d.publisher; journal = whole_journal d.base (P.history d.publisher) d.journal.items; limit = d.limit; base = d.base } };
 
-    ghost invariant = { λ d. IsInStep L.after L.why (L.content d.working) (P.opening d.publisher) (P.history d.publisher) (P.shown d.publisher) (P.pending d.publisher) d.journal.items d.limit d.handed d.published };
+    ghost invariant = { λ d. IsInStep L.after L.why (L.content d.working) (P.opening d.publisher) (P.history d.publisher) (P.shown d.publisher) (P.pending d.publisher) (whole_journal d.base (P.history d.publisher) d.journal.items) d.limit d.base (d.base + d.handed) (d.base + d.published) };
 }
 
 impl<L: Live, P: Publisher<L>, A: Allocator + Copy> Desk<L, P, A> {
@@ -47,13 +59,14 @@ impl<L: Live, P: Publisher<L>, A: Allocator + Copy> Desk<L, P, A> {
         requires history { P.history publisher ≡ [] }
         requires shown { P.shown publisher ≡ [] }
         requires pending { P.pending publisher ≡ [] }
-        ensures { result ≡ record { publisher = publisher; journal = []; limit = journal } }
+        ensures { result ≡ record { publisher = publisher; journal = []; limit = journal; base = 0 } }
     {
         Desk {
             working: state,
             publisher,
             journal: Vec::new(alloc),
             limit: journal,
+            base: 0,
             handed: 0,
             published: 0,
         }
@@ -75,42 +88,63 @@ impl<L: Live, P: Publisher<L>, A: Allocator + Copy> Desk<L, P, A> {
         &self.publisher
     }
 
-    /// The accepted edits with their authors, the earliest first: each was accepted after those before it.
+    /// The accepted edits since the last checkpoint, with their authors, the earliest first: each was accepted after those before it.
     pub fn journal(&self) -> &[Entry<L::Edit>]
-        ensures value { result.now ≡ self.now.journal }
+        ensures value { result.now ≡ drop self.now.base self.now.journal }
         ensures accepted { AreAccepted L.after L.why (P.opening self.now.publisher) (journal_edits self.now.journal) }
-        ensures within { length self.now.journal ≤ self.now.limit }
+        ensures within { length self.now.journal ≤ self.now.base + self.now.limit }
+        ensures base { self.now.base ≤ length self.now.journal }
     {
         &self.journal
     }
 
-    /// How many entries are published.
+    /// Returns how many entries came before the last checkpoint. All of them are published.
+    pub fn base(&self) -> u64
+        ensures value { result ≡ self.now.base }
+        ensures published { self.now.base ≤ length (edits_of (P.shown self.now.publisher)) }
+    {
+        self.base
+    }
+
+    /// Returns how many entries there are in all, including those before the last checkpoint.
+    pub fn count(&self) -> u64
+        ensures { result ≡ length self.now.journal }
+    {
+        self.base + self.journal.len() as u64
+    }
+
+    /// How many entries are published, including those before the last checkpoint.
     pub fn published_count(&self) -> u64
         ensures { result ≡ length (edits_of (P.shown self.now.publisher)) }
     {
-        self.published as u64
+        self.base + self.published as u64
     }
 
-    /// Enters the edit under the author's name where it is not refused, and answers what became of it.
+    /// Enters the edit under the author's name where it is not refused, and answers what became of it. Numbers count
+    /// all entries; the limit bounds those since the last checkpoint.
     ///
     /// # Errors
     /// `NoMemory` where an allocation failed, which may take the place of `Not` and not of
-    /// `JournalFull`. Nothing has changed then.
+    /// `JournalFull`, and if all 2^64 - 1 numbers are used. Nothing has changed then.
     pub fn enter(&mut self, author: usize, edit: L::Edit) -> Result<Reply<L::Why>, NoMemory>
-        ensures reply { IfOk result (λ reply. reply ≡ reply_at L.after L.why (P.opening self.old.publisher) self.old.limit (journal_edits self.old.journal) edit) }
+        ensures reply { IfOk result (λ reply. reply ≡ reply_at L.after L.why (P.opening self.old.publisher) (self.old.base + self.old.limit) (journal_edits self.old.journal) edit) }
         ensures after { IfOk result (λ reply. self.new ≡ with_reply author edit reply self.old) }
         ensures err { OnErr result (self.new ≡ self.old) }
-        ensures room { OnErr result (length self.old.journal < self.old.limit) }
+        ensures room { OnErr result (length self.old.journal < self.old.base + self.old.limit) }
     {
         if self.journal.len() >= self.limit {
             return Ok(Reply::JournalFull);
+        }
+        let count = self.count();
+        if count == u64::MAX {
+            return Err(NoMemory);
         }
         self.journal.reserve(1)?;
         match self.working.admit(&edit)? {
             Some(why) => Ok(Reply::Not(why)),
             None => {
                 self.journal.push_reserved(Entry { author, edit });
-                Ok(Reply::Entered(self.journal.len() as u64))
+                Ok(Reply::Entered(count + 1))
             }
         }
     }
@@ -124,6 +158,7 @@ impl<L: Live, P: Publisher<L>, A: Allocator + Copy> Desk<L, P, A> {
     pub fn publish(&mut self, leave: &P::Leave) -> Result<u64, NoMemory>
         ensures journal { self.new.journal ≡ self.old.journal }
         ensures limit { self.new.limit ≡ self.old.limit }
+        ensures base { self.new.base ≡ self.old.base }
         ensures opening { P.opening self.new.publisher ≡ P.opening self.old.publisher }
         ensures count { IfOk result (λ count. count ≡ length self.old.journal) }
         ensures history { OnOk result (P.history self.new.publisher ≡ grown (P.history self.old.publisher) (drop (length (edits_of (P.history self.old.publisher))) self.old.journal)) }
@@ -141,7 +176,31 @@ impl<L: Live, P: Publisher<L>, A: Allocator + Copy> Desk<L, P, A> {
         }
         self.publisher.publish(leave)?;
         self.published = self.handed;
-        Ok(self.published as u64)
+        Ok(self.base + self.published as u64)
+    }
+
+    /// Makes the published content the opening content, and empties the journal, which frees its entries. Returns how many
+    /// entries there are in all: numbers continue, and the limit bounds the entries from here on. What is published does not change. It does not allocate.
+    /// The publisher's own memory is not freed: [`Plain`](crate::Plain) keeps a list of all entries.
+    ///
+    /// # Errors
+    /// `Unpublished` if not all entries are published. Nothing changes then.
+    pub fn checkpoint(&mut self) -> Result<u64, CheckpointFault>
+        ensures ok { OnOk result (self.new ≡ record self.old { base = length self.old.journal }) }
+        ensures count { IfOk result (λ count. count ≡ length self.old.journal) }
+        ensures published { OnOk result (edits_of (P.shown self.old.publisher) ≡ self.old.journal) }
+        ensures err { OnErr result (self.new ≡ self.old) }
+        ensures unpublished { OnErr result (length (edits_of (P.shown self.old.publisher)) < length self.old.journal) }
+    {
+        let count = self.count();
+        if self.published < self.journal.len() {
+            return Err(CheckpointFault::Unpublished);
+        }
+        self.journal = Vec::new(*self.journal.allocator());
+        self.base = count;
+        self.handed = 0;
+        self.published = 0;
+        Ok(count)
     }
 
     /// Enters these edits one after another under the author's name, and publishes what the journal

@@ -46,12 +46,13 @@ pub enum ReopenFault {
     NoMemory,
 }
 
-/// A journal with its two states, and for each session how many entries it has seen or heard of. Contracts see the floor
+/// A journal with its three states, for each session how many entries it has seen or heard of, and whether a checkpoint was made. Contracts see the floor
 /// machine. That no session has seen more than is published stands in this type.
 #[derive(Drop)]
 pub struct Floor<L: Live, A: Allocator + Copy = Global> {
     turns: Turns<L, A>,
     seen: Vec<u64, A>,
+    has_checkpoint: bool,
 }
 
 impl<L: Live, A: Allocator + Copy> Model for Floor<L, A> {
@@ -61,7 +62,7 @@ impl<L: Live, A: Allocator + Copy> Model for Floor<L, A> {
 
     ghost Value = { MachineRecord L.Content L.Edit };
 
-    ghost view = { λ f. record { opening = f.turns.opening; limit = f.turns.limit; base = f.turns.base; journal = f.turns.journal; published = f.turns.published; seen = f.seen.items; earlier = f.turns.earlier } };
+    ghost view = { λ f. record { opening = f.turns.opening; limit = f.turns.limit; base = f.turns.base; journal = f.turns.journal; published = f.turns.published; seen = f.seen.items; earlier = f.turns.earlier; has_checkpoint = f.has_checkpoint } };
 
     ghost invariant = { λ f. AreWithin (f.turns.base + f.turns.published) f.seen.items };
 }
@@ -111,24 +112,17 @@ impl<L: Live, A: Allocator + Copy> Floor<L, A> {
         }
         let seen = unseen(alloc, sessions)?;
         let turns = Turns::begin(alloc, state, journal)?;
-        Ok(Floor { turns, seen })
+        Ok(Floor {
+            turns,
+            seen,
+            has_checkpoint: false,
+        })
     }
 
-    /// The state before the journal's first entry: the one before the first event, or the one that the last checkpoint found published.
-    pub fn opening(&self) -> &L
-        ensures { L.content result.now ≡ self.now.opening }
-    {
-        self.turns.opening()
-    }
-
-    /// Returns a state with the content that was published before the last publish, even if a checkpoint was made since. At first it is the opening content.
-    /// Right after a publish it needs the time of a copy. After further edits it also applies the journal's published entries once more,
-    /// unless a checkpoint was made since.
-    ///
-    /// # Errors
-    /// `NoMemory` if an allocation fails.
-    pub fn earlier(&self) -> Result<L, NoMemory>
-        ensures { IfOk result (λ state. L.content state ≡ self.now.earlier) }
+    /// Returns the state with the content that was published before the last publish, even if a checkpoint was made since. At first, and after
+    /// [`reopen`](Floor::reopen), it is the opening content. The floor keeps this state, so it is not copied.
+    pub fn earlier(&self) -> &L
+        ensures { L.content result.now ≡ self.now.earlier }
     {
         self.turns.earlier()
     }
@@ -233,7 +227,8 @@ impl<L: Live, A: Allocator + Copy> Floor<L, A> {
 
     /// Makes the published content the opening content, and empties the journal, which frees its entries. Returns how many entries there are in all:
     /// numbers continue. The published content, what each session has seen, and the content before the last publish do not change.
-    /// It needs the time of two copies of the state, and of applying the entries of the last publish once more.
+    /// It copies no state. Right after a publish it applies the entries of the last two publishes once more. The entries of the last publish
+    /// that published any are kept until the next checkpoint.
     ///
     /// # Errors
     /// `Unpublished` if not all entries are published; `NoMemory` if an allocation fails. Nothing changes then.
@@ -247,13 +242,23 @@ impl<L: Live, A: Allocator + Copy> Floor<L, A> {
         }
         let count = self.turns.published();
         match self.turns.checkpoint() {
-            Ok(()) => Ok(count),
+            Ok(()) => {
+                self.has_checkpoint = true;
+                Ok(count)
+            }
             Err(NoMemory) => Err(StepFault::NoMemory),
         }
     }
 
-    /// Begins the journal over another state, which it publishes, and under another limit of entries. Numbers continue, and what each session has seen and
-    /// the content before the last publish do not change.
+    /// Returns true if a checkpoint was made.
+    pub fn has_checkpoint(&self) -> bool
+        ensures { result ≡ self.now.has_checkpoint }
+    {
+        self.has_checkpoint
+    }
+
+    /// Begins the journal over another state, which it publishes, and under another limit of entries. Numbers continue, and what each session has seen
+    /// does not change. The content before the last publish is that of this state too.
     ///
     /// # Errors
     /// `Late` if the journal contains entries: right after a checkpoint it contains none. `NoMemory` if an allocation fails. Nothing

@@ -5,9 +5,10 @@
 //! to a [`Publisher`], which shows what the published ones leave. [`Plain`] is a publisher over one
 //! state. Nothing here knows which states there are. The desk's type says that the working state is
 //! what the journal leaves over the publisher's opening content, and that the published entries, then
-//! those pending or not yet handed over, are the journal's, authors included (`specs/Desk`).
+//! those pending or not yet handed over, are the journal's, authors included (`specs/Desk`). `Desk::checkpoint` empties the journal
+//! once all of it is published; contracts go on to see all entries, and numbers count them.
 //!
-//! A [`Floor`] is a journal with two states that take turns, and several sessions look at it. It is proved against the floor
+//! A [`Floor`] is a journal with three states that take turns, and several sessions look at it. It is proved against the floor
 //! machine (`specs/Machine`), which keeps a journal, counts and contents, and no state: `Floor::play` says that after
 //! any list of events the answers and what is kept are those of the machine, `working` and `board` that the states have
 //! what the whole journal and its published front leave, and `looks_never_fall` that no session sees less than it had seen
@@ -35,7 +36,7 @@ mod publisher;
 mod reply;
 mod turns;
 
-pub use desk::Desk;
+pub use desk::{CheckpointFault, Desk};
 pub use event::{Answer, Event, StepFault};
 pub use floor::{Floor, FloorFault, ReopenFault};
 pub use gate::{Checkpoint, Gate, OpenGate};

@@ -21,7 +21,8 @@
 //! with all that the session had seen; the accepted edits are the last of the front's entries, under
 //! the session's number, all in its last publication, each at the number that it was told
 //! (`specs/Receipts`). `Room::close`: the journal begins with the entries that each session has seen, and
-//! with those up to its last submit, which it knows of whether they were published or not.
+//! with those up to its last submit, which it knows of whether they were published or not. `Session::checkpoint` empties the
+//! desk's journal under the lock; histories, and what sessions know of, are those of the room's whole life.
 //!
 //! A call that takes the lock keeps its promise if it returns: nothing is said of when that is.
 //!
@@ -41,7 +42,7 @@ mod shown;
 mod submit;
 mod trail;
 
-pub use cq_desk::{Checkpoint, Gate, OpenGate};
+pub use cq_desk::{Checkpoint, CheckpointFault, Gate, OpenGate};
 pub use front::Front;
 pub use names::RoomName;
 pub use pair::Pair;

@@ -1,6 +1,6 @@
 //! How a room is begun, opened and closed.
 
-ghost use Rattle.std.specs.Prelude.{◌≡◌, ◌<◌, ◌≤◌, [], ◌∷◌, IfOk, IfErr, All, length, MatchBool, MatchResult, ⊤};
+ghost use Rattle.std.specs.Prelude.{◌≡◌, ◌<◌, ◌≤◌, ◌+◌, if◌then◌else◌, [], ◌∷◌, IfOk, IfErr, All, length, MatchBool, MatchResult, ⊤};
 ghost use mathlib.Core.List.{IsPrefix};
 ghost use Rattle.cq_desk.specs.History.{edits_of};
 ghost use Rattle.cq_desk.specs.Replies.{AreAccepted, journal_edits};
@@ -229,7 +229,8 @@ where
         ensures seen { All (λ session. IsPrefix (edits_of session.history) result.journal) sessions.items }
         ensures known { All (λ session. IsPrefix session.known result.journal) sessions.items }
         ensures accepted { AreAccepted L.after L.why (P.opening result.publisher) (journal_edits result.journal) }
-        ensures within { length result.journal ≤ result.limit }
+        ensures base { result.base ≤ (if N.renews then length result.journal else 0) }
+        ensures within { length result.journal ≤ result.base + result.limit }
     {
         let Room { lock } = self;
         let LockedDesk {

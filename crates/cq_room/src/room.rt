@@ -1,6 +1,6 @@
 //! A room: a desk under one lock, and sessions that look at what it publishes.
 
-ghost use Rattle.std.specs.Prelude.{◌≡◌, [], ◌∷◌, ◌++◌, length, None, IfOk, OnErr, MatchBool, MatchOption, ⊤};
+ghost use Rattle.std.specs.Prelude.{◌≡◌, ◌≤◌, ◌<◌, [], ◌∷◌, ◌++◌, length, None, true, IfOk, OnOk, OnErr, MatchBool, MatchOption, ⊤};
 ghost use mathlib.Core.List.{IsPrefix};
 ghost use Rattle.cq_desk.specs.History.{edits_of};
 ghost use Rattle.cq_desk.specs.Replies.{MatchEnd, accepted, entries_by};
@@ -14,7 +14,7 @@ use crate::front::Front;
 use crate::names::{JournalOf, RoomName};
 use crate::session::Session;
 use crate::trail::{MOST, Trail};
-use cq_desk::{Checkpoint, Desk, End, Entry, Live, NoMemory, Publisher, Submitted};
+use cq_desk::{Checkpoint, CheckpointFault, Desk, End, Live, NoMemory, Publisher, Submitted};
 use std::alloc::{Allocator, Global};
 use std::marker::{Model, PhantomData};
 use std::sync::{Mutex, Wait};
@@ -33,9 +33,9 @@ where
         ensures { result ≡ Self.shown self.now };
 }
 
-/// What lies under the lock. Contracts see the journal and what is shown. That the room's name
-/// names the opening content and the limit, and that the trail of what is entered begins the journal,
-/// stands in this type.
+/// What lies under the lock. Contracts see the journal, what is shown, and how many entries came before the last checkpoint. That the
+/// room's name names the opening content and the limit, that the trail of what is entered has the whole journal, and that no checkpoint
+/// was made if the room's owner makes none, stands in this type.
 #[derive(Drop)]
 pub struct LockedDesk<L: Live, N: RoomName<L::Content>, P: Publisher<L>, A: Allocator = Global> {
     pub(crate) desk: Desk<L, P, A>,
@@ -46,16 +46,15 @@ pub struct LockedDesk<L: Live, N: RoomName<L::Content>, P: Publisher<L>, A: Allo
 
 impl<L: Live, N: RoomName<L::Content>, P: Publisher<L>, A: Allocator> Model
     for LockedDesk<L, N, P, A> {
-    ghost use Rattle.std.specs.Prelude.{◌≡◌, ◌∷◌, []};
-    ghost use mathlib.Core.List.{IsPrefix};
+    ghost use Rattle.std.specs.Prelude.{◌≡◌, ◌≤◌, ◌∷◌, [], length, if◌then◌else◌};
     ghost use Rattle.cq_room.specs.Marks.{entries_in};
     ghost use Rattle.cq_room.specs.Steps.Room.{LockedRecord};
 
     ghost Value = { LockedRecord L.Edit };
 
-    ghost view = { λ k. record { journal = k.desk.journal; shown = P.shown k.desk.publisher } };
+    ghost view = { λ k. record { journal = k.desk.journal; shown = P.shown k.desk.publisher; base = k.desk.base } };
 
-    ghost invariant = { λ k. (P.opening k.desk.publisher ∷ [] ≡ N.opening) × (k.desk.limit ≡ N.limit) × IsPrefix (entries_in k.entered) k.desk.journal };
+    ghost invariant = { λ k. (P.opening k.desk.publisher ∷ [] ≡ N.opening) × (k.desk.limit ≡ N.limit) × (entries_in k.entered ≡ k.desk.journal) × (k.desk.base ≤ (if N.renews then length k.desk.journal else 0)) };
 }
 
 /// What the sessions of a room share: the desk, under one lock. A look takes no part in the lock.
@@ -83,6 +82,8 @@ impl<L: Live, N: RoomName<L::Content>, P: Publisher<L>, A: Allocator> Room<L, N,
         requires opening { P.opening desk.publisher ∷ [] ≡ N.opening }
         requires limit { desk.limit ≡ N.limit }
         requires entered { entered ≡ [] }
+        requires journal { desk.journal ≡ [] }
+        requires base { desk.base ≡ 0 }
     {
         Room {
             lock: Mutex::new(LockedDesk {
@@ -111,16 +112,19 @@ where
 }
 
 /// Takes note of the entries that the trail lacks, and says whether it has all. It always does.
-fn catch_up<L: Live, N: RoomName<L::Content>>(
+fn catch_up<L: Live, N: RoomName<L::Content>, P: Publisher<L>, A: Allocator + Copy>(
     entered: &mut Trail<L, JournalOf<N>>,
     entries: &Book<L, JournalOf<N>>,
-    journal: &[Entry<L::Edit>],
+    desk: &Desk<L, P, A>,
 ) -> bool
-    requires { IsPrefix (entries_in entered.old) journal.now }
-    ensures begins { IsPrefix (entries_in entered.new) journal.now }
-    ensures all { MatchBool result (entries_in entered.new ≡ journal.now) ⊤ }
+    requires begins { IsPrefix (entries_in entered.old) desk.now.journal }
+    requires base { desk.now.base ≤ length (entries_in entered.old) }
+    ensures begins { IsPrefix (entries_in entered.new) desk.now.journal }
+    ensures all { MatchBool result (entries_in entered.new ≡ desk.now.journal) ⊤ }
 {
-    for place in entered.count() as usize..journal.len() {
+    let base = desk.base();
+    let journal = desk.journal();
+    for place in (entered.count() - base) as usize..journal.len() {
         if entered.entries() >= MOST || !entered.enter(entries, &journal[place]) {
             return false;
         }
@@ -129,16 +133,17 @@ fn catch_up<L: Live, N: RoomName<L::Content>>(
 }
 
 /// Returns where the trail has all entries of the journal, which is always so.
-fn await_entries<L: Live, N: RoomName<L::Content>, R: Wait>(
+fn await_entries<L: Live, N: RoomName<L::Content>, P: Publisher<L>, A: Allocator + Copy, R: Wait>(
     rt: &R,
     entered: &mut Trail<L, JournalOf<N>>,
     entries: &Book<L, JournalOf<N>>,
-    journal: &[Entry<L::Edit>],
+    desk: &Desk<L, P, A>,
 )
-    requires { IsPrefix (entries_in entered.old) journal.now }
-    ensures { entries_in entered.new ≡ journal.now }
+    requires begins { IsPrefix (entries_in entered.old) desk.now.journal }
+    requires base { desk.now.base ≤ length (entries_in entered.old) }
+    ensures { entries_in entered.new ≡ desk.now.journal }
 {
-    if catch_up(entered, entries, journal) {
+    if catch_up(entered, entries, desk) {
         return;
     }
     for _ in rt.forever() {}
@@ -184,8 +189,9 @@ where
         ensures seen { IfOk result (λ _. IsPrefix (edits_of session.old.history) self.old.journal) }
         ensures known { IfOk result (λ _. IsPrefix session.old.known self.old.journal) }
         ensures session { IfOk result (λ _. session.new ≡ record session.old { known = self.new.journal }) }
-        ensures replies { IfOk result (λ receipt. AreReplies L.after L.why N.opening N.limit self.old.journal asked.items receipt.submitted.replies.items) }
+        ensures replies { IfOk result (λ receipt. AreReplies L.after L.why N.opening N.limit N.renews self.old.journal asked.items receipt.submitted.replies.items) }
         ensures journal { IfOk result (λ receipt. self.new.journal ≡ self.old.journal ++ entries_by session.old.number (accepted asked.items receipt.submitted.replies.items)) }
+        ensures base { IfOk result (λ _. self.new.base ≡ self.old.base) }
         ensures tried { IfOk result (λ receipt. AreTried receipt.submitted.end asked.items receipt.submitted.replies.items) }
         ensures front { IfOk result (λ receipt. MatchEnd receipt.submitted.end
             (λ count. MatchOption receipt.front ⊥ (λ front. IsPublished self.old.journal session.old.number asked.items receipt.submitted.replies.items count front))
@@ -199,9 +205,31 @@ where
         self.await_known(rt, session);
         let _ = self.desk.publisher();
         let submitted = self.desk.submit_past(session.number(), asked, rt, gate)?;
-        await_entries(rt, &mut self.entered, &self.entries, self.desk.journal());
+        await_entries(rt, &mut self.entered, &self.entries, &self.desk);
         session.learn(&self.entered);
         let front = self.front_at(submitted.end);
         Ok(Receipt { submitted, front })
+    }
+
+    /// Has the session take note of all that is entered.
+    pub(crate) fn tell(&self, rt: &P::Leave, session: &mut Session<L, N, A>)
+        ensures session { session.new ≡ record session.old { known = self.now.journal } }
+        ensures seen { IsPrefix (edits_of session.old.history) self.now.journal }
+        ensures knew { IsPrefix session.old.known self.now.journal }
+    {
+        self.await_known(rt, session);
+        session.learn(&self.entered)
+    }
+
+    /// Makes a checkpoint of the desk.
+    pub(crate) fn checkpoint(&mut self) -> Result<u64, CheckpointFault>
+        requires { N.renews ≡ true }
+        ensures ok { OnOk result (self.new ≡ record self.old { base = length self.old.journal }) }
+        ensures count { IfOk result (λ count. count ≡ length self.old.journal) }
+        ensures published { OnOk result (edits_of self.old.shown ≡ self.old.journal) }
+        ensures err { OnErr result (self.new ≡ self.old) }
+        ensures unpublished { OnErr result (length (edits_of self.old.shown) < length self.old.journal) }
+    {
+        self.desk.checkpoint()
     }
 }

@@ -14,9 +14,9 @@ use Rattle.cq_desk.specs.Replies.{MatchEnd, accepted, entries_by, journal_edits,
 use Rattle.cq_desk.specs.declared.journal.Entry.{Entry}
 use Rattle.cq_desk.specs.declared.reply.Reply.{Reply}
 use Rattle.cq_room.specs.Sessions.{SessionRecord}
-use Rattle.cq_room.specs.Receipts.{AreReplies, Heard, entered_before}
+use Rattle.cq_room.specs.Receipts.{Heard, entered_before}
 use Rattle.cq_sessions.specs.Sessions.{Submitted}
-use Rattle.cq_sessions.specs.Steps.Clients.{IsOpened, TakesEdits, IsSubmission, opened_pool}
+use Rattle.cq_sessions.specs.Steps.Clients.{AreRepliesWithin, IsOpened, TakesEdits, IsSubmission, opened_pool}
 
 edits_append : {E : Type 0} (h t : List (List E)) → edits_of (h ++ t) ≡ edits_of h ++ edits_of t
 edits_append [] t = refl
@@ -56,7 +56,7 @@ edits_with : {E : Type 0} (author : ℕ) (xs ys : List (Entry E)) (es : List E) 
 edits_with {E} author xs ys es is = ap journal_edits is ∙ (map-append (λ j. j.edit) xs (entries_by author es) ∙ ap (λ (z : List E). journal_edits xs ++ z) (edits_by author es))
 
 submitted_of : (pools : List PoolRecord) (limit : ℕ) (old new : SessionRecord Edit) (front : History (Entry Edit)) (asked : List Edit) (rs : List (Reply Why)) → IsOpened pools → length rs ≡ length asked
-    → IsPrefix (edits_of old.history) (entered_before front asked rs) → AreReplies pool_after why pools limit (entered_before front asked rs) asked rs → edits_of front ≡ entered_before front asked rs ++ entries_by old.number (accepted asked rs) → Heard old new front
+    → IsPrefix (edits_of old.history) (entered_before front asked rs) → AreRepliesWithin pool_after why pools limit (entered_before front asked rs) asked rs → edits_of front ≡ entered_before front asked rs ++ entries_by old.number (accepted asked rs) → Heard old new front
     → Submitted (opened_pool pools) limit (journal_edits (edits_of old.history)) (journal_edits (edits_of new.history)) asked rs
 submitted_of pools limit old new front asked rs (pool, is) tried seen replies last heard =
     let before = entered_before front asked rs in
@@ -72,7 +72,7 @@ submitted_of pools limit old new front asked rs (pool, is) tried seen replies la
 pub submission_of : (pools : List PoolRecord) (limit : ℕ) (old new : SessionRecord Edit) (asked : List Edit) (end : End) (front : Option (History (Entry Edit))) (rs : List (Reply Why)) (published : ℕ) → IsOpened pools
     → MatchEnd end (λ count. MatchOption front ⊥ (λ f. count ≡ length (edits_of f))) (front ≡ None) (front ≡ None)
     → MatchEnd end (λ _. length rs ≡ length asked) (length rs < length asked) (length rs ≡ length asked)
-    → IfSome front (λ f. IsPrefix (edits_of old.history) (entered_before f asked rs)) → IfSome front (λ f. AreReplies pool_after why pools limit (entered_before f asked rs) asked rs)
+    → IfSome front (λ f. IsPrefix (edits_of old.history) (entered_before f asked rs)) → IfSome front (λ f. AreRepliesWithin pool_after why pools limit (entered_before f asked rs) asked rs)
     → IfSome front (λ f. edits_of f ≡ entered_before f asked rs ++ entries_by old.number (accepted asked rs)) → MatchOption front (new ≡ record old { known = new.known }) (λ f. Heard old new f) → MatchEnd end (λ count. published ≡ count) ⊥ ⊥
     → IsSubmission (opened_pool pools) limit (journal_edits (edits_of old.history)) (journal_edits (edits_of new.history)) asked rs published
 submission_of pools limit old new asked (Published count) (Some f) rs published opened counted tried seen replies last heard is = record {
@@ -86,10 +86,10 @@ submission_of pools limit old new asked Unpublished front rs published opened co
 
 -- the replies of a state that takes edits as a board does are a board's
 pub replies_of_board : (after : PoolRecord → Edit → PoolRecord) (reason : PoolRecord → Edit → Option Why) (pools : List PoolRecord) (limit : ℕ) (asked : List Edit) (front : Option (History (Entry Edit))) (rs : List (Reply Why)) → TakesEdits after reason
-    → IfSome front (λ f. AreReplies after reason pools limit (entered_before f asked rs) asked rs) → IfSome front (λ f. AreReplies pool_after why pools limit (entered_before f asked rs) asked rs)
+    → IfSome front (λ f. AreRepliesWithin after reason pools limit (entered_before f asked rs) asked rs) → IfSome front (λ f. AreRepliesWithin pool_after why pools limit (entered_before f asked rs) asked rs)
 replies_of_board after reason pools limit asked front rs takes replies =
-    subst (λ (z : PoolRecord → Edit → PoolRecord). IfSome front (λ f. AreReplies z why pools limit (entered_before f asked rs) asked rs)) takes.0
-    (subst (λ (z : PoolRecord → Edit → Option Why). IfSome front (λ f. AreReplies after z pools limit (entered_before f asked rs) asked rs)) takes.1 replies)
+    subst (λ (z : PoolRecord → Edit → PoolRecord). IfSome front (λ f. AreRepliesWithin z why pools limit (entered_before f asked rs) asked rs)) takes.0
+    (subst (λ (z : PoolRecord → Edit → Option Why). IfSome front (λ f. AreRepliesWithin after z pools limit (entered_before f asked rs) asked rs)) takes.1 replies)
 
 -- what is known by a longer history
 pub prefix_edits : (now before : History (Entry Edit)) → IsPrefix before now → IsPrefix (journal_edits (edits_of before)) (journal_edits (edits_of now))

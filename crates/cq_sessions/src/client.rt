@@ -1,6 +1,6 @@
 //! What serves the lines of a file: a session in its room.
 
-ghost use Rattle.std.specs.Prelude.{◌≡◌, ℕ, List, length, IfOk, OnErr};
+ghost use Rattle.std.specs.Prelude.{◌≡◌, ℕ, List, length, false, IfOk, OnErr};
 ghost use mathlib.Core.List.{IsPrefix};
 ghost use Rattle.cq_atom.specs.Edit.{Edit as EditContent};
 ghost use Rattle.cq_board.specs.Pool.{PoolRecord};
@@ -85,7 +85,7 @@ impl<
     R: Wait + Drop,
     A: Allocator + Copy,
 > Model for BoardClient<'a, L, N, R, A> {
-    ghost use Rattle.std.specs.Prelude.{List};
+    ghost use Rattle.std.specs.Prelude.{◌≡◌, List, false};
     ghost use Rattle.cq_atom.specs.Edit.{Edit as EditContent};
     ghost use Rattle.cq_sessions.specs.Steps.Clients.{known_in, IsSeated, IsOpened, TakesEdits};
 
@@ -93,7 +93,7 @@ impl<
 
     ghost view = { λ c. known_in c.session };
 
-    ghost invariant = { λ c. IsSeated c.session × IsOpened N.opening × TakesEdits L.after L.why };
+    ghost invariant = { λ c. IsSeated c.session × IsOpened N.opening × (N.renews ≡ false) × TakesEdits L.after L.why };
 }
 
 impl<
@@ -109,6 +109,7 @@ impl<
     ) -> BoardClient<'a, L, N, R, A>
         requires opened { IsOpened N.opening }
         requires takes { TakesEdits L.after L.why }
+        requires unrenewed { N.renews ≡ false }
         ensures { result ≡ journal_edits (edits_of session.history) }
     {
         BoardClient {
@@ -153,7 +154,7 @@ fn submit_in<L: Live, N: RoomName<L::Content>, R: Wait + Drop, A: Allocator + Co
     session: &mut Session<L, N, A>,
     asked: Vec<L::Edit, A>,
 ) -> Result<Receipt<L, N, A>, NoMemory>
-    ensures receipt { IfOk result (λ receipt. IsReceipt L.after L.why N.opening N.limit session.old session.new asked.items receipt.submitted.replies.items receipt.submitted.end receipt.front) }
+    ensures receipt { IfOk result (λ receipt. IsReceipt L.after L.why N.opening N.limit N.renews session.old session.new asked.items receipt.submitted.replies.items receipt.submitted.end receipt.front) }
     ensures err { OnErr result (session.new ≡ session.old) }
 {
     session.submit(rt, room, asked)
@@ -172,6 +173,7 @@ fn submit_by<
 ) -> Result<Submission<A>, ServeFault>
     requires opened { IsOpened N.opening }
     requires takes { TakesEdits L.after L.why }
+    requires unrenewed { N.renews ≡ false }
     ensures { IfOk result (λ submission. IsSubmission (opened_pool N.opening) N.limit (journal_edits (edits_of session.old.history)) (journal_edits (edits_of session.new.history)) asked.items submission.replies.items submission.published) }
 {
     let receipt = match submit_in(hall.rt, hall.room, session, asked) {
@@ -194,6 +196,7 @@ fn submit_waiting<
 ) -> Result<u64, ServeFault>
     requires opened { IsOpened N.opening }
     requires takes { TakesEdits L.after L.why }
+    requires unrenewed { N.renews ≡ false }
     requires even { IsEven sheet.old }
     ensures { IfOk result (λ published. Submits (opened_pool N.opening) N.limit (journal_edits (edits_of session.old.history)) sheet.old (journal_edits (edits_of session.new.history)) sheet.new published) }
 {

@@ -1,6 +1,6 @@
 //! Sessions from files: a thread for each file, over one board.
 
-ghost use Rattle.std.specs.Prelude.{◌≡◌, ◌<◌, ◌≤◌, ◌+◌, ◌^◌, ◌∷◌, ◌++◌, [], length, map, codes, string_bytes, IfOk, IfErr, OnOk, OnErr, MatchResult};
+ghost use Rattle.std.specs.Prelude.{◌≡◌, ◌<◌, ◌≤◌, ◌+◌, ◌^◌, ◌∷◌, ◌++◌, [], false, length, map, codes, string_bytes, IfOk, IfErr, OnOk, OnErr, MatchResult};
 ghost use Rattle.std.specs.List.{flat_map};
 ghost use Rattle.std.specs.Io.KnownBytes.{Appends};
 ghost use Rattle.cq_devices.specs.Device.{TakesFront};
@@ -192,6 +192,7 @@ fn clients<
 ) -> Result<Vec<BoardClient<'a, L, N, R, A>, A>, AllocError>
     requires opened { IsOpened N.opening }
     requires takes { TakesEdits L.after L.why }
+    requires unrenewed { N.renews ≡ false }
     ensures { IfOk result (λ clients. clients.items ≡ map (λ session. journal_edits (edits_of session.history)) sessions.items) }
 {
     let mut clients = Vec::new(alloc);
@@ -241,6 +242,7 @@ fn serve_in<
 ) -> Result<Served<Session<L, N, A>, A>, ServeFault>
     requires opened { IsOpened N.opening }
     requires takes { TakesEdits L.after L.why }
+    requires unrenewed { N.renews ≡ false }
     requires even { IsEven sheet.old }
     requires asked { sheet.old.asked ≡ [] }
     requires files { 0 < length files.now }
@@ -285,6 +287,7 @@ fn close<A: Allocator + Copy, L: Live<Edit = Edit<A>>, N: RoomName<L::Content>, 
 ) -> Result<(), ServeFault>
 where
     P::Leave: Wait,
+    requires { N.renews ≡ false }
     ensures { OnOk result (PutEntries (map (λ session. journal_edits (edits_of session.history)) sessions.items) (numbers_told setup.now.numbers (map (λ sheet. sheet.numbers) sheets.now)) (string_bytes page.old) (string_bytes page.new)) }
 {
     let desk = room.close(rt, sessions);
@@ -329,6 +332,7 @@ fn serve_room<
     requires book { parts.book ≡ N.book }
     requires opening { N.opening ≡ parts.opening ∷ [] }
     requires limit { N.limit ≡ parts.limit }
+    requires unrenewed { N.renews ≡ false }
     requires even { IsEven sheet.old }
     requires asked { sheet.old.asked ≡ [] }
     requires files { 0 < length files.now }

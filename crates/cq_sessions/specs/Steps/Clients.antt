@@ -1,11 +1,12 @@
 -- A session that serves a file, by what it knows.
-use Rattle.std.specs.Prelude.{◌≡◌, ℕ, List, [], ◌∷◌, ◌++◌, Option, None, Some, length}
+use Rattle.std.specs.Prelude.{◌≡◌, ℕ, List, [], ◌∷◌, ◌++◌, Option, None, Some, length, take}
 use Rattle.cq_board.specs.declared.edit.Why.{Why}
 use Rattle.cq_board.specs.Pool.{PoolRecord, opening_pool}
 use Rattle.cq_atom.specs.Edit.{Edit}
 use Rattle.cq_board.specs.Edits.{why, pool_after}
 use Rattle.cq_desk.specs.History.{edits_of}
-use Rattle.cq_desk.specs.Replies.{journal_edits}
+use Rattle.cq_desk.specs.Replies.{journal_edits, replies_at}
+use Rattle.cq_desk.specs.declared.journal.Entry.{Entry}
 use Rattle.cq_desk.specs.declared.reply.Reply.{Reply}
 use Rattle.cq_room.specs.Sessions.{SessionRecord}
 use Rattle.cq_sessions.specs.Script.{Sheet}
@@ -33,6 +34,10 @@ opened_pool (pool ∷ pools) = pool
 -- A state takes edits as a board does.
 abbrev pub TakesEdits : (PoolRecord → Edit → PoolRecord) → (PoolRecord → Edit → Option Why) → Type 0
 TakesEdits after reason = (after ≡ pool_after) × (reason ≡ why)
+
+-- The replies to the first of the edits, as many as there are replies, where they enter in turn after the entries before, of which there may be so many in all.
+abbrev pub AreRepliesWithin : {E C W : Type 0} → (C → E → C) → (C → E → Option W) → List C → ℕ → List (Entry E) → List E → List (Reply W) → Type 0
+AreRepliesWithin {E} {C} after reason opening limit before asked replies = (o : C) → opening ≡ o ∷ [] → replies ≡ replies_at after reason o limit (journal_edits before) (take (length replies) asked)
 
 -- What a submit is answered: a reply for each edit, and how many entries are published, which is how many the session knows of then.
 pub record IsSubmission (opening : PoolRecord) (limit : ℕ) (known known' asked : List Edit) (rs : List (Reply Why)) (published : ℕ) : Type 0 where

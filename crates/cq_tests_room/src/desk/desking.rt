@@ -47,7 +47,7 @@ pub trait Desking<R, A> {
     /// Whether so many edits are entered, and so many of them shown.
     fn stands(&self, entries: u64, shown: u64) -> bool;
 
-    /// Whether the journal has the numbered edits under these authors, and no others.
+    /// Whether the journal has the numbered edits under these authors, and no others. Those before the last checkpoint are not looked at.
     fn has_entries(&self, authors: &[usize]) -> bool;
 
     /// What comes of entering the edit of that number.
@@ -74,14 +74,14 @@ fn entered<W: Drop>(answer: Result<Reply<W>, NoMemory>, number: u64) -> Met {
 
 impl<L: Shared<A>, P: Showing<L>, A: Allocator + Copy> Desking<P::Leave, A> for Desk<L, P, A> {
     fn stands(&self, entries: u64, shown: u64) -> bool {
-        self.journal().len() as u64 == entries
+        self.count() == entries
             && self.working().shows(Sight::LeftBy(entries))
             && self.published_count() == shown
             && self.publisher().is_at(shown)
     }
 
     fn has_entries(&self, authors: &[usize]) -> bool {
-        let mut number = 0u64;
+        let mut number = self.base();
         for entry in self.journal() {
             let author = authors.get(number as usize).copied();
             number = number.saturating_add(1);

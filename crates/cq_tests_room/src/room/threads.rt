@@ -65,7 +65,7 @@ impl<'a> Checkpoint for AtGate<'a> {
 
     fn let_pass<L: Live, P: Publisher<L>, A: Allocator + Copy>(&mut self, desk: &Desk<L, P, A>) {
         self.times = self.times.saturating_add(1);
-        self.entered = desk.journal().len() as u64;
+        self.entered = desk.count();
         self.published = desk.published_count();
         self.gate.reached.store(true, Ordering::SeqCst);
         let told = is_told(&self.gate.open);

@@ -26,8 +26,8 @@ loop-edit-preserved g c = let at = c.loop-edit in let inv = at.invariant in let 
       omega (arith, was, gone, short),
       omega (arith, more, whole, same),
       omega (arith, room, short, len, cap),
-      replied_on g.L.Live.after g.L.Live.why (g.P.Publisher.opening a.publisher) a.limit (journal_edits a.journal) (journal_edits at.self.journal) at.yielded at.replies.items new.items e r inv.4 (edits_entered c.args.author a.journal at.self.journal (accepted at.yielded at.replies.items) journal)
-          (kept.reply ∙ ap (λ v. reply_at g.L.Live.after g.L.Live.why (g.P.Publisher.opening v.publisher) v.limit (journal_edits at.self.journal) e) inv.5) is,
+      replied_on g.L.Live.after g.L.Live.why (g.P.Publisher.opening a.publisher) (a.base + a.limit) (journal_edits a.journal) (journal_edits at.self.journal) at.yielded at.replies.items new.items e r inv.4 (edits_entered c.args.author a.journal at.self.journal (accepted at.yielded at.replies.items) journal)
+          (kept.reply ∙ ap (λ v. reply_at g.L.Live.after g.L.Live.why (g.P.Publisher.opening v.publisher) (v.base + v.limit) (journal_edits at.self.journal) e) inv.5) is,
       taken_in c.args.author a at.self c.enter.new.self at.yielded at.replies.items new.items e r inv.2 inv.5 kept.after is,
     )
 
@@ -40,8 +40,9 @@ returns-in_default-clause-submission g c = let at = c.loop-edit in let inv = at.
     let is = c.in_default.ensures.err ∙ inv.5 in
     record {
       limit = ap (λ v. v.limit) is;
+      base = ap (λ v. v.base) is;
       opening = ap (λ v. g.P.Publisher.opening v.publisher) is;
-      replies = inv.4 ∙ ap (replies_at g.L.Live.after g.L.Live.why (g.P.Publisher.opening a.publisher) a.limit (journal_edits a.journal)) (tried_first at.yielded rest c.args.asked.items rs whole inv.2);
+      replies = inv.4 ∙ ap (replies_at g.L.Live.after g.L.Live.why (g.P.Publisher.opening a.publisher) (a.base + a.limit) (journal_edits a.journal)) (tried_first at.yielded rest c.args.asked.items rs whole inv.2);
       journal = ap (λ v. v.journal) is ∙ ap (λ z. a.journal ++ entries_by c.args.author z) (sym (accepted-more at.yielded rest rs inv.2) ∙ ap (λ z. accepted z rs) whole);
       tried = omega (arith, one, both, n, same);
       count = tt;
@@ -58,8 +59,9 @@ returns-in-Err-clause-submission g c = let at = c.loop-edit in let inv = at.inva
     let every : at.yielded ≡ c.args.asked.items = sym (append-nil at.yielded) ∙ (ap (λ z. at.yielded ++ z) (sym none) ∙ (inv.0 ∙ c.into_iter-edit-iterator.ensures.into_iter_gives.0)) in
     record {
       limit = kept.limit ∙ ap (λ v. v.limit) inv.5;
+      base = kept.base ∙ ap (λ v. v.base) inv.5;
       opening = kept.opening ∙ ap (λ v. g.P.Publisher.opening v.publisher) inv.5;
-      replies = inv.4 ∙ ap (replies_at g.L.Live.after g.L.Live.why (g.P.Publisher.opening a.publisher) a.limit (journal_edits a.journal)) (tried_first at.yielded [] c.args.asked.items rs (append-nil at.yielded ∙ every) inv.2);
+      replies = inv.4 ∙ ap (replies_at g.L.Live.after g.L.Live.why (g.P.Publisher.opening a.publisher) (a.base + a.limit) (journal_edits a.journal)) (tried_first at.yielded [] c.args.asked.items rs (append-nil at.yielded ∙ every) inv.2);
       journal = kept.journal ∙ (ap (λ v. v.journal) inv.5 ∙ ap (λ z. a.journal ++ entries_by c.args.author (accepted z rs)) every);
       tried = inv.2 ∙ ap length every;
       count = tt;
@@ -82,8 +84,9 @@ returns-in-Ok-publish-clause-submission g c = let at = c.loop-edit in let inv = 
     let grew : g.P.Publisher.history now.publisher ≡ grown h (drop (length (edits_of h)) at.self.journal) = done.history ∙ ap (λ k. grown k (drop (length (edits_of k)) at.self.journal)) was in
     record {
       limit = kept.limit ∙ ap (λ v. v.limit) inv.5;
+      base = kept.base ∙ ap (λ v. v.base) inv.5;
       opening = kept.opening ∙ ap (λ v. g.P.Publisher.opening v.publisher) inv.5;
-      replies = inv.4 ∙ ap (replies_at g.L.Live.after g.L.Live.why (g.P.Publisher.opening a.publisher) a.limit (journal_edits a.journal)) (tried_first at.yielded [] c.args.asked.items rs (append-nil at.yielded ∙ every) inv.2);
+      replies = inv.4 ∙ ap (replies_at g.L.Live.after g.L.Live.why (g.P.Publisher.opening a.publisher) (a.base + a.limit) (journal_edits a.journal)) (tried_first at.yielded [] c.args.asked.items rs (append-nil at.yielded ∙ every) inv.2);
       journal = kept.journal ∙ taken;
       tried = inv.2 ∙ ap length every;
       count = done.count ∙ ap length (sym kept.journal);

@@ -9,5 +9,5 @@ invariant-loop-edit g l = let a = l.initial.self in
     × (into_iter_len l.edit-iterator ≡ length (into_iter_items l.edit-iterator))
     × (length l.replies.items ≡ length l.yielded)
     × (vec_len l.replies + length (into_iter_items l.edit-iterator) ≤ vec_capacity l.replies)
-    × (l.replies.items ≡ replies_at g.L.Live.after g.L.Live.why (g.P.Publisher.opening a.publisher) a.limit (journal_edits a.journal) l.yielded)
+    × (l.replies.items ≡ replies_at g.L.Live.after g.L.Live.why (g.P.Publisher.opening a.publisher) (a.base + a.limit) (journal_edits a.journal) l.yielded)
     × (l.self ≡ record a { journal = a.journal ++ entries_by l.author (accepted l.yielded l.replies.items) })

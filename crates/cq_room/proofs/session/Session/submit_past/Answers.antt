@@ -15,7 +15,7 @@ returns-clause-receipt g c = let e = c.in_ok-receipt.ensures in let r = c.in_ok-
       front = counted_at before author asked rs r.submitted.end r.front e.front;
       tried = e.tried;
       seen = where_some _ _ r.front (λ f p. subst (λ es. IsPrefix (edits_of c.args.self.now.history) es) (before_is before author asked rs p.0 f p.1) e.seen) at;
-      replies = where_some _ _ r.front (λ f p. subst (λ es. AreReplies g.L.Live.after g.L.Live.why g.N.RoomName.opening g.N.RoomName.limit es asked rs) (before_is before author asked rs p.0 f p.1) e.replies) at;
+      replies = where_some _ _ r.front (λ f p. subst (λ es. AreReplies g.L.Live.after g.L.Live.why g.N.RoomName.opening g.N.RoomName.limit g.N.RoomName.renews es asked rs) (before_is before author asked rs p.0 f p.1) e.replies) at;
       last = where_some _ _ r.front (λ f p. subst (λ es. edits_of f ≡ es ++ entries_by author (accepted asked rs)) (before_is before author asked rs p.0 f p.1) p.1.ends) at;
       publication = where_some _ _ r.front (λ f p. p.1.last) at;
       numbered = where_some _ _ r.front (λ f p. p.1.numbered) at;

@@ -20,4 +20,4 @@ returns-in-Ok-clause-seen g c =
     (subst (λ z. IsPrefix (journal_edits (edits_of c.in-Some.session.history)) (journal_edits (edits_of z.history))) (sym c.leave.ensures) (prefix_edits c.in-Ok.look.history c.in-Some.session.history c.in-Ok.ensures.history)))
 
 pub invariant_of-self : goal.invariant_of-self
-invariant_of-self g c = (subst IsSeated (sym c.replace.ensures.after) tt, c.self.invariant.1, c.self.invariant.2)
+invariant_of-self g c = (subst IsSeated (sym c.replace.ensures.after) tt, c.self.invariant.1, c.self.invariant.2, c.self.invariant.3)
