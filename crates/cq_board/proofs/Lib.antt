@@ -49,3 +49,7 @@ pub mod WorkCounts
 pub mod WorkStores
 pub mod WorkLost
 pub mod Flags
+mod Led
+mod Contents
+mod Declaring
+mod Setups

@@ -66,7 +66,7 @@ module _ {X : Type 0} (order : X → X → Ordering) (total : IsTotalOrder order
 
 -- ---- tables with another row, or without one
 
-row_total : (catalog : List Declaration) → IsTotalOrder (row_order catalog)
+pub row_total : (catalog : List Declaration) → IsTotalOrder (row_order catalog)
 row_total catalog = then_total (on_total (λ (r : RowRecord). place_in catalog r.relation) nat_cmp_total) (on_total (λ (r : RowRecord). r.values) values_total)
 
 tables_with : (tables : TablesRecord) (row : RowRecord) → IsTables tables → IsUnder tables.catalog row → IsTables (with_row row tables)

@@ -10,4 +10,6 @@ pub mod Choice
 pub mod Scratch
 pub mod Work
 pub mod Journal
+pub mod Content
+pub mod Setup
 pub mod Steps

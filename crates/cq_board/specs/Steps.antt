@@ -12,3 +12,4 @@ pub mod Nearest
 pub mod Heads
 pub mod Left
 pub mod Laws
+pub mod Setup

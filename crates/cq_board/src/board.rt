@@ -4,7 +4,7 @@ ghost use Rattle.std.specs.Prelude.{◌≡◌, length, OnOk, OnErr, IfOk, None};
 ghost use Rattle.std.specs.Option.{option_copied};
 ghost use Rattle.cq_atom.specs.declared.edit.EditKind.TheVariants.{Post, Withdraw, Insert, Delete};
 ghost use Rattle.cq_board.specs.Pool.{IsPool, opening_pool};
-ghost use Rattle.cq_board.specs.Edits.{why, edited, pool_after};
+ghost use Rattle.cq_board.specs.Edits.{body_why, why, edited, pool_after};
 ghost use Rattle.cq_board.specs.Board.{name_at};
 ghost use Rattle.cq_board.specs.Work.{changes_of, lost, named, raised, tests_of, visits_of};
 ghost use Rattle.cq_board.specs.Steps.Stores.{pending_of, AreStores};
@@ -12,7 +12,7 @@ ghost use Rattle.cq_board.specs.Views.{Admits};
 
 use crate::edit::Why;
 use crate::limits::Limits;
-use crate::refusal::{insert_why, post_why, refusal};
+use crate::refusal::{body_why, insert_why, post_why, refusal};
 use crate::row_change;
 use crate::stores::Stores;
 use crate::work::Work;
@@ -26,7 +26,7 @@ use std::mem;
 /// and with them the board of the pool, stands in this type.
 pub struct Board<A: Allocator = Global> {
     alloc: A,
-    limits: Limits,
+    pub(crate) limits: Limits,
     pub(crate) tables: Tables<A>,
     pub(crate) stores: Stores<A>,
 }
@@ -201,6 +201,14 @@ impl<A: Allocator + Copy> Board<A> {
         insert_why(&self.tables, row)
     }
 
+    /// Returns why the query's body does not fit the declared relations, if it does not: the number of the first atom whose relation is not
+    /// declared, or has another arity. Does not allocate.
+    pub fn body_why(&self, query: &Query<A>) -> Option<Why>
+        ensures { result ≡ body_why self.now.tables.catalog 0 query.now.body }
+    {
+        body_why(self.tables.catalog(), query.body())
+    }
+
     /// How many queries are pending.
     pub fn len(&self) -> usize
         ensures value { result ≡ length self.now.pending }
@@ -236,7 +244,7 @@ impl<A: Allocator + Copy> Board<A> {
         &self.tables
     }
 
-    /// The limits under which the board began.
+    /// The limits of the board.
     pub fn limits(&self) -> Limits
         ensures { result ≡ self.now.limits }
     {

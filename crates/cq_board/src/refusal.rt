@@ -41,7 +41,7 @@ fn arity_why<A: Allocator>(
     }
 }
 
-fn body_why<A: Allocator>(catalog: &Catalog<A>, atoms: &[Atom<A>]) -> Option<Why>
+pub(crate) fn body_why<A: Allocator>(catalog: &Catalog<A>, atoms: &[Atom<A>]) -> Option<Why>
     ensures { result ≡ body_why catalog.now 0 atoms.now }
 {
     for (place, atom) in atoms.iter().enumerate() {

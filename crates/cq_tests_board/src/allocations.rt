@@ -2,17 +2,20 @@
 
 use crate::able::P_AND_Q;
 use crate::page::Page;
-use crate::samples::{KRAMER_AND_JERRY, LIMITS, Setup, TRAVEL, WORKED, catalog, edit, made, shows};
+use crate::samples::{
+    KRAMER_AND_JERRY, LIMITS, RELATIONS, Setup, TRAVEL, WORKED, catalog, edit, made, shows,
+};
 use crate::scratch::{Lists, is_worked, lists_of};
 use crate::shown::{other_look, page_of};
 use crate::views::{BY_SLIP, CROWD, CROWD_SHOWN, JERRY_WAITS, PAIR, SLIPS};
 use cq_atom::Edit;
-use cq_board::{Board, ScratchFault};
+use cq_board::{Board, RelationFault, ScratchFault};
 use cq_refusing::{Outcome, Refusing, Tried, refusals};
 use cq_rel::Catalog;
 use std::alloc::{AllocError, Allocator, Global};
 
-/// What stands before a call, and the call: `begin` or `scratch`, by which a board is begun or is made from scratch; `copy`; `show`,
+/// What stands before a call, and the call: `begin` or `scratch`, by which a board is begun or is made from scratch; `copy`;
+/// `declare`, by which it declares one relation more; `show`,
 /// by which the board shows what stands after; or an edit, after which it shows what a board of the first lines and
 /// those after does.
 #[derive(Clone, Copy)]
@@ -44,6 +47,12 @@ post b {B(x)} A(x) <- F(x)",
 const COPY: Trial = Trial {
     setup: TWO,
     call: "copy",
+    behind: "",
+};
+
+const DECLARE: Trial = Trial {
+    setup: TWO,
+    call: "declare",
     behind: "",
 };
 
@@ -94,7 +103,7 @@ const NEAR_MISSES: Trial = Trial {
     behind: BY_SLIP,
 };
 
-const TRIALS: [Trial; 9] = [
+const TRIALS: [Trial; 10] = [
     BEGIN,
     SCRATCH,
     COPY,
@@ -104,6 +113,7 @@ const TRIALS: [Trial; 9] = [
     VIEWS,
     WHY_WAITING,
     NEAR_MISSES,
+    DECLARE,
 ];
 
 /// The trial at that place. It is looked up apart from the call, which is generic.
@@ -150,6 +160,7 @@ fn on_board<A: Allocator + Copy>(alloc: A, board: &mut Board<A>, trial: Trial) -
     match trial.call {
         "copy" => copied(alloc, board),
         "show" => shown(alloc, board, trial.behind),
+        "declare" => declared(alloc, board),
         line => {
             let behind = Setup {
                 first: trial.setup.first,
@@ -247,6 +258,50 @@ fn done(shown: Result<bool, AllocError>) -> Outcome {
     match shown {
         Ok(shown) => Outcome::done_if(shown),
         Err(_) => Outcome::Unready,
+    }
+}
+
+/// How many relations the board declares.
+fn relations<A: Allocator + Copy>(board: &Board<A>) -> usize {
+    board.tables().catalog().len()
+}
+
+/// Whether the board has so many relations, and shows what is on the page.
+fn has_relations<A: Allocator + Copy>(
+    alloc: A,
+    board: &Board<A>,
+    count: usize,
+    page: &Page,
+) -> Result<bool, AllocError> {
+    Ok(relations(board) == count && page_of(alloc, board)?.is_same(page))
+}
+
+/// A relation's name that takes memory.
+const LATER: &str = "RelationDeclaredLaterOn";
+
+/// Whether a refused relation left all as it was, and the same relation then is declared.
+fn declares_again<A: Allocator + Copy>(
+    alloc: A,
+    board: &mut Board<A>,
+    before: &Page,
+) -> Result<bool, AllocError> {
+    let count = RELATIONS.len();
+    Ok(
+        has_relations(alloc, board, count, before)?
+            && board.declare(LATER, 2) == Ok(())
+            && has_relations(alloc, board, count + 1, before)?,
+    )
+}
+
+fn declared<A: Allocator + Copy>(alloc: A, board: &mut Board<A>) -> Outcome {
+    let Ok(before) = page_of(alloc, board) else {
+        return Outcome::Unready;
+    };
+    match board.declare(LATER, 2) {
+        Ok(()) => done(has_relations(alloc, board, RELATIONS.len() + 1, &before)),
+        Err(fault) => Outcome::refused_if(
+            fault == RelationFault::NoMemory && declares_again(alloc, board, &before) == Ok(true),
+        ),
     }
 }
 
@@ -349,6 +404,11 @@ fn failed_allocation_in_why_waiting(rt: HostRuntime) {
 #[test]
 fn failed_allocation_in_near_misses(rt: HostRuntime) {
     assert!(rt; is_refused::<Nth<8>>(rt.alloc(), 2));
+}
+
+#[test]
+fn failed_allocation_in_declare(rt: HostRuntime) {
+    assert!(rt; is_refused::<Nth<9>>(rt.alloc(), 5));
 }
 
 /// How many allocations the edit of the line asks the heap for; `None` where it is refused.

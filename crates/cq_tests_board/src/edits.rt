@@ -2,13 +2,14 @@
 
 use crate::samples::{KRAMER_AND_JERRY, Setup, TRAVEL, WORKED, admit_all, made, shows};
 use crate::shown::page_of;
-use cq_board::{Board, pools_stay_good, unifies_is_unify};
+use cq_board::{Board, pools_are_their_content, pools_stay_good, unifies_is_unify};
 use std::alloc::{AllocError, Global};
 
 #[test]
 fn laws() {
     unifies_is_unify();
     pools_stay_good();
+    pools_are_their_content();
 }
 
 /// Edits of a board and of its copy, and after them what is put into a travel board that shows the same as either.

@@ -23,6 +23,8 @@ mod samples;
 #[cfg(test)]
 mod scratch;
 #[cfg(test)]
+mod setups;
+#[cfg(test)]
 mod shown;
 #[cfg(test)]
 mod sought;
