@@ -15,11 +15,13 @@ use Rattle.cq_render.specs.declared.extent.Extent.TheVariants.{All}
 use Rattle.cq_render.specs.Explain.{ArePieces, IsExplained, IsNearTold}
 use Rattle.cq_render.specs.Graph.{graph}
 use Rattle.cq_render.specs.Json.{json_of}
+use Rattle.cq_render.specs.Dump.{dump}
+use Rattle.cq_text.specs.declared.form.Form.{Form}
 use Rattle.cq_going.specs.declared.telling.Outcome.{Outcome}
 use Rattle.cq_going.specs.Going.{IsSoughtTold}
 use Rattle.cq_going.specs.Grouping.{AreGroupsTold}
 use Rattle.cq_ask.specs.declared.ask.AskKind.{AskKind}
-use Rattle.cq_ask.specs.declared.ask.AskKind.TheVariants.{Count, Status, Query, Explain, Near, Choice, Choose, Groups, Changes, Graph, Json, Checkpoint, Help, Quit, Unfit}
+use Rattle.cq_ask.specs.declared.ask.AskKind.TheVariants.{Count, Status, Query, Explain, Near, Choice, Choose, Groups, Changes, Graph, Json, Dump, Find, Checkpoint, Help, Quit, Unfit}
 use Rattle.cq_ask.specs.declared.counts.Counts.{Counts}
 use Rattle.cq_ask.specs.declared.counts.CountPart.{CountPart}
 use Rattle.cq_ask.specs.Ask.{AskRecord}
@@ -124,7 +126,7 @@ changes before now =
 abbrev pub help_text : List ℕ
 help_text =
     codes
-    "count                queries, rows and entries\nstatus NAME..        whether queries are matched, waiting or absent\nquery NAME           its block of the report\nexplain [NAME..]     why queries wait\nnear NAME POST       which heads nearly supply a postcondition\nchoice CHOICE..      whether a choice coordinates, as in choice a(1) b(1)\nchoose [NAME..]      a coordinating choice that has the queries\ngroups               groups of queries, and whether each can go\nchanges              queries that came, went or turned at the last publish\ngraph                who can supply whom, for Graphviz\njson                 the board as JSON\ncheckpoint           begins a new journal over what is published\nhelp                 these lines\nquit                 ends; no later line is answered\nAll other lines are those of a script.\n"
+    "count                queries, rows and entries\nstatus NAME..        whether queries are matched, waiting or absent\nquery NAME           its block of the report\nexplain [NAME..]     why queries wait\nnear NAME POST       which heads nearly supply a postcondition\nchoice CHOICE..      whether a choice coordinates, as in choice a(1) b(1)\nchoose [NAME..]      a coordinating choice that has the queries\ngroups               groups of queries, and whether each can go\nchanges              queries that came, went or turned at the last publish\ngraph                who can supply whom, for Graphviz\njson                 the board as JSON\ndump                 a script that makes the board\nfind BODY [first N]  groundings of a body, as in find F(x, Paris) first 3\ncheckpoint           begins a new journal over what is published\nhelp                 these lines\nquit                 ends; no later line is answered\nAll other lines are those of a script.\n"
 
 -- Why queries wait: those of these names, and which of the names are absent; where there is no name, all that wait.
 pub record IsWhyTold (pool : PoolRecord) (names : List (List ℕ)) (text : List ℕ) : Type 0 where
@@ -163,27 +165,30 @@ pub record IsSoughtAnswer (pool : PoolRecord) (names : List (List ℕ)) (text : 
   pub outcome : Outcome
   pub sought : IsSoughtTold pool names outcome text
 
--- The text tells what is asked of the floor and its pool. A floor answers a checkpoint, and nothing else is told.
-abbrev pub IsToldOf : FloorRecord → PoolRecord → AskKind → List (List ℕ) → List ℕ → List ℕ → Type 0
-IsToldOf floor pool Count names choices text = text ≡ count_line (counts_of floor)
-IsToldOf floor pool Status names choices text = text ≡ flat_map (status_line pool) names
-IsToldOf floor pool Query names choices text = text ≡ flat_map (block_of pool) names ++ absent_lines pool names
-IsToldOf floor pool Explain names choices text = IsWhyTold pool names text
-IsToldOf floor pool (Near post) names choices text = IsNearAnswer pool post names text
-IsToldOf floor pool Choice names choices text = IsChoiceTold pool (choice_words choices) text
-IsToldOf floor pool Choose names choices text = IsSoughtAnswer pool names text
-IsToldOf floor pool Groups names choices text = AreGroupsTold pool text
-IsToldOf floor pool Changes names choices text = text ≡ changes floor.earlier pool
-IsToldOf floor pool Graph names choices text = text ≡ graph pool
-IsToldOf floor pool Json names choices text = text ≡ print (json_tokens (json_of (published_count floor) pool))
-IsToldOf floor pool Checkpoint names choices text = text ≡ []
-IsToldOf floor pool Help names choices text = text ≡ help_text
-IsToldOf floor pool Quit names choices text = text ≡ []
-IsToldOf floor pool Unfit names choices text = text ≡ unfit_line
+-- The text tells what is asked of the floor and its pool, in a script of this form. Nothing is told here of a checkpoint, which changes the floor, and of groundings,
+-- which are told one by one (`Find`).
+abbrev pub IsToldOf : Form → FloorRecord → PoolRecord → AskKind → List (List ℕ) → List ℕ → List ℕ → Type 0
+IsToldOf form floor pool Count names choices text = text ≡ count_line (counts_of floor)
+IsToldOf form floor pool Status names choices text = text ≡ flat_map (status_line pool) names
+IsToldOf form floor pool Query names choices text = text ≡ flat_map (block_of pool) names ++ absent_lines pool names
+IsToldOf form floor pool Explain names choices text = IsWhyTold pool names text
+IsToldOf form floor pool (Near post) names choices text = IsNearAnswer pool post names text
+IsToldOf form floor pool Choice names choices text = IsChoiceTold pool (choice_words choices) text
+IsToldOf form floor pool Choose names choices text = IsSoughtAnswer pool names text
+IsToldOf form floor pool Groups names choices text = AreGroupsTold pool text
+IsToldOf form floor pool Changes names choices text = text ≡ changes floor.earlier pool
+IsToldOf form floor pool Graph names choices text = text ≡ graph pool
+IsToldOf form floor pool Json names choices text = text ≡ print (json_tokens (json_of (published_count floor) pool))
+IsToldOf form floor pool Dump names choices text = text ≡ dump form floor.limit pool
+IsToldOf form floor pool (Find place) names choices text = text ≡ []
+IsToldOf form floor pool Checkpoint names choices text = text ≡ []
+IsToldOf form floor pool Help names choices text = text ≡ help_text
+IsToldOf form floor pool Quit names choices text = text ≡ []
+IsToldOf form floor pool Unfit names choices text = text ≡ unfit_line
 
--- The text tells what is asked of the floor, of the pool that it publishes.
-abbrev pub IsTold : FloorRecord → AskRecord → List ℕ → Type 0
-IsTold floor ask text = IsToldOf floor (published_pool floor) ask.kind ask.names ask.text text
+-- The text tells what is asked of the floor, of the pool that it publishes, in a script of this form.
+abbrev pub IsTold : Form → FloorRecord → AskRecord → List ℕ → Type 0
+IsTold form floor ask text = IsToldOf form floor (published_pool floor) ask.kind ask.names ask.text text
 
 -- What ends an answer in lines: the line `end` where it may have several, and the end of the line of a board as JSON.
 abbrev pub ending : AskKind → List ℕ
@@ -191,6 +196,7 @@ ending Count = []
 ending Choice = []
 ending Json = codes "\n"
 ending Checkpoint = []
+ending (Find place) = []
 ending Quit = []
 ending Unfit = []
 ending _ = end_line

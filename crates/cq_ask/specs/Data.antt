@@ -8,10 +8,12 @@ use Rattle.cq_board.specs.Pool.{PoolRecord, name_of}
 use Rattle.cq_board.specs.Named.{matched_named}
 use Rattle.cq_render.specs.Graph.{graph}
 use Rattle.cq_render.specs.Json.{array_of, object_of, json_of}
+use Rattle.cq_render.specs.Dump.{dump}
+use Rattle.cq_text.specs.declared.form.Form.{Form}
 use Rattle.cq_render.specs.Data.{IsArray, IsNearOf, AreReasonsJson, total, standing_members, standing_json, named_json}
 use Rattle.cq_going.specs.Data.{IsSoughtJson, AreGroupsJson}
 use Rattle.cq_ask.specs.declared.ask.AskKind.{AskKind}
-use Rattle.cq_ask.specs.declared.ask.AskKind.TheVariants.{Count, Status, Query, Explain, Near, Choice, Choose, Groups, Changes, Graph, Json as AsJson, Checkpoint, Help, Quit, Unfit}
+use Rattle.cq_ask.specs.declared.ask.AskKind.TheVariants.{Count, Status, Query, Explain, Near, Choice, Choose, Groups, Changes, Graph, Json as AsJson, Dump, Find, Checkpoint, Help, Quit, Unfit}
 use Rattle.cq_ask.specs.declared.counts.Counts.{Counts}
 use Rattle.cq_ask.specs.Ask.{AskRecord}
 use Rattle.cq_desk.specs.Machine.{published_count}
@@ -69,23 +71,25 @@ abbrev pub verdict_json : Option Bool → List ℕ × Json
 verdict_json (Some coordinates) = (codes "coordinating", boolean coordinates)
 verdict_json None = (codes "refused", string (codes "Words"))
 
--- The member, a name and a value, tells what is asked of the floor and its pool. A floor answers a checkpoint, and nothing else is told.
-abbrev pub IsMemberOf : FloorRecord → PoolRecord → AskKind → List (List ℕ) → List ℕ → List ℕ × Json → Type 0
-IsMemberOf floor pool Count names choices told = told ≡ (codes "count", count_json (counts_of floor))
-IsMemberOf floor pool Status names choices told = told ≡ (codes "status", array_of (map (standing_json pool) names))
-IsMemberOf floor pool Query names choices told = told ≡ (codes "query", array_of (map (named_json pool) names))
-IsMemberOf floor pool Explain names choices told = (reasons : Json) × AreReasonsJson pool names reasons × (told ≡ (codes "explain", reasons))
-IsMemberOf floor pool (Near post) names choices told = (near : Json) × IsArray (IsNearOf pool post) names near × (told ≡ (codes "near", near))
-IsMemberOf floor pool Choice names choices told = (verdict : Option Bool) × IsVerdict pool (choice_words choices) verdict × (told ≡ verdict_json verdict)
-IsMemberOf floor pool Choose names choices told = (sought : Json) × IsSoughtJson pool names sought × (told ≡ (codes "choose", sought))
-IsMemberOf floor pool Groups names choices told = (groups : Json) × AreGroupsJson pool groups × (told ≡ (codes "groups", groups))
-IsMemberOf floor pool Changes names choices told = told ≡ (codes "changes", changes_json floor.earlier pool)
-IsMemberOf floor pool Graph names choices told = told ≡ (codes "graph", string (graph pool))
-IsMemberOf floor pool AsJson names choices told = told ≡ (codes "board", json_of (published_count floor) pool)
-IsMemberOf floor pool Checkpoint names choices told = told ≡ (codes "checkpoint", boolean true)
-IsMemberOf floor pool Help names choices told = told ≡ (codes "help", string help_text)
-IsMemberOf floor pool Quit names choices told = told ≡ (codes "quit", boolean true)
-IsMemberOf floor pool Unfit names choices told = told ≡ verdict_json None
+-- The member, a name and a value, tells what is asked of the floor and its pool, in a script of this form. A checkpoint and groundings are told elsewhere.
+abbrev pub IsMemberOf : Form → FloorRecord → PoolRecord → AskKind → List (List ℕ) → List ℕ → List ℕ × Json → Type 0
+IsMemberOf form floor pool Count names choices told = told ≡ (codes "count", count_json (counts_of floor))
+IsMemberOf form floor pool Status names choices told = told ≡ (codes "status", array_of (map (standing_json pool) names))
+IsMemberOf form floor pool Query names choices told = told ≡ (codes "query", array_of (map (named_json pool) names))
+IsMemberOf form floor pool Explain names choices told = (reasons : Json) × AreReasonsJson pool names reasons × (told ≡ (codes "explain", reasons))
+IsMemberOf form floor pool (Near post) names choices told = (near : Json) × IsArray (IsNearOf pool post) names near × (told ≡ (codes "near", near))
+IsMemberOf form floor pool Choice names choices told = (verdict : Option Bool) × IsVerdict pool (choice_words choices) verdict × (told ≡ verdict_json verdict)
+IsMemberOf form floor pool Choose names choices told = (sought : Json) × IsSoughtJson pool names sought × (told ≡ (codes "choose", sought))
+IsMemberOf form floor pool Groups names choices told = (groups : Json) × AreGroupsJson pool groups × (told ≡ (codes "groups", groups))
+IsMemberOf form floor pool Changes names choices told = told ≡ (codes "changes", changes_json floor.earlier pool)
+IsMemberOf form floor pool Graph names choices told = told ≡ (codes "graph", string (graph pool))
+IsMemberOf form floor pool AsJson names choices told = told ≡ (codes "board", json_of (published_count floor) pool)
+IsMemberOf form floor pool Dump names choices told = told ≡ (codes "dump", string (dump form floor.limit pool))
+IsMemberOf form floor pool (Find place) names choices told = told ≡ (codes "find", boolean true)
+IsMemberOf form floor pool Checkpoint names choices told = told ≡ (codes "checkpoint", boolean true)
+IsMemberOf form floor pool Help names choices told = told ≡ (codes "help", string help_text)
+IsMemberOf form floor pool Quit names choices told = told ≡ (codes "quit", boolean true)
+IsMemberOf form floor pool Unfit names choices told = told ≡ verdict_json None
 
 -- A member of an object that has others before it.
 abbrev pub member_text : List ℕ × Json → List ℕ
@@ -95,6 +99,6 @@ member_text member = codes ",\"" ++ member.0 ++ codes "\":" ++ print (json_token
 abbrev pub IsToldAs : (List ℕ × Json → Type 0) → List ℕ → Type 0
 IsToldAs is_so text = (told : List ℕ × Json) × is_so told × (text ≡ member_text told)
 
--- The text is a member that tells what is asked, of the pool that the floor publishes.
-abbrev pub IsMember : FloorRecord → AskRecord → List ℕ → Type 0
-IsMember floor ask text = IsToldAs (IsMemberOf floor (published_pool floor) ask.kind ask.names ask.text) text
+-- The text is a member that tells what is asked, of the pool that the floor publishes, in a script of this form.
+abbrev pub IsMember : Form → FloorRecord → AskRecord → List ℕ → Type 0
+IsMember form floor ask text = IsToldAs (IsMemberOf form floor (published_pool floor) ask.kind ask.names ask.text) text

@@ -17,7 +17,8 @@ use cq_atom::Name;
 use cq_board::Board;
 use cq_desk::Floor;
 use cq_going::{MOST_STEPS, groups, tell_choice};
-use cq_render::{Extent, explain_these, graph, json, near, put_block};
+use cq_render::{Extent, dump, explain_these, graph, json, near, put_block};
+use cq_text::Form;
 use std::alloc::{AllocError, Allocator};
 
 /// A floor over a board.
@@ -253,7 +254,7 @@ fn changes_text<A: Allocator + Copy>(
 pub(crate) fn help() -> &'static str
     ensures { result.now ≡ help_text }
 {
-    "count                queries, rows and entries\nstatus NAME..        whether queries are matched, waiting or absent\nquery NAME           its block of the report\nexplain [NAME..]     why queries wait\nnear NAME POST       which heads nearly supply a postcondition\nchoice CHOICE..      whether a choice coordinates, as in choice a(1) b(1)\nchoose [NAME..]      a coordinating choice that has the queries\ngroups               groups of queries, and whether each can go\nchanges              queries that came, went or turned at the last publish\ngraph                who can supply whom, for Graphviz\njson                 the board as JSON\ncheckpoint           begins a new journal over what is published\nhelp                 these lines\nquit                 ends; no later line is answered\nAll other lines are those of a script.\n"
+    "count                queries, rows and entries\nstatus NAME..        whether queries are matched, waiting or absent\nquery NAME           its block of the report\nexplain [NAME..]     why queries wait\nnear NAME POST       which heads nearly supply a postcondition\nchoice CHOICE..      whether a choice coordinates, as in choice a(1) b(1)\nchoose [NAME..]      a coordinating choice that has the queries\ngroups               groups of queries, and whether each can go\nchanges              queries that came, went or turned at the last publish\ngraph                who can supply whom, for Graphviz\njson                 the board as JSON\ndump                 a script that makes the board\nfind BODY [first N]  groundings of a body, as in find F(x, Paris) first 3\ncheckpoint           begins a new journal over what is published\nhelp                 these lines\nquit                 ends; no later line is answered\nAll other lines are those of a script.\n"
 }
 
 /// Returns the text that ends an answer to a question of this kind.
@@ -261,8 +262,12 @@ pub fn ending(kind: AskKind) -> &'static str
     ensures { result.now ≡ ending kind }
 {
     match kind {
-        AskKind::Count | AskKind::Choice | AskKind::Checkpoint | AskKind::Quit | AskKind::Unfit =>
-            "",
+        AskKind::Count
+        | AskKind::Choice
+        | AskKind::Find { .. }
+        | AskKind::Checkpoint
+        | AskKind::Quit
+        | AskKind::Unfit => "",
         AskKind::Json => "\n",
         AskKind::Status
         | AskKind::Query
@@ -272,22 +277,25 @@ pub fn ending(kind: AskKind) -> &'static str
         | AskKind::Groups
         | AskKind::Changes
         | AskKind::Graph
+        | AskKind::Dump
         | AskKind::Help => "end\n",
     }
 }
 
 /// Returns the answer to a question about the board that the floor publishes, without its [end](ending). It takes the time of its text:
 /// for `count`, `status` and `help` that of the names, for a query's block that of a walk over the board, for `changes` that of
-/// [`Floor::earlier`]. For a checkpoint, which changes the floor, the text is empty.
+/// [`Floor::earlier`]. The script of a `dump` is in this form. For a checkpoint, which changes the floor, and for `find`, whose groundings are written
+/// one by one, the text is empty.
 ///
 /// # Errors
 /// `AllocError` if an allocation fails.
 pub fn tell<A: Allocator + Copy>(
     alloc: A,
+    form: Form,
     floor: &Floor<Board<A>, A>,
     ask: &Ask<A>,
 ) -> Result<String<A>, AllocError>
-    ensures { IfOk result (λ text. IsTold floor.now ask.now (string_bytes text)) }
+    ensures { IfOk result (λ text. IsTold form floor.now ask.now (string_bytes text)) }
 {
     let board = floor.board();
     let names = ask.names();
@@ -303,8 +311,9 @@ pub fn tell<A: Allocator + Copy>(
         AskKind::Changes => changes_text(alloc, floor),
         AskKind::Graph => graph(alloc, board),
         AskKind::Json => json(alloc, floor.published_count(), board),
+        AskKind::Dump => dump(alloc, form, floor.limit(), board),
         AskKind::Help => Ok(String::from_str(alloc, help())?),
-        AskKind::Checkpoint | AskKind::Quit => Ok(String::new(alloc)),
+        AskKind::Find { .. } | AskKind::Checkpoint | AskKind::Quit => Ok(String::new(alloc)),
         AskKind::Unfit => Ok(String::from_str(alloc, UNFIT)?),
     }
 }

@@ -1,7 +1,7 @@
 //! What a line asks.
 
 ghost use Rattle.std.specs.Prelude.{◌≡◌, [], IfOk};
-ghost use Rattle.cq_ask.specs.Ask.{is_checkpoint, is_quit};
+ghost use Rattle.cq_ask.specs.Ask.{is_checkpoint, is_find, is_quit};
 
 use cq_atom::Name;
 use std::alloc::{AllocError, Allocator};
@@ -32,6 +32,10 @@ pub enum AskKind {
     Graph,
     /// The report in JSON.
     Json,
+    /// A script that makes the board.
+    Dump,
+    /// The groundings of a body, which begins at this byte of the line.
+    Find { place: usize },
     /// That a checkpoint be made.
     Checkpoint,
     /// Which lines ask.
@@ -42,7 +46,7 @@ pub enum AskKind {
     Unfit,
 }
 
-/// What a line asks, and of what: the names that it is asked of, or the text that has the choices.
+/// What a line asks, and of what: the names that it is asked of, or the text that has the choices or the body.
 #[derive(Drop)]
 pub struct Ask<A: Allocator> {
     kind: AskKind,
@@ -59,12 +63,12 @@ impl<A: Allocator> Model for Ask<A> {
 }
 
 impl<A: Allocator + Copy> Ask<A> {
-    /// Whether the choices coordinate that the text has.
-    pub(crate) fn of_choices(alloc: A, text: &[u8]) -> Result<Ask<A>, AllocError>
-        ensures { IfOk result (λ ask. ask ≡ record { kind = AskKind.Choice; names = []; text = text.now }) }
+    /// Returns a question about what the text has.
+    pub(crate) fn of_text(alloc: A, kind: AskKind, text: &[u8]) -> Result<Ask<A>, AllocError>
+        ensures { IfOk result (λ ask. ask ≡ record { kind = kind; names = []; text = text.now }) }
     {
         Ok(Ask {
-            kind: AskKind::Choice,
+            kind,
             names: Vec::new(alloc),
             text: Vec::from_slice(alloc, text)?,
         })
@@ -104,6 +108,13 @@ impl<A: Allocator> Ask<A> {
         matches!(self.kind, AskKind::Checkpoint)
     }
 
+    /// Returns true if the line asks for groundings.
+    pub fn is_find(&self) -> bool
+        ensures { result ≡ is_find self.now.kind }
+    {
+        matches!(self.kind, AskKind::Find { .. })
+    }
+
     /// The names that it is asked of.
     pub(crate) fn names(&self) -> &[Name<A>]
         ensures { result.now ≡ self.now.names }
@@ -111,8 +122,8 @@ impl<A: Allocator> Ask<A> {
         &self.names
     }
 
-    /// The text that has the choices.
-    pub(crate) fn text(&self) -> &[u8]
+    /// The text that has the choices or the body.
+    pub fn text(&self) -> &[u8]
         ensures { result.now ≡ self.now.text }
     {
         &self.text

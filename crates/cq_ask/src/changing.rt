@@ -1,6 +1,6 @@
 //! Changes of the last publish.
 
-ghost use Rattle.std.specs.Prelude.{◌≡◌, ◌++◌, map, string_bytes, IfOk, OnOk, option_map};
+ghost use Rattle.std.specs.Prelude.{◌≡◌, ◌++◌, map, string_bytes, OnOk, option_map};
 ghost use Rattle.std.specs.List.{flat_map};
 ghost use Rattle.cq_board.specs.Pool.{name_of};
 ghost use Rattle.cq_board.specs.Named.{matched_named};
@@ -8,7 +8,7 @@ ghost use Rattle.cq_ask.specs.Answer.{published_pool, went_line, change_words, c
 
 use cq_atom::Name;
 use cq_board::Board;
-use cq_desk::{Floor, NoMemory};
+use cq_desk::Floor;
 use std::alloc::{AllocError, Allocator};
 
 /// Appends a line if no query is pending under the name now.
@@ -96,18 +96,6 @@ fn put_changes<A: Allocator + Copy>(
     put_each(before, now, &now.names()?, page)
 }
 
-/// Returns the board that was published before the last publish.
-pub(crate) fn earlier_board<A: Allocator + Copy>(
-    floor: &Floor<Board<A>, A>,
-) -> Result<Board<A>, AllocError>
-    ensures { IfOk result (λ board. board ≡ floor.now.earlier) }
-{
-    match floor.earlier() {
-        Ok(board) => Ok(board),
-        Err(NoMemory) => Err(AllocError),
-    }
-}
-
 /// Appends the changes of the last publish.
 pub(crate) fn put_last_changes<A: Allocator + Copy>(
     floor: &Floor<Board<A>, A>,
@@ -115,6 +103,5 @@ pub(crate) fn put_last_changes<A: Allocator + Copy>(
 ) -> Result<(), AllocError>
     ensures { OnOk result (string_bytes page.new ≡ string_bytes page.old ++ changes floor.now.earlier (published_pool floor.now)) }
 {
-    let past = earlier_board(floor)?;
-    put_changes(&past, floor.board(), page)
+    put_changes(floor.earlier(), floor.board(), page)
 }

@@ -8,6 +8,7 @@ ghost use Rattle.json.specs.Print.{print};
 ghost use Rattle.cq_board.specs.Named.{matched_named};
 ghost use Rattle.cq_render.specs.Graph.{graph};
 ghost use Rattle.cq_render.specs.Json.{array_of, json_of};
+ghost use Rattle.cq_render.specs.Dump.{dump};
 ghost use Rattle.cq_render.specs.Data.{IsPut, IsArray, IsNearOf, AreReasonsJson, standing_json, named_json};
 ghost use Rattle.cq_going.specs.Data.{IsSoughtJson, AreGroupsJson};
 ghost use Rattle.cq_ask.specs.Answer.{published_pool, IsVerdict};
@@ -17,14 +18,14 @@ ghost use Rattle.cq_ask.specs.Choices.{choice_words};
 
 use crate::answering::{help, standing_word, verdict};
 use crate::ask::{Ask, AskKind};
-use crate::changing::earlier_board;
 use crate::choices::choice_words;
 use crate::counts::{count_members, counts_of, parts_text};
 use cq_atom::Name;
 use cq_board::Board;
 use cq_desk::Floor;
 use cq_going::{MOST_STEPS, put_groups, put_sought};
-use cq_render::{JsonText, graph, json, put_named, put_near, put_reasons, put_standing};
+use cq_render::{JsonText, dump, graph, json, put_named, put_near, put_reasons, put_standing};
+use cq_text::Form;
 use std::alloc::{AllocError, Allocator};
 
 /// A floor over a board.
@@ -321,9 +322,8 @@ fn changes_member<A: Allocator + Copy>(
 ) -> Result<String<A>, AllocError>
     ensures { IfOk result (λ text. IsToldAs (λ told. told ≡ (codes "changes", changes_json floor.now.earlier (published_pool floor.now))) (string_bytes text)) }
 {
-    let past = earlier_board(floor)?;
     let mut sheet = JsonText::begin(alloc);
-    put_changes(&mut sheet, &past, floor.board())?;
+    put_changes(&mut sheet, floor.earlier(), floor.board())?;
     member(alloc, "changes", sheet)
 }
 
@@ -334,6 +334,17 @@ fn graph_member<A: Allocator + Copy>(alloc: A, board: &Board<A>) -> Result<Strin
 {
     let text = graph(alloc, board)?;
     text_member(alloc, "graph", text.as_str())
+}
+
+fn dump_member<A: Allocator + Copy>(
+    alloc: A,
+    form: Form,
+    floor: &BoardFloor<A>,
+) -> Result<String<A>, AllocError>
+    ensures { IfOk result (λ text. IsToldAs (λ told. told ≡ (codes "dump", values.string (dump form floor.now.limit (published_pool floor.now)))) (string_bytes text)) }
+{
+    let text = dump(alloc, form, floor.limit(), floor.board())?;
+    text_member(alloc, "dump", text.as_str())
 }
 
 fn board_member<A: Allocator + Copy>(
@@ -355,10 +366,11 @@ fn board_member<A: Allocator + Copy>(
 /// `AllocError` if an allocation fails.
 pub fn tell_data<A: Allocator + Copy>(
     alloc: A,
+    form: Form,
     floor: &Floor<Board<A>, A>,
     ask: &Ask<A>,
 ) -> Result<String<A>, AllocError>
-    ensures { IfOk result (λ text. IsMember floor.now ask.now (string_bytes text)) }
+    ensures { IfOk result (λ text. IsMember form floor.now ask.now (string_bytes text)) }
 {
     let board = floor.board();
     let names = ask.names();
@@ -374,6 +386,8 @@ pub fn tell_data<A: Allocator + Copy>(
         AskKind::Changes => changes_member(alloc, floor),
         AskKind::Graph => graph_member(alloc, board),
         AskKind::Json => board_member(alloc, floor.published_count(), board),
+        AskKind::Dump => dump_member(alloc, form, floor),
+        AskKind::Find { .. } => flag_member(alloc, "find", true),
         AskKind::Checkpoint => flag_member(alloc, "checkpoint", true),
         AskKind::Help => text_member(alloc, "help", help()),
         AskKind::Quit => flag_member(alloc, "quit", true),

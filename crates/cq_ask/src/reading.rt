@@ -1,11 +1,11 @@
 //! Reads lines that ask.
 
-ghost use Rattle.std.specs.Prelude.{◌≡◌, ◌≢◌, ◌≤◌, true, false, map, length, filter, IfOk, OnErr, Some, None, option_map, not, ◌==◌, if◌then◌else◌};
+ghost use Rattle.std.specs.Prelude.{◌≡◌, ℕ, ◌≢◌, ◌≤◌, ◌-◌, true, false, map, length, filter, IfOk, OnErr, Some, None, option_map, not, ◌==◌, if◌then◌else◌};
 ghost use Rattle.std.specs.List.{prefix_len, slice_split, list_all};
 ghost use Rattle.std.specs.Str.{bytes_eq};
 ghost use Rattle.cq_atom.specs.Text.{is_name};
 ghost use Rattle.cq_text.specs.Lexing.{is_space};
-ghost use Rattle.cq_ask.specs.Ask.{is_part, cut_word, words_of, kind_of, takes, takes_no_names, unfit, asked_of_names, post_of, asked_of_post, asked_of, asked};
+ghost use Rattle.cq_ask.specs.Ask.{is_part, cut_word, words_of, kind_of, takes, takes_no_names, unfit, asked_of_names, post_of, asked_of_post, asked_of_body, asked_of, asked};
 
 use crate::ask::{Ask, AskKind};
 use cq_atom::{Bad, Name};
@@ -45,7 +45,7 @@ fn cut_word(line: &[u8]) -> (&[u8], &[u8])
 }
 
 /// The words of a text.
-fn words_of<A: Allocator>(alloc: A, text: &[u8]) -> Result<Vec<&[u8], A>, AllocError>
+pub(crate) fn words_of<A: Allocator>(alloc: A, text: &[u8]) -> Result<Vec<&[u8], A>, AllocError>
     ensures { IfOk result (λ words. map (λ word. word.now) words.items ≡ words_of text.now) }
 {
     text.split(|byte| is_space(*byte))
@@ -62,7 +62,7 @@ fn word_count(text: &[u8]) -> usize
         .count()
 }
 
-fn is_word(word: &[u8], text: &str) -> bool
+pub(crate) fn is_word(word: &[u8], text: &str) -> bool
     ensures { result ≡ bytes_eq word.now text.now }
 {
     word == text.as_bytes()
@@ -94,6 +94,10 @@ fn kind_of(word: &[u8]) -> Option<AskKind>
         Some(AskKind::Graph)
     } else if is_word(word, "json") {
         Some(AskKind::Json)
+    } else if is_word(word, "dump") {
+        Some(AskKind::Dump)
+    } else if is_word(word, "find") {
+        Some(AskKind::Find { place: 0 })
     } else if is_word(word, "checkpoint") {
         Some(AskKind::Checkpoint)
     } else if is_word(word, "help") {
@@ -112,7 +116,11 @@ fn takes(kind: AskKind, count: usize) -> bool
     match kind {
         AskKind::Status => count >= 1,
         AskKind::Query | AskKind::Near { .. } => count == 1,
-        AskKind::Explain | AskKind::Choice | AskKind::Choose | AskKind::Unfit => true,
+        AskKind::Explain
+        | AskKind::Choice
+        | AskKind::Choose
+        | AskKind::Find { .. }
+        | AskKind::Unfit => true,
         _ => count == 0,
     }
 }
@@ -127,6 +135,7 @@ fn takes_no_names(kind: AskKind) -> bool
         | AskKind::Changes
         | AskKind::Graph
         | AskKind::Json
+        | AskKind::Dump
         | AskKind::Checkpoint
         | AskKind::Help
         | AskKind::Quit => true,
@@ -214,7 +223,7 @@ fn asked_of_words<A: Allocator + Copy>(
     kind: AskKind,
     text: &[u8],
 ) -> Result<Ask<A>, AllocError>
-    ensures { IfOk result (λ ask. kind ≢ AskKind.Choice → ask ≡ asked_of kind text.now) }
+    ensures { IfOk result (λ ask. kind ≢ AskKind.Choice → ((at : ℕ) → kind ≢ AskKind.Find at) → (place : ℕ) → ask ≡ asked_of kind place text.now) }
 {
     let words = words_of(alloc, text)?;
     match kind {
@@ -223,10 +232,25 @@ fn asked_of_words<A: Allocator + Copy>(
     }
 }
 
+/// Returns the question that `find` and a text ask, which begins at this place of the line.
+fn asked_of_body<A: Allocator + Copy>(
+    alloc: A,
+    place: usize,
+    text: &[u8],
+) -> Result<Ask<A>, AllocError>
+    ensures { IfOk result (λ ask. ask ≡ asked_of_body place text.now) }
+{
+    let count = word_count(text);
+    if count == 0 {
+        return Ok(Ask::new(alloc, AskKind::Unfit, Vec::new(alloc)));
+    }
+    Ask::of_text(alloc, AskKind::Find { place }, text)
+}
+
 /// Returns the question that a word of a kind without names and a text ask. Does not allocate.
 fn asked_of_none<A: Allocator + Copy>(alloc: A, kind: AskKind, text: &[u8]) -> Ask<A>
     requires { takes_no_names kind ≡ true }
-    ensures { result ≡ asked_of kind text.now }
+    ensures { (place : ℕ) → result ≡ asked_of kind place text.now }
 {
     if word_count(text) == 0 {
         Ask::new(alloc, kind, Vec::new(alloc))
@@ -235,16 +259,22 @@ fn asked_of_none<A: Allocator + Copy>(alloc: A, kind: AskKind, text: &[u8]) -> A
     }
 }
 
-/// Returns the question that a word of this kind and a text ask.
-fn asked_of<A: Allocator + Copy>(alloc: A, kind: AskKind, text: &[u8]) -> Result<Ask<A>, AllocError>
-    ensures ask { IfOk result (λ ask. ask ≡ asked_of kind text.now) }
-    ensures memory { OnErr result (takes_no_names (asked_of kind text.now).kind ≡ false) }
+/// Returns the question that a word of this kind and a text ask, which begins at this place of the line.
+fn asked_of<A: Allocator + Copy>(
+    alloc: A,
+    kind: AskKind,
+    place: usize,
+    text: &[u8],
+) -> Result<Ask<A>, AllocError>
+    ensures ask { IfOk result (λ ask. ask ≡ asked_of kind place text.now) }
+    ensures memory { OnErr result (takes_no_names (asked_of kind place text.now).kind ≡ false) }
 {
     if takes_no_names(kind) {
         return Ok(asked_of_none(alloc, kind, text));
     }
     match kind {
-        AskKind::Choice => Ask::of_choices(alloc, text),
+        AskKind::Choice => Ask::of_text(alloc, kind, text),
+        AskKind::Find { .. } => asked_of_body(alloc, place, text),
         _ => asked_of_words(alloc, kind, text),
     }
 }
@@ -253,7 +283,7 @@ fn asked_of<A: Allocator + Copy>(alloc: A, kind: AskKind, text: &[u8]) -> Result
 /// line that asks nothing, or whose first word accepts no names, such as `count` and `quit`.
 ///
 /// # Errors
-/// `AllocError` if an allocation fails, which happens only if the first word accepts names or choices.
+/// `AllocError` if an allocation fails, which happens only if the first word accepts names, choices or a body.
 pub fn read_ask<A: Allocator + Copy>(alloc: A, line: &[u8]) -> Result<Option<Ask<A>>, AllocError>
     ensures ask { IfOk result (λ ask. ask ≡ asked line.now) }
     ensures memory { OnErr result (option_map (λ ask. takes_no_names ask.kind) (asked line.now) ≡ Some false) }
@@ -263,7 +293,10 @@ pub fn read_ask<A: Allocator + Copy>(alloc: A, line: &[u8]) -> Result<Option<Ask
     }
     let (word, rest) = cut_word(line);
     match kind_of(word) {
-        Some(kind) => Ok(Some(asked_of(alloc, kind, rest)?)),
+        Some(kind) => {
+            let place = line.len() - rest.len();
+            Ok(Some(asked_of(alloc, kind, place, rest)?))
+        }
         None => Ok(None),
     }
 }

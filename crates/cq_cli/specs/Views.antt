@@ -11,6 +11,7 @@ use Rattle.cq_closure.specs.Closure.{is_set}
 use Rattle.cq_render.specs.declared.extent.Extent.{Extent}
 use Rattle.cq_render.specs.Graph.{AreKept, graph_of}
 use Rattle.cq_render.specs.Json.{json_of}
+use Rattle.cq_render.specs.Dump.{dump}
 use Rattle.cq_going.specs.declared.telling.Outcome.{Outcome}
 use Rattle.cq_going.specs.Going.{IsSoughtTold}
 use Rattle.cq_going.specs.Boxes.{IsBoxed}
@@ -58,6 +59,10 @@ IsGraph boxed names left status text notes =
 -- What the library for JSON prints of the board, and of how many entries it is, in a line.
 abbrev pub IsJson : Telling
 IsJson left status text notes = (status ≡ Done) × (text ≡ line (print (json_tokens (json_of (published_count left.floor) (shown left.floor))))) × (notes ≡ [])
+
+-- A script in the same form that makes the board.
+abbrev pub IsDump : Telling
+IsDump left status text notes = (status ≡ Done) × (text ≡ dump left.form left.floor.limit (shown left.floor)) × (notes ≡ [])
 
 -- The groups.
 abbrev pub AreGroups : Telling

@@ -18,7 +18,7 @@ ghost use Rattle.cq_why.specs.Why.{is_mark};
 use crate::ahead::LookAhead;
 use crate::choices::{read_choices, read_names};
 use crate::status::Status;
-use crate::views::{Choose, Explain, Graph, Groups, Json, Judge, View};
+use crate::views::{Choose, Dump, Explain, Graph, Groups, Json, Judge, View};
 use crate::wanted::Look;
 use crate::writing::{marked_notes, tell, tell_fault, write_text};
 use cq_devices::{Sink, Stop};
@@ -220,6 +220,7 @@ pub(crate) fn answer_look<A: Allocator + Copy, R: LookAhead, W: Sink, E: Sink>(
             answer_view(alloc, heap, origin, &graph, source, sink, errors)
         }
         Look::Json => answer_view(alloc, heap, origin, &Json, source, sink, errors),
+        Look::Dump => answer_view(alloc, heap, origin, &Dump, source, sink, errors),
         Look::Groups { steps } => {
             let groups = Groups { steps: *steps };
             answer_view(alloc, heap, origin, &groups, source, sink, errors)

@@ -17,7 +17,7 @@ use crate::status::Status;
 use cq_atom::Name;
 use cq_board::{Board, Choice};
 use cq_going::{groups, tell_choice};
-use cq_render::{Extent, explain_named, explain_once, explain_these, json};
+use cq_render::{Extent, dump, explain_named, explain_once, explain_these, json};
 use cq_report::Played;
 use std::alloc::{AllocError, Allocator};
 
@@ -121,6 +121,21 @@ impl<A: Allocator + Copy> View<A> for Json {
 
     fn look(&self, heap: A, script: &Played<A>) -> Result<Seen<A>, AllocError> {
         let text = json_line(heap, script.entries(), script.board())?;
+        Ok(done(heap, text))
+    }
+}
+
+/// A script that makes the board.
+#[derive(Drop)]
+pub(crate) struct Dump;
+
+impl<A: Allocator + Copy> View<A> for Dump {
+    ghost use Rattle.cq_cli.specs.Views.{IsDump};
+
+    ghost tells = { λ _. IsDump };
+
+    fn look(&self, heap: A, script: &Played<A>) -> Result<Seen<A>, AllocError> {
+        let text = dump(heap, script.form(), script.journal_limit(), script.board())?;
         Ok(done(heap, text))
     }
 }

@@ -10,10 +10,10 @@ use std::alloc::{AllocError, Global};
 use std::convert::AsStr;
 
 /// What `--version` tells: the number, of which CHANGELOG.md says what came with it, and the logic in which the program is proved.
-const VERSION: &str = "0.9.0, proved in the logic dac8208d650f15bf";
+const VERSION: &str = "0.10.0, proved in the logic dac8208d650f15bf";
 
 /// What `version` writes.
-pub(crate) const VERSION_LINE: &str = "board 0.9.0, proved in the logic dac8208d650f15bf
+pub(crate) const VERSION_LINE: &str = "board 0.10.0, proved in the logic dac8208d650f15bf
 ";
 
 /// After how many entries a publish makes a checkpoint by default.
@@ -78,13 +78,14 @@ const BEHIND_LIVE: &str =
 drive a board over two pipes.
 
 Beside these, a line may ask about the published board: `count`, `status NAME..`, `query NAME`, `explain [NAME..]`,
-`near NAME POST`, `choice CHOICE..`, `choose [NAME..]`, `groups`, `changes`, `graph`, `json`. The line `help` lists them. An answer of
-several lines ends with `end`. `quit` ends the board, as the end of the input does.
+`near NAME POST`, `choice CHOICE..`, `choose [NAME..]`, `groups`, `changes`, `graph`, `json`, `dump`. The line `help` lists them.
+An answer of several lines ends with `end`. `quit` ends the board, as the end of the input does.
 
 `checkpoint` begins a new journal over what is published, and is answered `checkpoint N` by the number of all entries so far, or `refused
 Unpublished` if some are not published. It frees the memory of what went, and changes nothing that is shown; numbers continue. The board
 makes one by itself at the first publish that leaves 10000 entries or more since the last one, or as many as --checkpoint says. `limits
-POOL JOURNAL` bounds the entries since the last one.
+POOL JOURNAL` bounds the entries since the last one. After a checkpoint, until the next edit, `relation` and `limits` lines are accepted
+again: a relation that no head and no postcondition of a pending query uses, and limits that allow the pending queries.
 
 With --json each line, blank ones too, is answered by one JSON object with its number, in a line of its own: {\"line\":7,\"ok\":5},
 {\"line\":9,\"refused\":\"Shape\",\"at\":57}. What a line asks is answered by data:
@@ -185,6 +186,21 @@ Example:
 
 Exit status: 0 done, 1 a device failed, 2 usage, 3 out of memory.
 docs/formats.md describes the shape.";
+
+const ABOUT_DUMP: &str = "Reads a script, and writes a shorter one that makes the same board.";
+
+const BEHIND_DUMP: &str =
+    "The script is read as by `board replay`, and no reply is written. What is written makes the published board, which a `show` behind
+the last line would print: the form, the relations, the limits, an insert line for each row in order, a post line for each pending query
+in posting order, and a publish. Replayed, it gives the same rows, queries and board; only numbers of entries differ. If there are more rows
+and queries than the journal may contain, the limits line names their number instead. Edits that are not published are left out; a line on
+standard error says how many.
+
+Example:
+  board dump <old.board >new.board
+
+Exit status: 0 done, 1 a device failed, 2 usage, 3 out of memory.
+docs/formats.md describes the language.";
 
 const ABOUT_CHOICE: &str = "Reads a script, and says whether a choice coordinates on its board.";
 
@@ -294,6 +310,8 @@ pub(crate) enum Look<'a> {
     },
     /// The report on it, in JSON.
     Json,
+    /// A script that makes it.
+    Dump,
     /// Which of its queries hang together, and whether they can go.
     Groups {
         /// How many groundings are tried for a group.
@@ -538,6 +556,15 @@ fn json_command<'a>(alloc: Global) -> Result<Command<'a>, AllocError> {
         .arg(view_memory(alloc))
 }
 
+fn dump_command<'a>(alloc: Global) -> Result<Command<'a>, AllocError> {
+    Command::new(alloc, "dump")
+        .about(ABOUT_DUMP)
+        .after_help(BEHIND_DUMP)
+        .arg(file(alloc))?
+        .arg(progress(alloc))?
+        .arg(view_memory(alloc))
+}
+
 fn choice_command<'a>(alloc: Global) -> Result<Command<'a>, AllocError> {
     Command::new(alloc, "choice")
         .about(ABOUT_CHOICE)
@@ -610,6 +637,7 @@ fn board_command<'a>(alloc: Global) -> Result<Command<'a>, AllocError> {
     let board = with(board, explain_command(alloc))?;
     let board = with(board, graph_command(alloc))?;
     let board = with(board, json_command(alloc))?;
+    let board = with(board, dump_command(alloc))?;
     let board = with(board, choice_command(alloc))?;
     let board = with(board, choose_command(alloc))?;
     let board = with(board, groups_command(alloc))?;
@@ -692,6 +720,7 @@ fn task_of<'a>(
             is_boxed: matches.get_flag("clusters"),
         }),
         "json" => Task::Look(Look::Json),
+        "dump" => Task::Look(Look::Dump),
         "groups" => Task::Look(Look::Groups {
             steps: steps_of(matches),
         }),

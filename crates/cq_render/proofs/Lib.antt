@@ -14,3 +14,6 @@ mod Lines
 mod Present
 mod Chosen
 mod Whether
+mod ByRelation
+mod Examples
+mod Dumped

@@ -5,4 +5,5 @@ pub mod Explain
 pub mod Graph
 pub mod Json
 pub mod Data
+pub mod Dump
 pub mod Steps

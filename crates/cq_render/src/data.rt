@@ -258,8 +258,11 @@ fn put_posts<A: Allocator>(
     sheet.end_array()
 }
 
-/// Puts names of variables.
-fn put_variables<A: Allocator>(
+/// Puts names of variables in an array.
+///
+/// # Errors
+/// `AllocError` if an allocation fails. The sheet may then have a part of it.
+pub fn put_variables<A: Allocator>(
     sheet: &mut JsonText<A>,
     variables: &[String<A>],
 ) -> Result<(), AllocError>

@@ -7,11 +7,14 @@
 //! Who answers in JSON puts values on a `JsonText`: `put_named` and `put_standing` for a query by its name, `put_near` for the heads near to a postcondition, and `put_reasons`, which
 //! tells why queries wait, as `specs/Data` has them; and `put_values`, `put_constant` and `put_variable` for their parts.
 //!
+//! Who stores a board as a script uses `dump`, as `specs/Dump` has it.
+//!
 //! Not here: who asks for a text, and where it goes.
 #![tactic(auto)]
 
 mod data;
 mod drawn;
+mod dumping;
 mod explaining;
 mod extent;
 mod graphing;
@@ -31,8 +34,9 @@ mod reporting;
 mod walking;
 mod words;
 
-pub use data::{json, put_constant, put_values, put_variable};
+pub use data::{json, put_constant, put_values, put_variable, put_variables};
 pub use drawn::Drawn;
+pub use dumping::dump;
 pub use explaining::{explain, explain_named, explain_these, near};
 pub use extent::Extent;
 pub use graphing::{graph, graph_of};

@@ -61,7 +61,7 @@ fn look_at<'b, A: Allocator + Copy>(
 }
 
 /// What the board shows of each of its queries, which have these names in posting order.
-fn look_at_each<'b, A: Allocator + Copy>(
+pub(crate) fn look_at_each<'b, A: Allocator + Copy>(
     alloc: A,
     board: &'b Board<A>,
     names: &[&'b Name<A>],

@@ -3,9 +3,11 @@ mod Examples
 pub mod Answering
 pub mod Asking
 pub mod Cutting
+pub mod Dumps
 pub mod Empty
 pub mod Ending
 pub mod Ends
+pub mod Finds
 pub mod Kept
 pub mod Leaving
 pub mod Lives
@@ -15,3 +17,4 @@ pub mod Runs
 pub mod Scripts
 pub mod Served
 pub mod Sums
+mod Resetting

@@ -11,6 +11,10 @@ use Rattle.cq_atom.specs.Edit.{Edit}
 use Rattle.cq_board.specs.declared.edit.Why.{Why}
 use Rattle.cq_board.specs.Edits.{why, pool_after}
 use Rattle.cq_board.specs.Pool.{PoolRecord}
+use Rattle.cq_board.specs.Setup.{relation_fault, with_relation, limits_fault, with_limits}
+use Rattle.cq_board.specs.declared.limits.Limits.{Limits}
+use Rattle.cq_board.specs.declared.setup.RelationFault.{RelationFault}
+use Rattle.cq_board.specs.declared.setup.LimitsFault.{LimitsFault}
 use Rattle.cq_desk.specs.declared.event.Event.TheVariants.{Enter, Checkpoint}
 use Rattle.cq_desk.specs.declared.event.Answer.{Answer}
 use Rattle.cq_desk.specs.declared.event.Answer.TheVariants.{Replied, Checkpointed}
@@ -38,10 +42,11 @@ use Rattle.cq_report.specs.declared.said.Said.{Said}
 use Rattle.cq_report.specs.declared.said.Said.TheVariants as saids
 use Rattle.cq_report.specs.declared.stage.Stage.TheVariants.{Setup, Serving}
 use Rattle.cq_report.specs.Reading.{Reading, Reads, Faulty, IsReading}
-use Rattle.cq_report.specs.Machine.{State, Staged, SetupRecord, ServingRecord, after, board_named, counted, declared, form_in, headed, next, numbered, opened, outcome, page_of, prepare, serving_of, shown, staged}
+use Rattle.cq_report.specs.Machine.{State, Staged, SetupRecord, ServingRecord, after, board_named, counted, declared, declared_later, form_in, headed, next, numbered, limited_later, opened, outcome, page_of, prepare, prepared_later, serving_of, set_up_later, shown, staged, takes_setup}
 use Rattle.cq_report.specs.Refusals.{tallied}
 use Rattle.cq_report.specs.Reply.{event_outcome, refusal, reply_outcome}
 use Rattle.cq_report.specs.Live.{Turn, Served as ReadsAs, Renewed, Asked, IsTurn, MayStarve, is_done, turned, turn_reply}
+use Rattle.cq_report.specs.Steps.Finds.{IsFindOf}
 use Rattle.cq_report.specs.Steps.Serving.{IsLine, MayBeStarved}
 use Rattle.cq_report.specs.Steps.Turns.{TurnRecord, IsObeyed, IsRead, IsSaid, MayFail, IsPage, counts_page, plain_turn, staged_by, turn_bytes, turn_in}
 use Rattle.cq_report.proofs.Served.{same_starve, turn_of_line}
@@ -69,15 +74,15 @@ nothing_counted setup =
 
 -- ---- counts
 
-module _ (floor : FloorRecord) (ask : AskRecord) (is : kinds.Count ≡ ask.kind) where
-  counts_as_text : IsTextTold floor ask (count_line (counts_of floor))
-  counts_as_text = subst (λ (kind : AskKind). IsToldOf floor (published_pool floor) kind ask.names ask.text (count_line (counts_of floor))) is refl
+module _ (form : Form) (floor : FloorRecord) (ask : AskRecord) (is : kinds.Count ≡ ask.kind) where
+  counts_as_text : IsTextTold form floor ask (count_line (counts_of floor))
+  counts_as_text = subst (λ (kind : AskKind). IsToldOf form floor (published_pool floor) kind ask.names ask.text (count_line (counts_of floor))) is refl
 
-  counts_as_member : IsMember floor ask (member_text (codes "count", count_json (counts_of floor)))
-  counts_as_member = ((codes "count", count_json (counts_of floor)), subst (λ (kind : AskKind). IsMemberOf floor (published_pool floor) kind ask.names ask.text (codes "count", count_json (counts_of floor))) is refl, refl)
+  counts_as_member : IsMember form floor ask (member_text (codes "count", count_json (counts_of floor)))
+  counts_as_member = ((codes "count", count_json (counts_of floor)), subst (λ (kind : AskKind). IsMemberOf form floor (published_pool floor) kind ask.names ask.text (codes "count", count_json (counts_of floor))) is refl, refl)
 
   -- counts are the answer that is asked for
-  pub counts_told : (numbering : Numbering) → IsPage numbering floor ask (counts_page numbering (counts_of floor))
+  pub counts_told : (numbering : Numbering) → IsPage form numbering floor ask (counts_page numbering (counts_of floor))
   counts_told Plain = counts_as_text
   counts_told Numbered = counts_as_text
   counts_told Json = counts_as_member
@@ -107,11 +112,29 @@ pageless_named : (heading : Option Form) → IsPageless (board_named heading)
 pageless_named None = tt
 pageless_named (Some form) = tt
 
+pageless_declared_later : (fault : Option RelationFault) (serving : ServingRecord) (pool : PoolRecord) → IsPageless (declared_later fault serving pool).1
+pageless_declared_later None serving pool = tt
+pageless_declared_later (Some fault) serving pool = tt
+
+pageless_limited_later : (fault : Option LimitsFault) (serving : ServingRecord) (pool : PoolRecord) → IsPageless (limited_later fault serving pool).1
+pageless_limited_later None serving pool = tt
+pageless_limited_later (Some fault) serving pool = tt
+
+pageless_later : (serving : ServingRecord) (line : SetupLine (List ℕ)) → IsPageless (set_up_later serving line).1
+pageless_later serving (setups.Relation name arity) = pageless_declared_later (relation_fault (shown serving) name arity) serving (with_relation (shown serving) name arity)
+pageless_later serving (setups.Board form) = tt
+pageless_later serving (setups.Limits pool journal) =
+    let limits : Limits = record { pool = pool; journal = journal } in pageless_limited_later (limits_fault (shown serving) limits) serving (with_limits (shown serving) limits)
+
+pageless_prepared : (takes : Bool) (serving : ServingRecord) (line : SetupLine (List ℕ)) → IsPageless (prepared_later takes serving line).1
+pageless_prepared true serving line = pageless_later serving line
+pageless_prepared false serving line = tt
+
 pub pageless_prepare : (stage : Staged) (heading : Option Form) (line : SetupLine (List ℕ)) → IsPageless (prepare stage heading line).1
 pageless_prepare (Setup setup) heading (setups.Relation name arity) = pageless_declared (declare_fault setup.catalog name arity) setup (declaration name arity)
 pageless_prepare (Setup setup) heading (setups.Board form) = pageless_named heading
 pageless_prepare (Setup setup) heading (setups.Limits pool journal) = tt
-pageless_prepare (Serving serving) heading line = tt
+pageless_prepare (Serving serving) heading line = pageless_prepared (takes_setup serving) serving line
 
 pageless_reply : (reply : Reply Why) → IsPageless (reply_outcome reply)
 pageless_reply (replies.Entered number) = tt
@@ -200,34 +223,34 @@ pub record Told (manner : Manner) (state state' : State) (all : List ℕ) (turn 
   pub after : state' ≡ turned state one
   pub reply : numbered state.numbering state.lines (turn_bytes state.numbering turn) ≡ turn_reply state one
 
-pub told_by : (manner : Manner) (state state' : State) (line : Option (List ℕ)) (said : Said AskRecord CommandContent) (turn : TurnRecord) (all : List ℕ) → is_done manner state ≡ false → IsSaid manner (form_in state) line said → IsObeyed manner state said state' turn → IsLine line all
+pub told_by : (manner : Manner) (state state' : State) (line : Option (List ℕ)) (said : Said AskRecord CommandContent) (turn : TurnRecord) (all : List ℕ) → is_done manner state ≡ false → IsSaid manner (form_in state) line said → IsFindOf None said → IsObeyed manner state said state' turn → IsLine line all
     → Told manner state state' all turn
-told_by manner state state' None said turn all on is obeys known = absurd (let lost = subst (λ (s : Said AskRecord CommandContent). IsObeyed manner state s state' turn) is obeys in lost)
-told_by manner state state' (Some line) (saids.Asks ask) turn all on is obeys known = record {
+told_by manner state state' None said turn all on is other obeys known = absurd (let lost = subst (λ (s : Said AskRecord CommandContent). IsObeyed manner state s state' turn) is obeys in lost)
+told_by manner state state' (Some line) (saids.Asks ask) turn all on is other obeys known = record {
   one = Asked ask (turn_bytes state.numbering turn);
-  is = turn_of_line manner state line all (Asked ask (turn_bytes state.numbering turn)) known (on, is, obeys.1);
+  is = turn_of_line manner state line all (Asked ask (turn_bytes state.numbering turn)) known (on, is, obeys.1 other);
   after = obeys.0;
   reply = refl;
 }
-told_by manner state state' (Some line) (saids.Says command) turn all on is (inl same, told) known = record {
+told_by manner state state' (Some line) (saids.Says command) turn all on is other (inl same, told) known = record {
   one = ReadsAs (Reads command);
   is = turn_of_line manner state line all (ReadsAs (Reads command)) known (on, is.0, is.1);
   after = same;
   reply = ap (λ (t : TurnRecord). numbered state.numbering state.lines (turn_bytes state.numbering t)) told;
 }
-told_by manner state state' (Some line) (saids.Says command) turn all on is (inr kept, told) known = record {
+told_by manner state state' (Some line) (saids.Says command) turn all on is other (inr kept, told) known = record {
   one = Renewed (Reads command);
   is = turn_of_line manner state line all (Renewed (Reads command)) known (on, kept.0, is.0, is.1, kept.1);
   after = kept.2;
   reply = ap (λ (t : TurnRecord). numbered state.numbering state.lines (turn_bytes state.numbering t)) told;
 }
-told_by manner state state' (Some line) (saids.Faulty kind at) turn all on is obeys known = record {
+told_by manner state state' (Some line) (saids.Faulty kind at) turn all on is other obeys known = record {
   one = ReadsAs (Faulty kind at);
   is = turn_of_line manner state line all (ReadsAs (Faulty kind at)) known (on, is.0, is.1);
   after = obeys.0;
   reply = ap (λ (t : TurnRecord). numbered state.numbering state.lines (turn_bytes state.numbering t)) obeys.1;
 }
-told_by manner state state' (Some line) saids.Lost turn all on is obeys known = absurd obeys
+told_by manner state state' (Some line) saids.Lost turn all on is other obeys known = absurd obeys
 
 -- a line that asks for something else, or asks nothing
 starve_by : (line : List ℕ) (said : Said AskRecord CommandContent) (form : Form) → IsSaid manners.Live form (Some line) said → MayFail said → MayStarve line
@@ -254,6 +277,8 @@ kind_wants kinds.Groups h = refl
 kind_wants kinds.Changes h = refl
 kind_wants kinds.Graph h = refl
 kind_wants kinds.Json h = refl
+kind_wants kinds.Dump h = absurd cc
+kind_wants (kinds.Find place) h = refl
 kind_wants kinds.Checkpoint h = absurd cc
 kind_wants kinds.Help h = refl
 kind_wants kinds.Quit h = absurd cc

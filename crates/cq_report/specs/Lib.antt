@@ -5,6 +5,7 @@ pub mod Refusals
 pub mod Reply
 pub mod Data
 pub mod Machine
+pub mod Find
 pub mod Output
 pub mod Summary
 pub mod Live

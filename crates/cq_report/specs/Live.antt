@@ -6,18 +6,18 @@ use Rattle.cq_devices.specs.Device.{TakesFront}
 use Rattle.cq_devices.specs.Limits.{max_piece, max_reads}
 use Rattle.cq_devices.specs.declared.stop.Stop.{Stop}
 use Rattle.cq_devices.specs.declared.stop.Stop.TheVariants as faults
+use Rattle.cq_text.specs.declared.form.Form.{Form}
 use Rattle.cq_report.specs.Lines.{lines_of, whole_lines}
 use Rattle.cq_report.specs.Reading.{Reading, IsReading}
-use Rattle.cq_report.specs.declared.outcome.Outcome.TheVariants.{Refused}
-use Rattle.cq_report.specs.declared.refusal.Refusal.TheVariants.{Memory}
 use Rattle.cq_desk.specs.declared.event.Event.TheVariants as events
-use Rattle.cq_report.specs.Machine.{State, Staged, after, form_in, next, counted, numbered, spoken, reply, begin_life, outcome, serving_of}
+use Rattle.cq_report.specs.Machine.{State, Staged, after, form_in, next, counted, memory_told, numbered, spoken, reply, begin_life, outcome, serving_of}
 use Rattle.cq_report.specs.declared.stage.Stage.TheVariants.{Setup, Serving}
-use Rattle.cq_ask.specs.Ask.{AskRecord, asked, is_checkpoint, is_quit}
+use Rattle.cq_ask.specs.Ask.{AskRecord, asked, is_checkpoint, is_find, is_quit}
 use Rattle.cq_ask.specs.declared.ask.AskKind.{AskKind}
 use Rattle.cq_ask.specs.declared.ask.AskKind.TheVariants as kinds
-use Rattle.cq_ask.specs.Answer.{FloorRecord, IsTold, ending}
+use Rattle.cq_ask.specs.Answer.{FloorRecord, IsTold, ending, published_pool}
 use Rattle.cq_ask.specs.Data.{IsMember}
+use Rattle.cq_report.specs.Find.{IsFindTold, place_of}
 use Rattle.cq_report.specs.declared.manner.Manner.{Manner}
 use Rattle.cq_report.specs.declared.manner.Manner.TheVariants as manners
 use Rattle.cq_report.specs.declared.numbering.Numbering.{Numbering}
@@ -32,24 +32,21 @@ pub data Turn : Type 0 where
   OutOfMemory : Turn
   Unheard : Turn
 
--- The reply if an allocation failed.
-abbrev pub memory_told : Numbering → List ℕ
-memory_told numbering = spoken numbering (Refused Memory) []
-
 -- What is asked is answered in lines.
-abbrev pub IsAnswer : FloorRecord → AskRecord → List ℕ → Type 0
-IsAnswer floor ask told = (text : List ℕ) × IsTold floor ask text × (told ≡ text ++ ending ask.kind)
+abbrev pub IsAnswer : Form → FloorRecord → AskRecord → List ℕ → Type 0
+IsAnswer form floor ask told = (text : List ℕ) × IsTold form floor ask text × (told ≡ text ++ ending ask.kind)
 
 -- What is asked is answered, in lines, or by a member of a JSON object.
-abbrev pub IsAskTold : Numbering → FloorRecord → AskRecord → List ℕ → Type 0
-IsAskTold Plain floor ask told = IsAnswer floor ask told
-IsAskTold Numbered floor ask told = IsAnswer floor ask told
-IsAskTold Json floor ask told = IsMember floor ask told
+abbrev pub IsAskTold : Form → Numbering → FloorRecord → AskRecord → List ℕ → Type 0
+IsAskTold form Plain floor ask told = IsAnswer form floor ask told
+IsAskTold form Numbered floor ask told = IsAnswer form floor ask told
+IsAskTold form Json floor ask told = IsMember form floor ask told
 
--- A checkpoint that is asked for is answered as the floor answers it; anything else is told, and changes nothing.
-abbrev pub IsSettled : Bool → Numbering → FloorRecord → AskRecord → List ℕ → Type 0
-IsSettled true numbering floor ask told = told ≡ spoken numbering (outcome floor events.Checkpoint) []
-IsSettled false numbering floor ask told = IsAskTold numbering floor ask told
+-- A checkpoint that is asked for is answered as the floor answers it; groundings are told one by one; anything else is told. Only a checkpoint changes anything.
+abbrev pub IsSettled : Bool → Bool → Form → Numbering → FloorRecord → AskRecord → List ℕ → Type 0
+IsSettled true finds form numbering floor ask told = told ≡ spoken numbering (outcome floor events.Checkpoint) []
+IsSettled false true form numbering floor ask told = IsFindTold form (place_of ask.kind) numbering (published_pool floor) ask.text told
+IsSettled false false form numbering floor ask told = IsAskTold form numbering floor ask told
 
 -- The stage after a checkpoint, which may be refused. A setup lasts, since nothing has happened yet.
 abbrev pub stage_renewed : Staged → Staged
@@ -93,7 +90,7 @@ MayStarve line = (line_room < length line) ⊎ ((ask : AskRecord) → asked line
 abbrev pub IsTurn : Manner → State → List ℕ → Turn → Type 0
 IsTurn manner state line (Served reading) = (is_done manner state ≡ false) × (asked_in manner line ≡ None) × IsReading (form_in state) line reading
 IsTurn manner state line (Renewed reading) = (is_done manner state ≡ false) × (manner ≡ manners.Live) × (asked_in manner line ≡ None) × IsReading (form_in state) line reading × (is_due (next state reading) ≡ true)
-IsTurn manner state line (Asked ask told) = (is_done manner state ≡ false) × (asked_in manner line ≡ Some ask) × IsSettled (is_checkpoint ask.kind) state.numbering (serving_of state.stage) ask told
+IsTurn manner state line (Asked ask told) = (is_done manner state ≡ false) × (asked_in manner line ≡ Some ask) × IsSettled (is_checkpoint ask.kind) (is_find ask.kind) (form_in state) state.numbering (serving_of state.stage) ask told
 IsTurn manner state line OutOfMemory = (is_done manner state ≡ false) × (manner ≡ manners.Live) × MayStarve line
 IsTurn manner state line Unheard = is_done manner state ≡ true
 

@@ -1,5 +1,5 @@
 -- A script is served by its setup first, and from then on by the floor machine with one session. (this project's profile)
-use Rattle.std.specs.Prelude.{ℕ, Bool, false, List, [], ◌∷◌, ◌++◌, ◌+◌, Option, Some, None, codes, decimal}
+use Rattle.std.specs.Prelude.{ℕ, Bool, true, false, ◌&&◌, nat_le, List, [], ◌∷◌, ◌++◌, ◌+◌, length, Option, Some, None, codes, decimal}
 use Rattle.cq_rel.specs.declared.fault.CatalogFault.{CatalogFault}
 use Rattle.cq_rel.specs.Tables.{Declaration, declaration, declare_fault}
 use Rattle.cq_text.specs.declared.form.Form.{Form}
@@ -9,11 +9,15 @@ use Rattle.cq_text.specs.declared.command.SetupLine.{SetupLine}
 use Rattle.cq_text.specs.declared.command.SetupLine.TheVariants as setups
 use Rattle.cq_board.specs.declared.limits.Limits.{Limits}
 use Rattle.cq_board.specs.Pool.{PoolRecord, opening_pool}
+use Rattle.cq_board.specs.Setup.{relation_fault, with_relation, limits_fault, with_limits}
+use Rattle.cq_board.specs.declared.setup.RelationFault.{RelationFault}
+use Rattle.cq_board.specs.declared.setup.RelationFault.TheVariants as relations
+use Rattle.cq_board.specs.declared.setup.LimitsFault.{LimitsFault}
 use Rattle.cq_atom.specs.Edit.{Edit}
 use Rattle.cq_board.specs.Edits.{why, pool_after}
 use Rattle.cq_desk.specs.declared.event.Event.{Event}
 use Rattle.cq_desk.specs.declared.event.Event.TheVariants as events
-use Rattle.cq_desk.specs.Machine.{MachineRecord, opening_machine, answer_to, machine_after, published_content}
+use Rattle.cq_desk.specs.Machine.{MachineRecord, opening_machine, answer_to, machine_after, published_content, reopened}
 use Rattle.json.specs.Print.{print}
 use Rattle.json.specs.Tree.{json_tokens}
 use Rattle.cq_render.specs.Json.{json_of}
@@ -26,7 +30,8 @@ use Rattle.cq_report.specs.declared.stage.Stage.TheVariants.{Setup, Serving}
 use Rattle.cq_report.specs.Reading.{Reading, Reads, Faulty}
 use Rattle.cq_report.specs.declared.outcome.Outcome.{Outcome}
 use Rattle.cq_report.specs.declared.outcome.Outcome.TheVariants.{Silent, Accepted, Entered, Published, Shown, Answered, Checkpointed, Quit, Refused}
-use Rattle.cq_report.specs.declared.refusal.Refusal.TheVariants.{Text, Late, Catalog}
+use Rattle.cq_report.specs.declared.refusal.Refusal.{Refusal}
+use Rattle.cq_report.specs.declared.refusal.Refusal.TheVariants.{Text, Late, Catalog, InUse, TooManyPending, Memory}
 use Rattle.cq_report.specs.Reply.{event_outcome, outcome_line, outcome_end, refusal}
 use Rattle.cq_report.specs.Data.{outcome_members}
 use Rattle.cq_report.specs.declared.tally.Tally.{Tally}
@@ -117,11 +122,6 @@ set_up setup heading (setups.Relation name arity) = declared (declare_fault setu
 set_up setup heading (setups.Board form) = (setup, board_named heading)
 set_up setup heading (setups.Limits pool journal) = (record setup { limits = record { pool = pool; journal = journal } }, Accepted)
 
--- After the setup each line of a setup is too late.
-abbrev pub prepare : Staged → Option Form → SetupLine (List ℕ) → Staged × Outcome
-prepare (Setup setup) heading line = (Setup (set_up setup heading line).0, (set_up setup heading line).1)
-prepare (Serving serving) heading line = (Serving serving, Refused Late)
-
 -- ---- the floor
 
 -- What a setup opens: a floor with one session, over the relations and under the limits, without rows, queries and entries.
@@ -140,6 +140,48 @@ after = machine_after pool_after why
 -- The pool that a look shows: what the published front of the journal leaves.
 abbrev pub shown : ServingRecord → PoolRecord
 shown serving = published_content pool_after serving
+
+-- ---- the setup after a checkpoint
+
+-- Lines of a setup are taken again: a checkpoint was made, and no edit was entered since.
+abbrev pub takes_setup : ServingRecord → Bool
+takes_setup serving = serving.has_checkpoint && nat_le (length serving.journal) 0
+
+-- Why a further relation is refused.
+abbrev pub relation_refusal : RelationFault → Refusal
+relation_refusal (relations.Refused fault) = Catalog fault
+relation_refusal relations.InUse = InUse
+relation_refusal relations.NoMemory = Memory
+
+-- The journal begins over the pool with a further relation, or the reason is reported.
+abbrev pub declared_later : Option RelationFault → ServingRecord → PoolRecord → ServingRecord × Outcome
+declared_later None serving pool = (reopened pool serving.limit serving, Accepted)
+declared_later (Some fault) serving pool = (serving, Refused (relation_refusal fault))
+
+-- The journal begins over the pool with other limits, or the reason is reported.
+abbrev pub limited_later : Option LimitsFault → ServingRecord → PoolRecord → ServingRecord × Outcome
+limited_later None serving pool = (reopened pool pool.limits.journal serving, Accepted)
+limited_later (Some fault) serving pool = (serving, Refused TooManyPending)
+
+-- The floor after such a line, and what comes of it. The form is settled by then.
+abbrev pub set_up_later : ServingRecord → SetupLine (List ℕ) → ServingRecord × Outcome
+set_up_later serving (setups.Relation name arity) = declared_later (relation_fault (shown serving) name arity) serving (with_relation (shown serving) name arity)
+set_up_later serving (setups.Board form) = (serving, Refused Late)
+set_up_later serving (setups.Limits pool journal) =
+    let limits : Limits = record { pool = pool; journal = journal } in
+    limited_later (limits_fault (shown serving) limits) serving (with_limits (shown serving) limits)
+
+-- Other lines of a setup are too late.
+abbrev pub prepared_later : Bool → ServingRecord → SetupLine (List ℕ) → Staged × Outcome
+prepared_later true serving line = (Serving (set_up_later serving line).0, (set_up_later serving line).1)
+prepared_later false serving line = (Serving serving, Refused Late)
+
+-- The stage after a line of a setup, if this form was settled before, if any, and what comes of it.
+abbrev pub prepare : Staged → Option Form → SetupLine (List ℕ) → Staged × Outcome
+prepare (Setup setup) heading line = (Setup (set_up setup heading line).0, (set_up setup heading line).1)
+prepare (Serving serving) heading line = prepared_later (takes_setup serving) serving line
+
+-- ---- events
 
 -- What comes of an event.
 abbrev pub outcome : ServingRecord → Event Edit → Outcome
@@ -193,6 +235,10 @@ after_page Json outcome = []
 -- What comes of a line and its page, as they are written.
 abbrev pub spoken : Numbering → Outcome → List ℕ → List ℕ
 spoken numbering outcome page = before_page numbering outcome ++ (page ++ after_page numbering outcome)
+
+-- The reply if an allocation failed.
+abbrev pub memory_told : Numbering → List ℕ
+memory_told numbering = spoken numbering (Refused Memory) []
 
 -- A reply with the number of its line, if so many lines came before: it stands before it, and a line that has no reply has no number; or both are in a
 -- JSON object, in a line of its own.

@@ -10,7 +10,7 @@ use Rattle.cq_report.specs.declared.tally.Tally.{Tally}
 use Rattle.cq_report.specs.Lines.{lines_of}
 use Rattle.cq_report.specs.Reading.{Reading, IsReading}
 use Rattle.cq_report.specs.Refusals.{no_refusal}
-use Rattle.cq_report.specs.Machine.{State, ServingRecord, begin_state, form_of, headed, next, reply, serving_of, shown}
+use Rattle.cq_report.specs.Machine.{State, ServingRecord, begin_state, form_in, form_of, headed, next, reply, serving_of, shown}
 
 -- Each line has its reading, in the form that is settled before it.
 abbrev pub AreReadFrom : Option Form → List (List ℕ) → List Reading → Type 0
@@ -52,15 +52,16 @@ pub record Heard (is_strict : Bool) (numbering : Numbering) (input : List ℕ) (
   pub are : AreReadings lines readings
   pub wrote : (rs : List Reading) → AreReadings lines rs → (state ≡ state_after (begin_state numbering) rs) × Appends taken taken' (output numbering rs)
 
--- What a script leaves: its floor, how many lines it had, and which of them were refused.
+-- What a script leaves: its floor, its form, how many lines it had, and which of them were refused.
 pub record Left : Type 0 where
   pub floor : ServingRecord
+  pub form : Form
   pub lines : ℕ
   pub tally : Tally
 
 -- Where the lines end no setup, the floor is the one that it opens.
 abbrev pub left_in : State → Left
-left_in state = record { floor = serving_of state.stage; lines = state.lines; tally = state.tally }
+left_in state = record { floor = serving_of state.stage; form = form_in state; lines = state.lines; tally = state.tally }
 
 -- What lines leave that are read so.
 abbrev pub left_after : List Reading → Left

@@ -11,7 +11,7 @@ use Rattle.cq_board.specs.declared.edit.Why.TheVariants as whys
 use Rattle.cq_report.specs.declared.refusal.Place.{Place}
 use Rattle.cq_report.specs.declared.refusal.Place.TheVariants.{Byte, Atom}
 use Rattle.cq_report.specs.declared.refusal.Refusal.{Refusal}
-use Rattle.cq_report.specs.declared.refusal.Refusal.TheVariants.{Text, Late, Catalog, Pool, JournalFull, Unpublished, Memory}
+use Rattle.cq_report.specs.declared.refusal.Refusal.TheVariants.{Text, Late, Catalog, InUse, TooManyPending, Pool, JournalFull, Unpublished, Memory}
 use Rattle.cq_report.specs.declared.tally.Refused.{Refused}
 use Rattle.cq_report.specs.declared.tally.Tally.{Tally}
 
@@ -65,12 +65,14 @@ why_parts whys.NoSuchName = just (codes "NoSuchName")
 why_parts whys.RowPresent = just (codes "RowPresent")
 why_parts whys.RowAbsent = just (codes "RowAbsent")
 
--- Why a line is refused: a fault of text, with its byte; a line of a setup after it; a relation that is not declared; an edit that the pool refuses; a
--- full journal; or an allocation that failed.
+-- Why a line is refused: a fault of text, with its byte; a line of a setup after it; a relation that is not declared, or that a pending query uses; limits
+-- below the pool; an edit that the pool refuses; a full journal; a checkpoint over entries that are not published; or an allocation that failed.
 abbrev pub refusal_parts : Refusal → Parts
 refusal_parts (Text kind offset) = record { word = kind_word kind; part = None; place = Some (Byte offset) }
 refusal_parts Late = just (codes "Late")
 refusal_parts (Catalog fault) = just (catalog_word fault)
+refusal_parts InUse = just (codes "InUse")
+refusal_parts TooManyPending = just (codes "TooManyPending")
 refusal_parts (Pool why) = why_parts why
 refusal_parts JournalFull = just (codes "JournalFull")
 refusal_parts Unpublished = just (codes "Unpublished")

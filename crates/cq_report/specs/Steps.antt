@@ -5,5 +5,6 @@ pub mod Written
 pub mod Count
 pub mod Writing
 pub mod Kept
+pub mod Finds
 pub mod Serving
 pub mod Playing

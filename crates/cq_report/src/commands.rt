@@ -1,15 +1,16 @@
 //! Commands of a script, and questions about its board.
 
-ghost use Rattle.std.specs.Prelude.{◌≡◌, true, string_bytes, OnErr, IfOk};
+ghost use Rattle.std.specs.Prelude.{◌≡◌, true, false, string_bytes, OnErr, IfOk};
 ghost use Rattle.cq_report.specs.declared.stage.Stage.TheVariants.{Serving};
 ghost use Rattle.cq_desk.specs.declared.event.Event.TheVariants.{Checkpoint, Enter, Look, Publish};
 ghost use Rattle.cq_report.specs.Live.{IsAskTold, IsSettled, is_due, needs_memory, renewed, stage_asked};
-ghost use Rattle.cq_ask.specs.Ask.{is_checkpoint};
+ghost use Rattle.cq_ask.specs.Ask.{is_checkpoint, is_find};
 ghost use Rattle.cq_ask.specs.Answer.{counts_of};
-ghost use Rattle.cq_report.specs.Machine.{happen, opened, prepare, serving_of};
+ghost use Rattle.cq_report.specs.Machine.{form_in, happen, opened, prepare, serving_of};
 ghost use Rattle.cq_report.specs.Steps.Turns.{IsKeptUp, IsPage, turn_after, turn_bytes};
 
 use crate::floors::{BoardFloor, SESSION, checkpointed, entered, look, open};
+use crate::later::{set_up_later, takes_setup};
 use crate::manner::Manner;
 use crate::numbering::Numbering;
 use crate::outcome::{Outcome, Turn};
@@ -19,27 +20,28 @@ use crate::setup::Setup;
 use crate::stage::Stage;
 use cq_ask::{Ask, AskKind, Counts, counts_of, tell, tell_data};
 use cq_atom::{Edit, Name};
-use cq_text::SetupLine;
+use cq_text::{Form, SetupLine};
 use std::alloc::{AllocError, Allocator};
 use std::mem;
 
 /// Returns the answer to a question about a floor, in lines or as a member of a JSON object.
 fn page_of<A: Allocator + Copy>(
     alloc: A,
+    form: Form,
     numbering: Numbering,
     floor: &BoardFloor<A>,
     ask: &Ask<A>,
 ) -> Result<String<A>, AllocError>
-    ensures { IfOk result (λ page. IsPage numbering floor.now ask.now (string_bytes page)) }
+    ensures { IfOk result (λ page. IsPage form numbering floor.now ask.now (string_bytes page)) }
 {
     match numbering {
-        Numbering::Json => tell_data(alloc, floor, ask),
-        Numbering::Plain | Numbering::Numbered => tell(alloc, floor, ask),
+        Numbering::Json => tell_data(alloc, form, floor, ask),
+        Numbering::Plain | Numbering::Numbered => tell(alloc, form, floor, ask),
     }
 }
 
 impl<A: Allocator + Copy> Script<A> {
-    /// Takes a line of a setup, and returns the outcome.
+    /// Takes a line of a setup, and returns the outcome. After a checkpoint the floor takes it, until the next edit is entered.
     pub(crate) fn prepare(&mut self, line: &SetupLine<Name<A>>) -> Result<Outcome, AllocError>
         ensures state { IfOk result (λ outcome. self.new ≡ record self.old { stage = (prepare self.old.stage self.old.heading line.now).0 }) }
         ensures outcome { IfOk result (λ outcome. outcome ≡ (prepare self.old.stage self.old.heading line.now).1) }
@@ -47,6 +49,7 @@ impl<A: Allocator + Copy> Script<A> {
     {
         match &mut self.stage {
             Stage::Setup(setup) if !self.is_closed => setup.set_up(self.heading, line),
+            Stage::Serving(floor) if takes_setup(floor) => set_up_later(floor, line),
             _ => Ok(Outcome::Refused(Refusal::Late)),
         }
     }
@@ -177,14 +180,15 @@ impl<A: Allocator + Copy> Script<A> {
 
     /// Returns the answer to a question about the published board. A setup opens a floor for it, and drops it.
     fn page(&self, ask: &Ask<A>) -> Result<String<A>, AllocError>
-        ensures { IfOk result (λ page. IsPage self.now.numbering (serving_of self.now.stage) ask.now (string_bytes page)) }
+        ensures { IfOk result (λ page. IsPage (form_in self.now) self.now.numbering (serving_of self.now.stage) ask.now (string_bytes page)) }
     {
+        let form = self.form();
         match &self.stage {
             Stage::Setup(setup) => {
                 let floor = open(self.alloc, setup.copy()?)?;
-                page_of(self.alloc, self.numbering, &floor, ask)
+                page_of(self.alloc, form, self.numbering, &floor, ask)
             }
-            Stage::Serving(floor) => page_of(self.alloc, self.numbering, floor, ask),
+            Stage::Serving(floor) => page_of(self.alloc, form, self.numbering, floor, ask),
         }
     }
 
@@ -200,7 +204,7 @@ impl<A: Allocator + Copy> Script<A> {
 
     /// Returns the reply to a question about the published board. Does not allocate for `count` and `quit`.
     pub(crate) fn tell(&self, ask: &Ask<A>) -> Result<Turn<A>, AllocError>
-        ensures told { IfOk result (λ turn. IsAskTold self.now.numbering (serving_of self.now.stage) ask.now (turn_bytes self.now.numbering turn)) }
+        ensures told { IfOk result (λ turn. IsAskTold (form_in self.now) self.now.numbering (serving_of self.now.stage) ask.now (turn_bytes self.now.numbering turn)) }
         ensures wants { OnErr result (needs_memory ask.now.kind ≡ true) }
     {
         if ask.is_quit() {
@@ -215,7 +219,7 @@ impl<A: Allocator + Copy> Script<A> {
     /// Returns the reply to a question, or makes the checkpoint that the line asks for.
     pub(crate) fn settle(&mut self, ask: &Ask<A>) -> Result<Turn<A>, AllocError>
         ensures state { IfOk result (λ turn. self.new ≡ record self.old { stage = stage_asked (is_checkpoint ask.now.kind) self.old.stage }) }
-        ensures told { IfOk result (λ turn. IsSettled (is_checkpoint ask.now.kind) self.old.numbering (serving_of self.old.stage) ask.now (turn_bytes self.old.numbering turn)) }
+        ensures told { IfOk result (λ turn. is_find ask.now.kind ≡ false → IsSettled (is_checkpoint ask.now.kind) (is_find ask.now.kind) (form_in self.old) self.old.numbering (serving_of self.old.stage) ask.now (turn_bytes self.old.numbering turn)) }
         ensures err { OnErr result (self.new ≡ self.old) }
         ensures wants { OnErr result (needs_memory ask.now.kind ≡ true) }
     {

@@ -8,6 +8,7 @@ ghost use Rattle.cq_report.specs.Summary.{unpublished};
 use crate::floors::BoardFloor;
 use crate::tally::Tally;
 use cq_board::Board;
+use cq_text::Form;
 use std::alloc::Allocator;
 use std::marker::Model;
 
@@ -15,6 +16,7 @@ use std::marker::Model;
 #[derive(Drop)]
 pub struct Played<A: Allocator + Copy> {
     floor: BoardFloor<A>,
+    form: Form,
     lines: u128,
     tally: Tally,
 }
@@ -24,16 +26,17 @@ impl<A: Allocator + Copy> Model for Played<A> {
 
     ghost Value = { Left };
 
-    ghost view = { λ p. record { floor = p.floor; lines = p.lines; tally = p.tally } };
+    ghost view = { λ p. record { floor = p.floor; form = p.form; lines = p.lines; tally = p.tally } };
 }
 
 impl<A: Allocator + Copy> Played<A> {
-    /// Returns this floor after that many lines, of which these were refused.
-    pub(crate) fn new(floor: BoardFloor<A>, lines: u128, tally: Tally) -> Played<A>
-        ensures { result ≡ record { floor = floor; lines = lines; tally = tally } }
+    /// Returns this floor after that many lines of a script in this form, of which these were refused.
+    pub(crate) fn new(floor: BoardFloor<A>, form: Form, lines: u128, tally: Tally) -> Played<A>
+        ensures { result ≡ record { floor = floor; form = form; lines = lines; tally = tally } }
     {
         Played {
             floor,
+            form,
             lines,
             tally,
         }
@@ -44,6 +47,20 @@ impl<A: Allocator + Copy> Played<A> {
         ensures { result.now ≡ shown self.now.floor }
     {
         self.floor.board()
+    }
+
+    /// Returns the form of the script.
+    pub fn form(&self) -> Form
+        ensures { result ≡ self.now.form }
+    {
+        self.form
+    }
+
+    /// Returns how many entries the journal may contain.
+    pub fn journal_limit(&self) -> usize
+        ensures { result ≡ self.now.floor.limit }
+    {
+        self.floor.limit()
     }
 
     /// How many entries of the journal that board is of.

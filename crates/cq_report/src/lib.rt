@@ -10,8 +10,11 @@
 
 mod commands;
 mod discard;
+mod dumped;
+mod finding;
 mod floors;
 mod heading;
+mod later;
 mod left;
 mod limits;
 mod line_buffer;
@@ -33,6 +36,7 @@ mod summary;
 mod tally;
 
 pub use cq_devices::Stop as RunFault;
+pub use dumped::dumps_make_boards;
 pub use heading::{form_of, headed};
 pub use left::Played;
 pub use limits::{JOURNAL_LIMIT, POOL_LIMIT};

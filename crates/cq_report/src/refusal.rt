@@ -25,6 +25,10 @@ pub enum Refusal {
     Late,
     /// A relation is not declared.
     Catalog(CatalogFault),
+    /// A relation is not declared, since a pending query uses its name in a head or a postcondition.
+    InUse,
+    /// The limits allow fewer queries than are pending.
+    TooManyPending,
     /// The pool refuses an edit.
     Pool(Why),
     /// The journal has as many entries as it may hold.
@@ -155,6 +159,8 @@ impl Refusal {
             },
             Refusal::Late => RefusalParts::just("Late"),
             Refusal::Catalog(fault) => RefusalParts::just(catalog_word(fault)),
+            Refusal::InUse => RefusalParts::just("InUse"),
+            Refusal::TooManyPending => RefusalParts::just("TooManyPending"),
             Refusal::Pool(why) => why_parts(why),
             Refusal::JournalFull => RefusalParts::just("JournalFull"),
             Refusal::Unpublished => RefusalParts::just("Unpublished"),

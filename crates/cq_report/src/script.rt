@@ -1,8 +1,8 @@
 //! A script, line by line.
 
-ghost use Rattle.std.specs.Prelude.{◌≡◌, ◌<◌, ◌≤◌, ◌+◌, ◌^◌, List, ℕ, Option, Some, false, option_map, OnOk, OnErr, IfOk, IfErr};
+ghost use Rattle.std.specs.Prelude.{◌≡◌, ◌<◌, ◌≤◌, ◌+◌, ◌^◌, List, ℕ, Option, Some, true, false, option_map, OnOk, OnErr, IfOk, IfErr};
 ghost use Rattle.std.specs.Option.{is_some};
-ghost use Rattle.cq_ask.specs.Ask.{is_quit};
+ghost use Rattle.cq_ask.specs.Ask.{is_find, is_quit};
 ghost use Rattle.cq_report.specs.Reading.{Reading, Reads, Faulty, IsReading};
 ghost use Rattle.cq_report.specs.declared.manner.Manner.TheVariants.{Live};
 ghost use Rattle.cq_report.specs.Machine.{State, begin_life, form_in, staged, counted, next};
@@ -16,6 +16,7 @@ ghost use Rattle.cq_report.specs.Steps.Turns.{IsRead, IsSaid, IsObeyed, MayFail,
 ghost use Rattle.cq_report.specs.declared.said.Said.TheVariants.{Asks};
 ghost use Rattle.cq_report.specs.Steps.Written.{Fails};
 
+use crate::finding::{find_of, put_find};
 use crate::floors::{BoardFloor, SESSION, entered, open};
 use crate::heading::{form_of, headed};
 use crate::left::Played;
@@ -29,7 +30,7 @@ use crate::setup::Setup;
 use crate::stage::Stage;
 use crate::tally::Tally;
 use cq_ask::{Ask, read_ask};
-use cq_devices::{Sink, Stop};
+use cq_devices::{Failed, Sink, Stop};
 use cq_text::{Command, CommandKind, Form, Kind, TextFault, one_reading, read_command};
 use std::alloc::{AllocError, Allocator};
 use std::marker::Model;
@@ -290,6 +291,42 @@ impl<A: Allocator + Copy> Script<A> {
         }
     }
 
+    /// Counts a line that asks for groundings, and puts the reply. If an allocation fails before, it is as if the line had not been.
+    fn answer_find<W: Sink>(
+        &mut self,
+        manner: Manner,
+        ask: &Ask<A>,
+        output: &mut Output<'_, W, A>,
+    ) -> Result<(), Stop>
+        requires failures { W.write_failures output.old.sink.now < 2 ^ 62 }
+        requires lines { lines_before self.old < 2 ^ 100 }
+        requires heard { is_done manner self.old ≡ false }
+        requires finds { is_find ask.now.kind ≡ true }
+        ensures lines { lines_before self.new ≤ lines_before self.old + 1 }
+        ensures ok { OnOk result ((line : Option (List ℕ)) → IsSaid manner (form_in self.old) line (Asks ask.now) → Answers manner W.taken W.write_failures output.old output.new self.old self.new line) }
+        ensures err { IfErr result (λ stop. (line : Option (List ℕ)) → IsSaid manner (form_in self.old) line (Asks ask.now) → AnswerStops manner W.taken W.write_failures output.old output.new self.old line stop) }
+        ensures fails { IfErr result (λ stop. Fails W.write_failures output.old output.new stop) }
+        ensures sound { OnOk result (IsSound W.write_failures output.old output.new) }
+    {
+        let (numbering, before) = (self.numbering, self.lines);
+        match put_find(
+            self.alloc,
+            self.form(),
+            numbering,
+            before,
+            &self.stage,
+            ask,
+            output,
+        ) {
+            Ok(Ok(())) => {
+                self.lines += 1;
+                Ok(())
+            }
+            Ok(Err(Failed)) => Err(Stop::Write),
+            Err(_) => self.starve(manner, output),
+        }
+    }
+
     /// Serves a line, of which as much is given as is known of it, and puts the reply. If an allocation fails, it is as if the line had not been: the reply says so, unless it is
     /// one of a script, which stops then.
     pub(crate) fn answer<W: Sink>(
@@ -311,6 +348,9 @@ impl<A: Allocator + Copy> Script<A> {
         }
         let (numbering, before) = (self.numbering, self.lines);
         let said = self.read(manner, line);
+        if let Some(ask) = find_of(&said) {
+            return self.answer_find(manner, ask, output);
+        }
         match self.obey(manner, said) {
             Ok(turn) => {
                 output.put_reply(numbering, before, &turn)?;
@@ -331,19 +371,20 @@ impl<A: Allocator + Copy> Script<A> {
             alloc,
             numbering: _,
             lines,
-            heading: _,
+            heading,
             stage,
             is_closed: _,
             every: _,
             tally,
             is_over: _,
         } = self;
+        let form = form_of(heading);
         match stage {
             Stage::Setup(setup) => {
                 let floor = open(alloc, setup)?;
-                Ok(Played::new(floor, lines, tally))
+                Ok(Played::new(floor, form, lines, tally))
             }
-            Stage::Serving(floor) => Ok(Played::new(floor, lines, tally)),
+            Stage::Serving(floor) => Ok(Played::new(floor, form, lines, tally)),
         }
     }
 }

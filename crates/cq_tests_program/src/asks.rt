@@ -1,11 +1,15 @@
 //! Lines that ask: each kind answered once, and with each allocation refused in turn.
 
-use cq_ask::{ending, read_ask, tell, tell_data};
+use cq_ask::{
+    ending, fault_place, found_line, found_text, read_ask, read_find, tell, tell_data,
+    variables_text,
+};
+use cq_atom::{Bad, Value};
 use cq_board::{Board, Limits};
 use cq_desk::{Event, Floor};
 use cq_refusing::{Outcome, Tried, refusals};
 use cq_rel::Catalog;
-use cq_text::{CommandKind, Form, read_command};
+use cq_text::{CommandKind, Form, Kind, TextFault, read_command};
 use std::alloc::{AllocError, Allocator};
 
 /// A floor over a board.
@@ -95,6 +99,12 @@ const ASKED: &[Asked] = &[
         member: ",\"groups\":[]",
     },
     Asked {
+        line: b"dump",
+        told: "board 1\nlimits 9 9\npost a {R(1)} S(2) <-\npublish\n",
+        end: "end\n",
+        member: ",\"dump\":\"board 1\\nlimits 9 9\\npost a {R(1)} S(2) <-\\npublish\\n\"",
+    },
+    Asked {
         line: b"choice a(",
         told: "refused Words\n",
         end: "",
@@ -149,8 +159,8 @@ fn is_answered<A: Allocator + Copy>(
     let Some(ask) = read_ask(alloc, asked.line)? else {
         return Ok(false);
     };
-    let told = tell(alloc, floor, &ask)?;
-    let member = tell_data(alloc, floor, &ask)?;
+    let told = tell(alloc, Form::One, floor, &ask)?;
+    let member = tell_data(alloc, Form::One, floor, &ask)?;
     Ok(
         told.as_str() == asked.told
             && member.as_str() == asked.member
@@ -191,4 +201,78 @@ fn failed_allocation_in_answers(rt: HostRuntime) {
     assert!(rt; matches!(refusals::<Nth<8>>(rt.alloc()), Ok(1..)));
     assert!(rt; matches!(refusals::<Nth<9>>(rt.alloc()), Ok(5..)));
     assert!(rt; matches!(refusals::<Nth<10>>(rt.alloc()), Ok(2..)));
+    assert!(rt; matches!(refusals::<Nth<11>>(rt.alloc()), Ok(2..)));
+}
+
+/// What comes after `find`, with spaces that are no part of it.
+const BODY: &[u8] = b" F(x, \"many a text is longer\"), G(x, y)  first 3 ";
+
+/// A value that takes memory.
+const LONG: &str = "many a text is longer";
+
+/// Whether the body is read, and a grounding of it told in a line and as JSON.
+fn is_found<A: Allocator + Copy>(alloc: A, value: &Value<A>) -> Result<bool, AllocError> {
+    let search = match read_find(alloc, Form::One, BODY) {
+        Ok(search) => search,
+        Err(TextFault::NoMemory) => return Err(AllocError),
+        Err(_) => return Ok(false),
+    };
+    let values = [value, value];
+    let line = found_line(alloc, &values)?;
+    let text = found_text(alloc, &values)?;
+    let variables = variables_text(alloc, search.query())?;
+    Ok(
+        search.most() == Some(3)
+            && search.query().body().len() == 2
+            && line.as_str() == "(\"many a text is longer\", \"many a text is longer\")\n"
+            && text.as_str() == "[\"many a text is longer\",\"many a text is longer\"]"
+            && variables.as_str() == ",\"find\":{\"variables\":[\"x\",\"y\"],\"groundings\":[",
+    )
+}
+
+/// A body read, and a grounding told.
+struct Finding;
+
+impl Tried for Finding {
+    fn tried<A: Allocator + Copy>(alloc: A) -> Outcome {
+        let value = match Value::text(alloc, LONG) {
+            Ok(value) => value,
+            Err(Bad::NoMemory) => return Outcome::Unready,
+            Err(_) => return Outcome::Wrong,
+        };
+        match is_found(alloc, &value) {
+            Ok(right) => Outcome::done_if(right),
+            Err(_) => Outcome::refused_if(is_found(alloc, &value) == Ok(true)),
+        }
+    }
+}
+
+#[test]
+fn failed_allocation_in_finding(rt: HostRuntime) {
+    assert!(rt; matches!(refusals::<Finding>(rt.alloc()), Ok(8..)));
+}
+
+/// A text after `find`, and the kind and the byte of its first fault, where it begins at the byte 4 of a line.
+const FAULTS: &[(&[u8], Kind, usize)] = &[
+    (b" F(x, y) first", Kind::Shape, 13),
+    (b" F(x, y) first x", Kind::Shape, 13),
+    (b" F(x, y) last 3", Kind::Shape, 13),
+    (b" first 3", Kind::Shape, 5),
+    (b" {} R(x) <- F(x)", Kind::Shape, 5),
+    (b" F(x", Kind::Shape, 8),
+];
+
+#[test]
+fn faults_of_bodies(rt: HostRuntime) {
+    for (text, kind, at) in FAULTS {
+        let fault = match read_find(rt.alloc(), Form::One, text) {
+            Ok(_) => None,
+            Err(TextFault::At { kind, offset }) => Some((kind, fault_place(4, offset))),
+            Err(TextFault::NoMemory) => None,
+        };
+        assert!(rt;
+            fault == Some((*kind, *at)),
+            "{fault:?} in place of {kind:?} at {at}"
+        );
+    }
 }

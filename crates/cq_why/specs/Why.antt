@@ -21,7 +21,7 @@ use Rattle.cq_rel.specs.declared.fault.CatalogFault.{CatalogFault}
 use Rattle.cq_rel.specs.declared.fault.CatalogFault.TheVariants as catalogs
 use Rattle.cq_report.specs.Reading.{Reading, Reads, Faulty, IsReading}
 use Rattle.cq_report.specs.declared.refusal.Refusal.{Refusal}
-use Rattle.cq_report.specs.declared.refusal.Refusal.TheVariants.{Text, Late, Catalog, Pool, JournalFull, Unpublished, Memory}
+use Rattle.cq_report.specs.declared.refusal.Refusal.TheVariants.{Text, Late, Catalog, InUse, TooManyPending, Pool, JournalFull, Unpublished, Memory}
 use Rattle.cq_report.specs.Refusals.{refusal_words}
 use Rattle.cq_report.specs.Reply.{refusal}
 use Rattle.cq_report.specs.Machine.{State, form_in, next, staged}
@@ -275,6 +275,8 @@ plain limits Late = codes "the setup is over, or the form is settled"
 plain limits (Catalog fault) = plain_catalog fault
 plain limits (Pool why) = plain_pool limits why
 plain limits JournalFull = journal_full limits.journal
+plain limits InUse = refusal_words InUse
+plain limits TooManyPending = refusal_words TooManyPending
 plain limits Unpublished = refusal_words Unpublished
 plain limits Memory = refusal_words Memory
 
@@ -296,6 +298,8 @@ is_of_relation Late = false
 is_of_relation (Catalog fault) = false
 is_of_relation (Pool why) = is_misuse why
 is_of_relation JournalFull = false
+is_of_relation InUse = false
+is_of_relation TooManyPending = false
 is_of_relation Unpublished = false
 is_of_relation Memory = false
 

@@ -100,7 +100,11 @@ fn put_plain<A: Allocator>(
         Refusal::Catalog(fault) => put_plain_catalog(fault, page),
         Refusal::Pool(why) => put_plain_pool(limits, why, page),
         Refusal::JournalFull => put_journal_full(limits.journal, page),
-        Refusal::Text { .. } | Refusal::Unpublished | Refusal::Memory => why.put(page),
+        Refusal::Text { .. }
+        | Refusal::InUse
+        | Refusal::TooManyPending
+        | Refusal::Unpublished
+        | Refusal::Memory => why.put(page),
     }
 }
 

@@ -1,8 +1,8 @@
 -- What a line says, and the reply to it before it is written.
-use Rattle.std.specs.Prelude.{◌≡◌, ◌⊎◌, ℕ, ◌==◌, Bool, true, List, [], ◌++◌, length, codes, Option, Some, None, ⊤}
+use Rattle.std.specs.Prelude.{◌≡◌, ◌⊎◌, ℕ, ◌==◌, Bool, true, false, List, [], ◌++◌, length, codes, Option, Some, None, ⊤}
 use Rattle.cq_text.specs.declared.form.Form.{Form}
 use Rattle.cq_text.specs.Grammar.{CommandContent}
-use Rattle.cq_ask.specs.Ask.{AskRecord, is_checkpoint, is_quit}
+use Rattle.cq_ask.specs.Ask.{AskRecord, is_checkpoint, is_find, is_quit}
 use Rattle.cq_ask.specs.declared.counts.Counts.{Counts}
 use Rattle.cq_ask.specs.Answer.{FloorRecord, IsTold, count_line}
 use Rattle.cq_ask.specs.Data.{IsMember, count_json, member_text}
@@ -17,7 +17,7 @@ use Rattle.cq_report.specs.declared.numbering.Numbering.TheVariants.{Plain, Numb
 use Rattle.cq_report.specs.declared.outcome.Outcome.{Outcome}
 use Rattle.cq_report.specs.Reading.{Reading, Reads, Faulty, IsReading}
 use Rattle.cq_report.specs.Reply.{outcome_line, outcome_end}
-use Rattle.cq_report.specs.Machine.{State, Staged, opened, serving_of, shown, page_of, spoken, staged, next, counted}
+use Rattle.cq_report.specs.Machine.{State, Staged, form_in, opened, serving_of, shown, page_of, spoken, staged, next, counted}
 
 -- What comes of the line, and the page that goes with it.
 pub record TurnRecord : Type 0 where
@@ -56,10 +56,10 @@ abbrev pub is_silent : TurnRecord → Bool
 is_silent turn = length (outcome_line turn.outcome ++ (turn.page ++ outcome_end turn.outcome)) == 0
 
 -- The page of an answer, in lines or as a member of a JSON object.
-abbrev pub IsPage : Numbering → FloorRecord → AskRecord → List ℕ → Type 0
-IsPage Plain floor ask page = IsTold floor ask page
-IsPage Numbered floor ask page = IsTold floor ask page
-IsPage Json floor ask page = IsMember floor ask page
+abbrev pub IsPage : Form → Numbering → FloorRecord → AskRecord → List ℕ → Type 0
+IsPage form Plain floor ask page = IsTold form floor ask page
+IsPage form Numbered floor ask page = IsTold form floor ask page
+IsPage form Json floor ask page = IsMember form floor ask page
 
 -- The stage, if its setup ended or not before a floor opened.
 abbrev pub staged_by : Bool → Staged → Staged
@@ -85,11 +85,11 @@ IsSaid manner form (Some line) saids.Lost = (ask : AskRecord) → asked_in manne
 abbrev pub IsKeptUp : Manner → State → State → Type 0
 IsKeptUp manner served new = (new ≡ served) ⊎ ((manner ≡ manners.Live) × (is_due served ≡ true) × (new ≡ renewed served))
 
--- The state and the reply after what a line says.
+-- The state and the reply after what a line says. The answer to one that asks for groundings is made elsewhere.
 abbrev pub IsObeyed : Manner → State → Said AskRecord CommandContent → State → TurnRecord → Type 0
 IsObeyed manner old (saids.Asks ask) new turn =
     (new ≡ record (counted old) { stage = stage_asked (is_checkpoint ask.kind) old.stage; is_over = is_quit ask.kind })
-    × IsSettled (is_checkpoint ask.kind) old.numbering (serving_of old.stage) ask (turn_bytes old.numbering turn)
+    × (is_find ask.kind ≡ false → IsSettled (is_checkpoint ask.kind) (is_find ask.kind) (form_in old) old.numbering (serving_of old.stage) ask (turn_bytes old.numbering turn))
 IsObeyed manner old (saids.Says command) new turn = IsKeptUp manner (next old (Reads command)) new × (turn ≡ turn_in old (Reads command))
 IsObeyed manner old (saids.Faulty kind at) new turn = (new ≡ next old (Faulty kind at)) × (turn ≡ turn_in old (Faulty kind at))
 IsObeyed manner old saids.Lost new turn = ⊥

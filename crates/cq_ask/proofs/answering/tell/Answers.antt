@@ -10,5 +10,5 @@ returns-in-Groups g c =
     let floor = c.args.floor.now in
     let ask = c.args.ask.now in
     let is : ask.kind ≡ Groups = sym c.kind.ensures ∙ c.in-Groups.is in
-    subst (λ (kind : AskKind). IfOk c.groups.result (λ text. IsToldOf floor (published_pool floor) kind ask.names ask.text (string_bytes text))) (sym is)
+    subst (λ (kind : AskKind). IfOk c.groups.result (λ text. IsToldOf c.args.form floor (published_pool floor) kind ask.names ask.text (string_bytes text))) (sym is)
     (rw c.board-board.ensures at c.groups.ensures)

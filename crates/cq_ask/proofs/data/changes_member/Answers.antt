@@ -14,5 +14,5 @@ returns g c =
     let now = published_pool floor in
     let put =
     subst (λ (pool : PoolRecord). c.put_changes.new.sheet ≡ c.begin-sheet.result ++ json_tokens (changes_json before pool)) c.board.ensures
-    (subst (λ (pool : PoolRecord). c.put_changes.new.sheet ≡ c.begin-sheet.result ++ json_tokens (changes_json pool c.board.result.now)) c.in_ok-past.ensures c.in_ok-put_changes.ensures) in
+    (subst (λ (pool : PoolRecord). c.put_changes.new.sheet ≡ c.begin-sheet.result ++ json_tokens (changes_json pool c.board.result.now)) c.earlier.ensures c.in_ok-put_changes.ensures) in
     told_as (λ told. told ≡ (codes "changes", changes_json before now)) string_bytes c.member.result _ (changes_json before now) _ _ c.begin-sheet.ensures put refl c.member.ensures

@@ -13,7 +13,7 @@ returns-in-Count g c =
     let floor = c.args.floor.now in
     let ask = c.args.ask.now in
     let is : ask.kind ≡ Count = sym c.kind.ensures ∙ c.in-Count.is in
-    subst (λ (kind : AskKind). IfOk c.parts_text.result (λ text. IsToldAs (IsMemberOf floor (published_pool floor) kind ask.names ask.text) (string_bytes text))) (sym is)
+    subst (λ (kind : AskKind). IfOk c.parts_text.result (λ text. IsToldAs (IsMemberOf c.args.form floor (published_pool floor) kind ask.names ask.text) (string_bytes text))) (sym is)
     (IfOk-weaker c.parts_text.result _ _
     (λ text written. ((codes "count", count_json (counts_of floor)), refl, written ∙ c.count_members.ensures ∙ ap (λ (counts : Counts). member_text (codes "count", count_json counts)) c.counts_of.ensures))
     c.parts_text.ensures)
@@ -23,5 +23,5 @@ returns-in-Groups g c =
     let floor = c.args.floor.now in
     let ask = c.args.ask.now in
     let is : ask.kind ≡ Groups = sym c.kind.ensures ∙ c.in-Groups.is in
-    subst (λ (kind : AskKind). IfOk c.groups_member.result (λ text. IsToldAs (IsMemberOf floor (published_pool floor) kind ask.names ask.text) (string_bytes text))) (sym is)
+    subst (λ (kind : AskKind). IfOk c.groups_member.result (λ text. IsToldAs (IsMemberOf c.args.form floor (published_pool floor) kind ask.names ask.text) (string_bytes text))) (sym is)
     (rw c.board-board.ensures at c.groups_member.ensures)
