@@ -428,15 +428,17 @@ def count(trials):
     return 0 if passed == len(trials) else 1
 
 
-def try_due(top, tree, commit, minutes):
-    """Tries what is due of the repository at top, over the proved crates of a copy; what only has its turn is not begun after so many minutes."""
+def try_due(top, tree, commit, minutes, due_minutes):
+    """Tries what is due of the repository at top, over the proved crates of a copy. What only has its turn is not begun after so many minutes, and what is
+    due not after so many others: it stays due, since nothing is recorded here."""
     crates = crates_of(tree)
     changed, must, rest = due(crates_of(top), recorded(top), commit)
     for it in [*must, *rest]:
         it.crates, it.crate = crates, crates[it.crate.name]
     print(f"wrong bodies: {len(must)} of changed crates ({' '.join(changed) or 'none'}), and {len(rest)} of the others in their turn", flush=True)
-    try_all(must, say)
-    left = try_all(rest, say, time.monotonic() + 60 * minutes)
+    began = time.monotonic()
+    left = try_all(must, say, began + 60 * due_minutes)
+    left += try_all(rest, say, began + 60 * minutes)
     if left:
         print(f"wrong bodies left out, since the time was up: {' '.join(it.label for it in left)}")
     return count([it for it in [*must, *rest] if it not in left])
@@ -502,9 +504,9 @@ def main(words):
         return try_every(top, words[3:], words[2])
     if words[:1] == ["every"]:
         return try_every(top, words[1:])
-    if words[:1] == ["due"] and len(words) == 4:
-        return try_due(top, words[1], words[2], float(words[3]))
-    raise SystemExit("usage: wrong_bodies.py every [--over TREE] [CRATE..] | due TREE COMMIT MINUTES")
+    if words[:1] == ["due"] and len(words) == 5:
+        return try_due(top, words[1], words[2], float(words[3]), float(words[4]))
+    raise SystemExit("usage: wrong_bodies.py every [--over TREE] [CRATE..] | due TREE COMMIT MINUTES DUE_MINUTES")
 
 
 if __name__ == "__main__":
