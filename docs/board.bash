@@ -12,6 +12,7 @@ _board_words() {
     explain) options='--tree --roots --file --progress --memory -h --help' valued='--file --memory' filed='--file' ;;
     graph) options='--only --clusters --progress --memory -h --help' valued='--only --memory' takes='files' ;;
     json) options='--progress --memory -h --help' valued='--memory' takes='files' ;;
+    dump) options='--progress --memory -h --help' valued='--memory' takes='files' ;;
     choice) options='--file --progress --memory -h --help' valued='--file --memory' filed='--file' ;;
     choose) options='--steps --file --progress --memory -h --help' valued='--steps --file --memory' filed='--file' ;;
     groups) options='--steps --progress --memory -h --help' valued='--steps --memory' takes='files' ;;
@@ -26,7 +27,7 @@ _board_files() {
 }
 
 _board() {
-    local commands='replay live rows sessions explain graph json choice choose groups version help'
+    local commands='replay live rows sessions explain graph json dump choice choose groups version help'
     local word=${COMP_WORDS[COMP_CWORD]} command='' wants='' ended='' given=0 place it
     local options valued filed takes
     COMPREPLY=()
